@@ -1,0 +1,57 @@
+-- Laws of ids as numbers.
+use Prim.Native.Nat.{ℕ, zero, suc, _+_, _-_, _*_, _/_, _%_, _≤_, _<_}
+use mathlib.Core.Path.{_≡_, refl, sym, _∙_, ap, ap₂, subst}
+use mathlib.Core.Bool.{Bool, true, false, not, _&&_, _||_, cond, true≢false}
+use mathlib.Core.List.{List, [], _∷_, _++_}
+use mathlib.Core.Option.{Option, some, none}
+use native.Mathlib.Omega.{arith}
+use borrow.Author.Tests.{eqb-true, eqb-false, eq-eqb, ne-eqb}
+use lib.ListN.{length, take, drop, getD, set, length-set, drop-of-length-le}
+use lib.Dec.{leb, ltb, eqb}
+use Rattle.xliff.specs.Bytes.{any}
+use Rattle.xliff.specs.Rules.{Owner, of-part, of-source, of-target, Named, start-name, clashes, may-share, first-clash, fault-6}
+use Rattle.xliff.specs.Item.{Half, start, end, Fields, isolated, class, half, id-of}
+use Rattle.ids.specs.Keys.{owner, Keyed, named, clashTest}
+
+-- a number of an owner and an id is not 0
+pub named-some : (o id k at : ℕ) → 1 ≤ o → Keyed o id k → named k at ≡ record { owner = owner o; name = id; at = at } ∷ []
+unfolding named
+named-some o id k at l e =
+    rw (ne-eqb k 0 (λ z. omega (arith, e .0)))
+    (ap₂ (λ (a b : ℕ). record { owner = owner a; name = b; at = at } ∷ []) (e .0) (e .1))
+
+pub named-none : (at : ℕ) → named 0 at ≡ []
+unfolding named
+named-none at = refl
+
+pub part-owner : owner 1 ≡ of-part
+unfolding owner
+part-owner = refl
+
+-- some element from an index on passes a test
+drop-first : (p : ℕ → Bool) (l : List ℕ) (i : ℕ) → i < length l → any p (drop i l) ≡ p (getD l i 0) || any p (drop (suc i) l)
+unfolding any
+drop-first p [] i h = absurd (omega arith)
+drop-first p (x ∷ l) zero h = refl
+drop-first p (x ∷ l) (suc i) h = drop-first p l i (omega arith)
+
+pub any-on : (p : ℕ → Bool) (l : List ℕ) (i : ℕ) → i < length l → p (getD l i 0) ≡ true → any p (drop i l) ≡ true
+any-on p l i h e = drop-first p l i h ∙ rw e
+
+pub any-off : (p : ℕ → Bool) (l : List ℕ) (i : ℕ) → i < length l → p (getD l i 0) ≡ false → any p (drop i l) ≡ any p (drop (i + 1) l)
+any-off p l i h e = drop-first p l i h ∙ rw e (ap (λ (k : ℕ). any p (drop k l)) (let z : suc i ≡ i + 1 = omega arith in z))
+
+pub any-end : (p : ℕ → Bool) (l : List ℕ) (i : ℕ) → length l ≤ i → any p (drop i l) ≡ false
+unfolding any
+any-end p l i h = rw (drop-of-length-le l h)
+
+pub head-named : (id k at : ℕ) → (id ≡ 0 → ⊥) → Keyed 1 id k → named k at ≡ cond (eqb id 0) [] (record { owner = of-part; name = id; at = at } ∷ [])
+head-named id k at n e = rw (ne-eqb id 0 n) (named-some 1 id k at (omega arith) e ∙ ap (λ (o : Owner). record { owner = o; name = id; at = at } ∷ []) part-owner)
+
+pub head-none : (id at : ℕ) → id ≡ 0 → named 0 at ≡ cond (eqb id 0) [] (record { owner = of-part; name = id; at = at } ∷ [])
+head-none id at e = rw (eq-eqb id 0 e) (named-none at)
+
+pub isolated-name : (o : Owner) (h : Half) (f : Fields) (at : ℕ) → start-name o (record { item = isolated h f; at = at }) ≡ record { owner = o; name = f .id; at = at } ∷ []
+unfolding start-name class half id-of
+isolated-name o start f at = refl
+isolated-name o end f at = refl

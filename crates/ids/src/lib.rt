@@ -1,0 +1,174 @@
+// Rule 6. An id and its owner are one number: 65536 times 1 for a part, 2 for the source, 3 for a target, plus the id; 0 is none.
+use orders::Place;
+use table::Fields;
+use table::Form;
+use table::Half;
+use table::Item;
+use table::Read;
+use table::Record;
+ghost use mathlib.Core.Path.{_≡_};
+ghost use mathlib.Core.Bool.{true, false, cond, not, _&&_, _||_};
+ghost use mathlib.Core.List.{List};
+ghost use Prim.Native.Nat.{ℕ, _+_, _-_, _*_, _/_, _%_, _<_, _≤_};
+ghost use lib.ListN.{length, getD, take, drop};
+ghost use lib.Dec.{eqb, leb, ltb};
+ghost use Rattle.xliff.specs.Bytes.{any};
+ghost use Rattle.xliff.specs.Parse.{unit};
+ghost use Rattle.xliff.specs.Rules.{fault-6};
+ghost use Rattle.places.specs.Passes.{Passes};
+ghost use Rattle.orders.specs.Heads.{refusal-at};
+ghost use Rattle.ids.specs.Keys.{Keyed, PairKeyed, ItemKeyed, HeadKeyed, RecordKeyed, ReadKeyed, clashTest, ownerIn, ownerOf};
+
+fn wide(x: u16) -> u32
+    ensures { λ r. ⌜ (r ≡ x) × (r < 65536) ⌝ }
+{
+    x as u32
+}
+
+fn key(o: u32, id: u16) -> u32
+    requires { ⌜ o ≤ 3 ⌝ }
+    ensures { λ r. ⌜ Keyed o id r ⌝ }
+{
+    o * 65536 + wide(id)
+}
+
+fn pair_key(o: u32, h: Half, f: Fields) -> u32
+    requires { ⌜ (1 ≤ o) × (o ≤ 3) ⌝ }
+    ensures { λ r. ⌜ PairKeyed o h f r ⌝ }
+{
+    match h {
+        Half::Start => key(o, f.id),
+        Half::End => 0,
+    }
+}
+
+fn item_key(o: u32, i: Item) -> u32
+    requires { ⌜ (1 ≤ o) × (o ≤ 3) ⌝ }
+    ensures { λ r. ⌜ ItemKeyed o i r ⌝ }
+{
+    match i {
+        Item::Character(_) => 0,
+        Item::Standalone(f) => key(o, f.id),
+        Item::Isolated(_, f) => key(o, f.id),
+        Item::Pair(_, h, f) => pair_key(o, h, f),
+        Item::NoteStart(_, id, _) => key(o, id),
+        Item::NoteEnd(_, _) => 0,
+    }
+}
+
+fn head_key(id: u16) -> u32
+    ensures { λ r. ⌜ HeadKeyed id r ⌝ }
+{
+    if id == 0 { 0 } else { key(1, id) }
+}
+
+fn record_key(o: u32, x: Record) -> u32
+    requires { ⌜ (1 ≤ o) × (o ≤ 3) ⌝ }
+    ensures { λ r. ⌜ RecordKeyed o x r ⌝ }
+{
+    match x {
+        Record::Unit(_) => 0,
+        Record::UnitEnd => 0,
+        Record::Segment(id, _, _) => head_key(id),
+        Record::Ignorable(id) => head_key(id),
+        Record::Target(_) => 0,
+        Record::Text => 0,
+        Record::Inline(i) => item_key(o, i),
+    }
+}
+
+fn key_of(o: u32, r: Read) -> u32
+    requires { ⌜ (1 ≤ o) × (o ≤ 3) ⌝ }
+    ensures { λ k. ⌜ ReadKeyed o r k ⌝ }
+{
+    match r {
+        Read::Good(x, _) => record_key(o, x),
+        Read::Ill => 0,
+        Read::Broken(_) => 0,
+    }
+}
+
+fn owner_in(o: u32, x: Record) -> u32
+    ensures { λ r. ⌜ r ≡ ownerIn o x ⌝ }
+{
+    match x {
+        Record::Unit(_) => o,
+        Record::UnitEnd => o,
+        Record::Segment(_, _, _) => 2,
+        Record::Ignorable(_) => 2,
+        Record::Target(_) => 3,
+        Record::Text => o,
+        Record::Inline(_) => o,
+    }
+}
+
+fn owner_of(o: u32, r: Read) -> u32
+    ensures { λ x. ⌜ x ≡ ownerOf o r ⌝ }
+{
+    match r {
+        Read::Good(x, _) => owner_in(o, x),
+        Read::Ill => o,
+        Read::Broken(_) => o,
+    }
+}
+
+fn clash_with(a: u32, b: u32) -> bool
+    ensures { λ r. ⌜ r ≡ clashTest a b ⌝ }
+{
+    let m = a / 65536;
+    let n = b / 65536;
+    (a % 65536 == b % 65536) & !(((m == 2) & (n == 3)) | ((m == 3) & (n == 2)))
+}
+
+// Whether `k` clashes with an earlier one.
+fn clash(keys: &[u32], k: u32) -> bool
+    ensures { λ r. ⌜ r ≡ any (clashTest k) (now (keys .entry)) ⌝ }
+{
+    let mut i = 0;
+    while i < keys.len() {
+        if clash_with(k, keys[i]) {
+            return true;
+        }
+        i += 1;
+    }
+    false
+}
+
+fn clash_if(keys: &[u32], k: u32) -> bool
+    ensures { λ r. ⌜ r ≡ cond (eqb k 0) false (any (clashTest k) (now (keys .entry))) ⌝ }
+{
+    if k == 0 {
+        return false;
+    }
+    clash(keys, k)
+}
+
+fn count_if(k: u32, n: usize) -> usize
+    requires { ⌜ n < 1024 ⌝ }
+    ensures { λ r. ⌜ r ≡ cond (eqb k 0) n (n + 1) ⌝ }
+{
+    if k == 0 { n } else { n + 1 }
+}
+
+// Rule 6.
+pub fn first_name(t: &[u8]) -> Place
+    requires { ⌜ Passes (now t) ⌝ }
+    ensures { λ r. ⌜ refusal-at 6 r ≡ fault-6 (unit (now (t .entry)) .parts) ⌝ }
+{
+    let mut keys = [0u32; 1024];
+    let mut n: usize = 0;
+    let mut o: u32 = 2;
+    let mut at: usize = 0;
+    while at < t.len() {
+        let r = table::record_of(&t[at..]);
+        let k = key_of(o, r);
+        if clash_if(&keys[..n], k) {
+            return Place::At(at);
+        }
+        keys[n] = k;
+        n = count_if(k, n);
+        o = owner_of(o, r);
+        at += syntax::width_of(r);
+    }
+    Place::Nowhere
+}

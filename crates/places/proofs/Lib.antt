@@ -1,0 +1,5 @@
+pub mod Places
+pub mod Found
+pub mod Tests
+pub mod Few
+pub mod Ten

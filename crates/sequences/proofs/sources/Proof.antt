@@ -1,0 +1,32 @@
+use Prim.Native.Nat.{ℕ, _≤_, _<_, _-_, _+_}
+use mathlib.Core.Bool.{true, false}
+use mathlib.Core.List.{List, [], _∷_, _++_, append-nil}
+use mathlib.Core.Path.{_≡_, refl, sym, _∙_, ap}
+use native.Mathlib.Omega.{arith}
+use lib.ListN.{length, length-append, take}
+use Rattle.places.proofs.Few.{few-targets}
+use Rattle.places.specs.Markers.{target-offsets}
+use Rattle.places.specs.Passes.{Passes}
+use Rattle.sequences.specs.Marks.{offsets}
+use Rattle.sequences.proofs.MarkLaws.{collected, counted, source-room, order-on, order-end, order-start}
+use borrow.Author.Needs.{needs}
+use Rattle.sequences.proofs.sources.Statement.{statement}
+use Rattle.sequences.proofs.sources.Tie as tie
+use Rattle.sequences.proofs.sources.Reads as reads
+use Rattle.sequences.proofs.sources.Lts as lts
+use Rattle.sequences.proofs.collect.Reads as collect-reads
+
+-- src/lib.rt:112:5
+collect-requires : tie.Need-collect-requires
+collect-requires c κs = (c .before .before .before .pre .0, c .before .before .before .pre .1, omega (arith, source-room (c .before .before .before .args .t .now) (c .before .before .before .pre .0), c .before .before .before .pre .2), omega (arith, c .before .before .before .pre .2))
+
+-- src/lib.rt:108:1
+same-length : tie.Need-same-length
+same-length c = search needs
+
+-- src/lib.rt:108:1
+returns : tie.Need-returns
+returns c = (c .before .before .collect .ensures .0, omega (arith, c .before .before .collect .ensures .1, source-room (c .before .before .before .before .before .before .args .t .now) (c .before .before .before .before .before .before .pre .0)), c .before .before .collect .ensures .2 ∙ c .before .before .before .before .before .before .pre .2)
+
+pub sources-spec : {M : Type 1} → statement M
+sources-spec = tie.close (tie.spec collect-requires same-length returns)

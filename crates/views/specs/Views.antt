@@ -1,0 +1,139 @@
+-- Items as numbers, and the tests of the rules on them.
+use Prim.Native.Nat.{ℕ, zero, suc, _+_, _-_}
+use mathlib.Core.Path.{_≡_}
+use mathlib.Core.Bool.{Bool, true, false, not, _&&_, _||_, cond}
+use mathlib.Core.List.{List, [], _∷_, map}
+use lib.Dec.{eqb, leb, ltb}
+use Rattle.xliff.specs.Item as spec
+use Rattle.places.specs.Markers.{item-at}
+use Rattle.table.specs.declared.Fields.{Fields}
+use Rattle.table.specs.declared.Form.{Form}
+use Rattle.table.specs.declared.Form.the-variants.{P, S}
+use Rattle.table.specs.declared.Half.{Half}
+use Rattle.table.specs.declared.Half.the-variants.{Start, End}
+use Rattle.table.specs.declared.Item.{Item}
+use Rattle.table.specs.declared.Item.the-variants.{Character, Standalone, Isolated, Pair, NoteStart, NoteEnd}
+use Rattle.table.specs.declared.Record.{Record}
+use Rattle.table.specs.declared.Record.the-variants.{Unit as UnitStart, UnitEnd, Segment, Ignorable, Target, Text, Inline}
+use Rattle.table.specs.declared.Read.{Read}
+use Rattle.table.specs.declared.Read.the-variants.{Good, Ill, Broken}
+use Rattle.orders.specs.declared.Place.{Place}
+use Rattle.orders.specs.declared.Place.the-variants.{Nowhere, At}
+use Rattle.xliff.specs.Bytes.{any}
+use Rattle.xliff.specs.Answer.{Refusal, refusal}
+use Rattle.xliff.specs.Sequences.{first-of, least}
+use mathlib.Core.Option.{Option}
+use Rattle.views.specs.declared.View.{View}
+
+-- what the specification's tests ask of an item
+unfoldable pub viewOf : spec.Item → View
+viewOf x =
+    record {
+      class = spec.class x;
+      half = spec.half x;
+      pform = spec.is-form-P x;
+      id = spec.id-of x;
+      of = spec.fields x .copyOf;
+      refers = spec.fields x .dataRef;
+      copy = spec.fields x .canCopy;
+      delete = spec.fields x .canDelete;
+      overlap = spec.fields x .canOverlap;
+      reorder = spec.fields x .canReorder;
+    }
+
+unfoldable pub itemsAt : List ℕ → List ℕ → List spec.Item
+itemsAt t os = map (item-at t) os
+
+-- The code's cases; ViewLaws has that they are viewOf
+abbrev pub nothing : View
+nothing = record { class = 0; half = 0; pform = false; id = 0; of = 0; refers = 0; copy = 0; delete = 0; overlap = 0; reorder = 0 }
+
+abbrev pub codeView : ℕ → ℕ → Bool → Fields → View
+codeView c h p f =
+    record {
+      class = c;
+      half = h;
+      pform = p;
+      id = f .id;
+      of = f .«copy_of»;
+      refers = f .«data_ref»;
+      copy = f .letters .copy;
+      delete = f .letters .delete;
+      overlap = f .letters .overlap;
+      reorder = f .letters .reorder;
+    }
+
+abbrev pub noteView : ℕ → Bool → ℕ → View
+noteView h p i = record { class = 5; half = h; pform = p; id = i; of = 0; refers = 0; copy = 0; delete = 0; overlap = 0; reorder = 0 }
+
+abbrev pub halfNumber : Half → ℕ
+halfNumber Start = 1
+halfNumber End = 2
+
+abbrev pub isolatedClass : Half → ℕ
+isolatedClass Start = 3
+isolatedClass End = 4
+
+abbrev pub formFlag : Form → Bool
+formFlag P = true
+formFlag S = false
+
+abbrev pub itemView : Item → View
+itemView (Character c) = nothing
+itemView (Standalone f) = codeView 1 0 false f
+itemView (Isolated h f) = codeView (isolatedClass h) 0 false f
+itemView (Pair w h f) = codeView 2 (halfNumber h) (formFlag w) f
+itemView (NoteStart w i l) = noteView 1 (formFlag w) i
+itemView (NoteEnd w i) = noteView 2 (formFlag w) i
+
+abbrev pub recordView : Record → View
+recordView (UnitStart c) = nothing
+recordView UnitEnd = nothing
+recordView (Segment i c s) = nothing
+recordView (Ignorable i) = nothing
+recordView (Target q) = nothing
+recordView Text = nothing
+recordView (Inline i) = itemView i
+
+abbrev pub readView : Read → View
+readView (Good x w) = recordView x
+readView Ill = nothing
+readView (Broken b) = nothing
+
+-- rule 10 on views
+abbrev pub startsId : View → View → Bool
+startsId x y = not (eqb (y .class) 0) && not (eqb (y .half) 2) && eqb (y .id) (x .id)
+
+abbrev pub agreesWith : View → View → Bool
+agreesWith x y =
+    eqb (x .class) (y .class) && eqb (x .id) (y .id) && eqb (x .half) (y .half) && (eqb (x .refers) (y .refers) && (eqb (x .copy) (y .copy)
+    && (eqb (x .delete) (y .delete) && (eqb (x .overlap) (y .overlap) && eqb (x .reorder) (y .reorder)))))
+
+abbrev pub mayCopy : View → View → Bool
+mayCopy x y = eqb (x .class) (y .class) && (eqb (x .of) (y .id) && eqb (y .copy) 89)
+
+abbrev pub testOf : ℕ → View → View → Bool
+testOf kind x y =
+    eqb kind 0 && startsId x y || eqb kind 1 && (startsId x y && not (eqb (x .class) (y .class))) || eqb kind 2 && agreesWith x y || eqb kind 3 && mayCopy x y
+
+abbrev pub isCode : View → Bool
+isCode x = eqb (x .class) 1 || (eqb (x .class) 2 || (eqb (x .class) 3 || eqb (x .class) 4))
+
+abbrev pub badTenSource : View → Bool
+badTenSource x = isCode x && not (eqb (x .of) 0)
+
+abbrev pub badTenTarget : List spec.Item → View → Bool
+badTenTarget source x =
+    any (λ y. testOf 1 x (viewOf y)) source
+    || isCode x && any (λ y. testOf 0 x (viewOf y)) source && (not (any (λ y. testOf 2 x (viewOf y)) source) || not (eqb (x .of) 0))
+    || isCode x && (not (eqb (x .of) 0) && not (any (λ y. testOf 3 x (viewOf y)) source))
+
+-- the lower of two places
+abbrev pub lower : Place → ℕ → Place
+lower Nowhere at = At at
+lower (At a) at = At (cond (ltb at a) at a)
+
+-- the least of a place, if there is one, and of others
+unfoldable pub toward : ℕ → Place → List ℕ → Option Refusal
+toward n Nowhere bs = first-of n bs
+toward n (At a) bs = refusal n (least a bs)

@@ -1,0 +1,4 @@
+-- Lists, sums and tests.
+pub mod Tests
+pub mod Each
+pub mod Sum

@@ -1,0 +1,378 @@
+-- Split keeps rule 7: the halves that are open at a cut turn, both of each pair, and nothing else.
+use Prim.Native.Nat.{ℕ, _+_}
+use mathlib.Core.Path.{_≡_, refl, sym, ap, ap₂, _∙_, subst}
+use mathlib.Core.Bool.{Bool, true, false, _&&_, _||_, cond, true≢false, false≢true}
+use mathlib.Core.List.{List, [], _∷_, _++_, map, append-assoc}
+use mathlib.Core.Option.{none}
+use lib.ListN.{take, drop, take-append-drop}
+use Rattle.xliff.specs.Bytes.{any, gather}
+use Rattle.xliff.specs.Item.{Item, Content, Half, start, end, form-S, in-form, flat, is-form-P, is-start-half, other-half, class, id-of}
+use Rattle.xliff.specs.Unit.{Target, no-target, target, Part, has-target, target-items, source-sequence, target-sequence}
+use Rattle.xliff.specs.Rules.{fault-5}
+use Rattle.xliff.specs.Focus.{here, order-part, order-parts}
+use Rattle.xliff.specs.Split.{raise-above, cut-item, first-items, second-items, first-target, second-target, split-order, first-half, second-half, split-focus}
+use Rattle.xliff.proofs.lists.Each.{each-nil, each-cons, each-append, each-apart}
+use Rattle.xliff.proofs.lists.Tests.{gather-append, map-append, and-false, and-true, or-true}
+use Rattle.xliff.proofs.rules.Sequences.{append-nil-left, append-nil-right}
+use Rattle.xliff.proofs.operations.Sources.{source-append, source-orders, has-order, items-order}
+use Rattle.xliff.proofs.rules.Orders.{unused-order, split-targets}
+use Rattle.xliff.proofs.operations.SplitTarget.{fault-5-fits, without-target}
+use Rattle.xliff.proofs.rules.Place.{place}
+use Rattle.xliff.proofs.rules.Stack.{Key, r-nil}
+use Rattle.xliff.proofs.rules.Balance.{key-of, Balanced}
+use Rattle.xliff.proofs.rules.Marks.{a-pair, Mk, mk, side, mark-of, marks, marks-cons, marks-append, Shape, Shape-mono, sh-pair, sh-lone, waits, opposite, anyMk, any-other, pm-half}
+use Rattle.xliff.proofs.rules.Turn.{turn, flat-same, anyMk-append, own-mark, seen-here, is-cut, cut-balances, Shape-turn, waits-turn}
+use Rattle.xliff.proofs.rules.Seven.{bare, bare-sequence, BalancedPart, AllBalanced, Good7}
+
+-- in a shape nothing comes before a start and nothing after an end
+not-nil : (u : List Mk) (m : Mk) (v : List Mk) → u ++ (m ∷ v) ≡ [] → ⊥
+not-nil [] m v e = let z : true ≡ false = cc in false≢true (sym z)
+not-nil (n ∷ u) m v e = let z : true ≡ false = cc in false≢true (sym z)
+
+pub after-end : {e : ℕ → Half → Bool} (u : List Mk) (c : ℕ) (w : Bool) (v : List Mk) → Shape e (u ++ (mk c w end ∷ v)) → v ≡ []
+after-end [] c w v (sh-lone d s h) = refl
+after-end (a ∷ []) c w v (sh-pair d x) = refl
+after-end (a ∷ b ∷ u) c w v h = absurd (not-nil u (mk c w end) v (a-pair h .4))
+
+no-second : {e : ℕ → Half → Bool} {m : Mk} {c : ℕ} {w : Bool} {v : List Mk} → Shape e (m ∷ mk c w start ∷ v) → ⊥
+no-second h = true≢false (ap open-side (a-pair h .3))
+  where
+    open-side : Mk → Bool
+    open-side (mk c w start) = true
+    open-side (mk c w end) = false
+
+pub before-start : {e : ℕ → Half → Bool} (u : List Mk) (c : ℕ) (w : Bool) (v : List Mk) → Shape e (u ++ (mk c w start ∷ v)) → u ≡ []
+before-start [] c w v h = refl
+before-start (a ∷ []) c w v h = absurd (no-second h)
+before-start (a ∷ b ∷ u) c w v h = absurd (not-nil u (mk c w start) v (a-pair h .4))
+
+-- functions that agree at each place of a list
+map-from : (f g : Item → Item) (l pre rest : Content) → l ≡ pre ++ rest → ((pre : Content) (x : Item) (rest : Content) → l ≡ pre ++ (x ∷ rest) → f x ≡ g x) → map f rest ≡ map g rest
+map-from f g l pre [] e h = refl
+map-from f g l pre (x ∷ rest) e h =
+    ap₂ {C = Content} _∷_ (h pre x rest e) (map-from f g l (pre ++ (x ∷ [])) rest (e ∙ sym (append-assoc pre (x ∷ []) rest)) h)
+
+-- a mark of pc or mrk is seen among the marks of its content
+seen-in : (t : Half) (pre : Content) (x : Item) (rest : Content) → is-form-P x ≡ true → opposite t (side x) ≡ true → anyMk (class x) t (marks (id-of x) (pre ++ (x ∷ rest))) ≡ true
+seen-in t pre x rest p o =
+    ap (anyMk (class x) t) (marks-append (id-of x) pre (x ∷ rest)) ∙ anyMk-append (class x) t (marks (id-of x) pre) (marks (id-of x) (x ∷ rest))
+    ∙ ap (λ (b : Bool). anyMk (class x) t (marks (id-of x) pre) || b) (ap (anyMk (class x) t) (marks-cons (id-of x) x rest) ∙ seen-here x t (marks (id-of x) rest) p o)
+    ∙ or-true (anyMk (class x) t (marks (id-of x) pre))
+
+-- a content that stands in a sequence, in two pieces
+module _ (e : ℕ → ℕ → Half → Bool) (X a d Z : Content) (shapes : (i : ℕ) → Shape (e i) (marks i (X ++ ((a ++ d) ++ Z)))) where
+  -- an item by whether its other half is beyond, or by its key
+  same-turn : (beyond : Content) (x : Item) → (is-form-P x ≡ true → any (other-half x) beyond ≡ is-cut a d (key-of x)) → cut-item beyond x ≡ turn (is-cut a d) x
+  unfolding cut-item turn flat
+  same-turn beyond x h = by (is-form-P x) refl
+    where
+      plain : (b : Bool) → is-form-P x ≡ false → cond b (in-form form-S x) x ≡ x
+      plain true p = flat-same x p
+      plain false p = refl
+
+      by : (p : Bool) → is-form-P x ≡ p → cond (any (other-half x) beyond) (in-form form-S x) x ≡ cond (is-cut a d (key-of x)) (in-form form-S x) x
+      by true p = ap (λ (b : Bool). cond b (in-form form-S x) x) (h p)
+      by false p = plain (any (other-half x) beyond) p ∙ sym (plain (is-cut a d (key-of x)) p)
+
+  around : (before : Content) (x : Item) (behind : Content) → is-form-P x ≡ true → X ++ ((a ++ d) ++ Z) ≡ before ++ (x ∷ behind)
+      → Shape (e (id-of x)) (marks (id-of x) before ++ (mark-of x ∷ marks (id-of x) behind))
+  around before x behind p q =
+      subst (Shape (e (id-of x)))
+      (ap (marks (id-of x)) q ∙ marks-append (id-of x) before (x ∷ behind)
+      ∙ ap (λ (l : List Mk). marks (id-of x) before ++ l) (marks-cons (id-of x) x behind ∙ ap (λ (l : List Mk). l ++ marks (id-of x) behind) (own-mark x p)))
+      (shapes (id-of x))
+
+  at-left : (pre : Content) (x : Item) (rest : Content) → a ≡ pre ++ (x ∷ rest) → cut-item d x ≡ turn (is-cut a d) x
+  unfolding is-cut
+  at-left pre x rest q = same-turn d x (λ p. any-other x (pm-half x p) d ∙ by (is-start-half x) refl p)
+    where
+      i : ℕ
+      i = id-of x
+
+      place : X ++ ((a ++ d) ++ Z) ≡ (X ++ pre) ++ (x ∷ (rest ++ (d ++ Z)))
+      place =
+          ap (λ (l : Content). X ++ l) (append-assoc a d Z ∙ ap (λ (l : Content). l ++ (d ++ Z)) q ∙ append-assoc pre (x ∷ rest) (d ++ Z))
+          ∙ sym (append-assoc X pre (x ∷ (rest ++ (d ++ Z))))
+
+      by : (s : Bool) → is-start-half x ≡ s → is-form-P x ≡ true
+          → anyMk (class x) (cond s start end) (marks i d) ≡ anyMk (class x) end (marks i a) && anyMk (class x) start (marks i d)
+      by true s p =
+          let seen : anyMk (class x) end (marks i a) ≡ true = ap (λ (l : Content). anyMk (class x) end (marks i l)) q ∙ seen-in end pre x rest p (rw s) in
+          rw seen
+      by false s p =
+          let sh : Shape (e i) (marks i (X ++ pre) ++ (mk (class x) (is-form-P x) end ∷ marks i (rest ++ (d ++ Z)))) = rw s at (around (X ++ pre) x (rest ++ (d ++ Z)) p place) in
+          let none-after = after-end (marks i (X ++ pre)) (class x) (is-form-P x) (marks i (rest ++ (d ++ Z))) sh in
+          let gone : marks i d ≡ []
+          = append-nil-left (marks i d) (marks i Z)
+          (sym (marks-append i d Z) ∙ append-nil-right (marks i rest) (marks i (d ++ Z)) (sym (marks-append i rest (d ++ Z)) ∙ none-after)) in
+          rw gone (sym (and-false (anyMk (class x) end (marks i a))))
+
+  at-right : (pre : Content) (x : Item) (rest : Content) → d ≡ pre ++ (x ∷ rest) → cut-item a x ≡ turn (is-cut a d) x
+  unfolding is-cut
+  at-right pre x rest q = same-turn a x (λ p. any-other x (pm-half x p) a ∙ by (is-start-half x) refl p)
+    where
+      i : ℕ
+      i = id-of x
+
+      place : X ++ ((a ++ d) ++ Z) ≡ (X ++ (a ++ pre)) ++ (x ∷ (rest ++ Z))
+      place =
+          ap (λ (l : Content). X ++ l)
+          (append-assoc a d Z ∙ ap (λ (l : Content). a ++ (l ++ Z)) q ∙ ap (λ (l : Content). a ++ l) (append-assoc pre (x ∷ rest) Z) ∙ sym (append-assoc a pre (x ∷ (rest ++ Z))))
+          ∙ sym (append-assoc X (a ++ pre) (x ∷ (rest ++ Z)))
+
+      by : (s : Bool) → is-start-half x ≡ s → is-form-P x ≡ true
+          → anyMk (class x) (cond s start end) (marks i a) ≡ anyMk (class x) end (marks i a) && anyMk (class x) start (marks i d)
+      by false s p =
+          let seen : anyMk (class x) start (marks i d) ≡ true = ap (λ (l : Content). anyMk (class x) start (marks i l)) q ∙ seen-in start pre x rest p (rw s) in
+          rw seen (sym (and-true (anyMk (class x) end (marks i a))))
+      by true s p =
+          let sh : Shape (e i) (marks i (X ++ (a ++ pre)) ++ (mk (class x) (is-form-P x) start ∷ marks i (rest ++ Z))) = rw s at (around (X ++ (a ++ pre)) x (rest ++ Z) p place) in
+          let none-before = before-start (marks i (X ++ (a ++ pre))) (class x) (is-form-P x) (marks i (rest ++ Z)) sh in
+          let gone : marks i a ≡ []
+          = append-nil-left (marks i a) (marks i pre)
+          (sym (marks-append i a pre) ∙ append-nil-right (marks i X) (marks i (a ++ pre)) (sym (marks-append i X (a ++ pre)) ∙ none-before)) in
+          rw gone
+
+  pub left-turned : map (cut-item d) a ≡ map (turn (is-cut a d)) a
+  left-turned = map-from (cut-item d) (turn (is-cut a d)) a [] a refl at-left
+
+  pub right-turned : map (cut-item a) d ≡ map (turn (is-cut a d)) d
+  right-turned = map-from (cut-item a) (turn (is-cut a d)) d [] d refl at-right
+
+-- A balanced content, cut: its two halves are balanced, and together they are the content with some keys turned
+pub record Cut (n : ℕ) (xs : Content) : Type 0 where
+  pub keys : Key → Bool
+  pub together : first-items n xs ++ second-items n xs ≡ map (turn keys) xs
+  pub first : Balanced (first-items n xs)
+  pub second : Balanced (second-items n xs)
+
+pub cut-content : (n : ℕ) (xs : Content) (e : ℕ → ℕ → Half → Bool) (X Z : Content) → ((i : ℕ) → Shape (e i) (marks i (X ++ (xs ++ Z)))) → Balanced xs → Cut n xs
+unfolding first-items second-items
+cut-content n xs e X Z shapes b =
+    let a : Content = take n xs in
+    let d : Content = drop n xs in
+    let whole : a ++ d ≡ xs = take-append-drop n xs in
+    let sh : (i : ℕ) → Shape (e i) (marks i (X ++ ((a ++ d) ++ Z))) = λ i. subst (λ (l : Content). Shape (e i) (marks i (X ++ (l ++ Z)))) (sym whole) (shapes i) in
+    let l = left-turned e X a d Z sh in
+    let r = right-turned e X a d Z sh in
+    let q = cut-balances a d (subst Balanced (sym whole) b) in
+    record {
+      keys = is-cut a d;
+      together = ap₂ _++_ l r ∙ sym (map-append (turn (is-cut a d)) a d) ∙ ap (map (turn (is-cut a d))) whole;
+      first = subst Balanced (sym l) (q .0);
+      second = subst Balanced (sym r) (q .1);
+    }
+
+-- Sequences in which a stretch is turned
+pub record Turned (old new : Content) : Type 0 where
+  pub keys : Key → Bool
+  pub before : Content
+  pub mid : Content
+  pub behind : Content
+  pub was : old ≡ before ++ (mid ++ behind)
+  pub is : new ≡ before ++ (map (turn keys) mid ++ behind)
+
+pub not-turned : (old new : Content) → new ≡ old → Turned old new
+not-turned old new e = record { keys = λ k. false; before = []; mid = []; behind = old; was = refl; is = e }
+
+-- parts whose orders change
+pub bare-append : (ps qs : List Part) → bare-sequence (ps ++ qs) ≡ bare-sequence ps ++ bare-sequence qs
+unfolding bare-sequence
+bare-append ps qs = gather-append bare ps qs
+
+pub bare-orders : (f : ℕ → ℕ) (ps : List Part) → bare-sequence (order-parts f ps) ≡ bare-sequence ps
+unfolding bare-sequence gather bare order-parts order-part
+bare-orders f [] = refl
+bare-orders f (p ∷ ps) = ap₂ _++_ (ap (λ (b : Bool). cond b [] (p .source)) (has-order f (p .goal))) (bare-orders f ps)
+
+pub balanced-orders : (f : ℕ → ℕ) (ps : List Part) → AllBalanced ps → AllBalanced (order-parts f ps)
+unfolding order-parts order-part
+balanced-orders f [] each-nil = each-nil
+balanced-orders f (p ∷ ps) (each-cons b h) =
+    each-cons (record { source = b .source; goal = subst Balanced (sym (items-order f (p .goal))) (b .goal) }) (balanced-orders f ps h)
+
+-- SPLIT
+abbrev after-split : ℕ → ℕ → ℕ → List Part → Part → List Part → List Part
+after-split cut tcut new b p a = order-parts (split-order (p .goal)) b ++ (first-half cut tcut p ∷ second-half cut tcut new p ∷ order-parts (split-order (p .goal)) a)
+
+pub record SplitKeeps (old new : List Part) : Type 0 where
+  pub source : Turned (source-sequence old) (source-sequence new)
+  pub goal : Turned (target-sequence old) (target-sequence new)
+  pub seven : Good7 new
+
+two-in : (X f s Z m : Content) → f ++ s ≡ m → X ++ (f ++ (s ++ Z)) ≡ X ++ (m ++ Z)
+two-in X f s Z m e = ap (λ (l : Content). X ++ l) (sym (append-assoc f s Z) ∙ ap (λ (l : Content). l ++ Z) e)
+
+module _ (cut tcut new : ℕ) (b : List Part) (p : Part) (a : List Part) (five : fault-5 (b ++ (p ∷ a)) ≡ none) (g : Good7 (b ++ (p ∷ a))) where
+  abbrev old : List Part
+  old = b ++ (p ∷ a)
+
+  abbrev now : List Part
+  now = after-split cut tcut new b p a
+
+  source-was : source-sequence old ≡ source-sequence b ++ (p .source ++ source-sequence a)
+  unfolding source-sequence gather
+  source-was = source-append b (p ∷ a)
+
+  own : BalancedPart p
+  own = each-apart b p a (g .bal) .1
+
+  source-cut : Cut cut (p .source)
+  source-cut =
+      cut-content cut (p .source) (λ i. waits [] i) (source-sequence b) (source-sequence a)
+      (λ i. subst (λ (l : Content). Shape (waits [] i) (marks i l)) source-was (g .src i)) (own .source)
+
+  source-turned : Turned (source-sequence old) (source-sequence now)
+  unfolding first-half second-half source-sequence gather
+  source-turned =
+      let f : ℕ → ℕ = split-order (p .goal) in
+      let c = source-cut in
+      record {
+        keys = c .keys;
+        before = source-sequence b;
+        mid = p .source;
+        behind = source-sequence a;
+        was = source-was;
+        is = source-append (order-parts f b) (first-half cut tcut p ∷ second-half cut tcut new p ∷ order-parts f a)
+            ∙ ap₂ (λ (l m : Content). l ++ (first-items cut (p .source) ++ (second-items cut (p .source) ++ m))) (source-orders f b) (source-orders f a)
+            ∙ two-in (source-sequence b) (first-items cut (p .source)) (second-items cut (p .source)) (source-sequence a) (map (turn (c .keys)) (p .source)) (c .together);
+      }
+
+  src-shape : (i : ℕ) → Shape (waits [] i) (marks i (source-sequence now))
+  unfolding source-turned
+  src-shape i =
+      let t = source-turned in
+      subst (λ (l : Content). Shape (waits [] i) (marks i l)) (sym (t .is))
+      (Shape-turn (t .keys) i (t .before) (t .mid) (t .behind) (own .source) (subst (λ (l : Content). Shape (waits [] i) (marks i l)) (t .was) (g .src i)))
+
+  all-balanced : Balanced (target-items (first-target tcut (p .goal))) → Balanced (target-items (second-target tcut (p .goal))) → AllBalanced now
+  unfolding first-half second-half
+  all-balanced u v =
+      let (hb, hp, ha) = each-apart b p a (g .bal) in
+      let c = source-cut in
+      let f : ℕ → ℕ = split-order (p .goal) in
+      each-append (order-parts f b) _ (balanced-orders f b hb)
+      (each-cons (record { source = c .first; goal = u }) (each-cons (record { source = c .second; goal = v }) (balanced-orders f a ha)))
+
+  bare-now : bare-sequence now ≡ bare-sequence b ++ (bare (first-half cut tcut p) ++ (bare (second-half cut tcut new p) ++ bare-sequence a))
+  unfolding bare-sequence gather
+  bare-now =
+      let f : ℕ → ℕ = split-order (p .goal) in
+      bare-append (order-parts f b) (first-half cut tcut p ∷ second-half cut tcut new p ∷ order-parts f a)
+      ∙ ap₂ (λ (l m : Content). l ++ (bare (first-half cut tcut p) ++ (bare (second-half cut tcut new p) ++ m))) (bare-orders f b) (bare-orders f a)
+
+  bare-was : bare-sequence old ≡ bare-sequence b ++ (bare p ++ bare-sequence a)
+  unfolding bare-sequence gather
+  bare-was = bare-append b (p ∷ a)
+
+  -- with a target
+  module _ (q : ℕ) (xs : Content) (goal-is : p .goal ≡ target q xs) where
+    raised : (u v : Content) × (target-sequence old ≡ u ++ (xs ++ v))
+        × (target-sequence (order-parts (raise-above q) b ++ (first-half cut tcut p ∷ second-half cut tcut new p ∷ order-parts (raise-above q) a))
+        ≡ u ++ ((first-items tcut xs ++ second-items tcut xs) ++ v))
+    unfolding first-half second-half first-target second-target
+    raised =
+        let (l, h, nb, na) = place b p a q xs goal-is five in
+        split-targets b a p (first-half cut tcut p) (second-half cut tcut new p) q xs (first-items tcut xs) (second-items tcut xs) goal-is
+        (ap (first-target tcut) goal-is) (ap (second-target tcut) goal-is) l h (unused-order q b nb) (unused-order q a na)
+
+    seqs : (u v : Content) × (target-sequence old ≡ u ++ (xs ++ v)) × (target-sequence now ≡ u ++ ((first-items tcut xs ++ second-items tcut xs) ++ v))
+    unfolding split-order
+    seqs = (
+      raised .0,
+      raised .1,
+      raised .2,
+      ap (λ (t : Target). target-sequence (order-parts (split-order t) b ++ (first-half cut tcut p ∷ second-half cut tcut new p ∷ order-parts (split-order t) a))) goal-is
+          ∙ raised .3,
+    )
+
+    own-balanced : Balanced xs
+    unfolding target-items
+    own-balanced = subst (λ (t : Target). Balanced (target-items t)) goal-is (own .goal)
+
+    goal-cut : Cut tcut xs
+    goal-cut =
+        let (u, v, x, y) = seqs in
+        cut-content tcut xs (λ i. waits (bare-sequence old) i) u v (λ i. subst (λ (l : Content). Shape (waits (bare-sequence old) i) (marks i l)) x (g .tgt i)) own-balanced
+
+    goal-turned : Turned (target-sequence old) (target-sequence now)
+    goal-turned =
+        let (u, v, x, y) = seqs in
+        let c = goal-cut in
+        record {
+          keys = c .keys;
+          before = u;
+          mid = xs;
+          behind = v;
+          was = x;
+          is = y ∙ ap (λ (l : Content). u ++ (l ++ v)) (c .together);
+        }
+
+    bare-same : bare-sequence now ≡ bare-sequence old
+    unfolding bare first-half second-half first-target second-target has-target
+    bare-same = bare-now ∙ ap (λ (t : Target). bare-sequence b ++ (cond (has-target (first-target tcut t)) [] (first-items cut (p .source))
+        ++ (cond (has-target (second-target tcut t)) [] (second-items cut (p .source)) ++ bare-sequence a))) goal-is
+        ∙ sym (bare-was ∙ ap (λ (t : Target). bare-sequence b ++ (cond (has-target t) [] (p .source) ++ bare-sequence a)) goal-is)
+
+    pub split-with : SplitKeeps old now
+    unfolding first-target second-target target-items goal-turned
+    split-with =
+        let c = goal-cut in
+        let t = goal-turned in
+        record {
+          source = source-turned;
+          goal = t;
+          seven = record {
+            src = src-shape;
+            tgt = λ i.
+                subst (λ (l : Content). Shape (waits l i) (marks i (target-sequence now))) (sym bare-same)
+                (subst (λ (l : Content). Shape (waits (bare-sequence old) i) (marks i l)) (sym (t .is))
+                (Shape-turn (t .keys) i (t .before) xs (t .behind) own-balanced (subst (λ (l : Content). Shape (waits (bare-sequence old) i) (marks i l)) (t .was) (g .tgt i))));
+            bal = all-balanced (subst (λ (t : Target). Balanced (target-items (first-target tcut t))) (sym goal-is) (c .first))
+                (subst (λ (t : Target). Balanced (target-items (second-target tcut t))) (sym goal-is) (c .second));
+          };
+        }
+
+  -- without
+  module _ (goal-is : p .goal ≡ no-target) where
+    goal-same : target-sequence now ≡ target-sequence old
+    unfolding first-half second-half first-target second-target
+    goal-same =
+        ap (λ (t : Target). target-sequence (order-parts (split-order t) b ++ (first-half cut tcut p ∷ second-half cut tcut new p ∷ order-parts (split-order t) a))) goal-is
+        ∙ without-target b p (first-half cut tcut p) (second-half cut tcut new p) a goal-is (ap (first-target tcut) goal-is) (ap (second-target tcut) goal-is) (fault-5-fits old five)
+
+    bare-turned : bare-sequence now ≡ bare-sequence b ++ (map (turn (source-cut .keys)) (p .source) ++ bare-sequence a)
+    unfolding bare first-half second-half first-target second-target has-target
+    bare-turned = bare-now ∙ ap (λ (t : Target). bare-sequence b ++ (cond (has-target (first-target tcut t)) [] (first-items cut (p .source))
+        ++ (cond (has-target (second-target tcut t)) [] (second-items cut (p .source)) ++ bare-sequence a))) goal-is
+        ∙ two-in (bare-sequence b) (first-items cut (p .source)) (second-items cut (p .source)) (bare-sequence a) (map (turn (source-cut .keys)) (p .source)) (source-cut .together)
+
+    bare-old : bare-sequence old ≡ bare-sequence b ++ (p .source ++ bare-sequence a)
+    unfolding bare has-target
+    bare-old = bare-was ∙ ap (λ (t : Target). bare-sequence b ++ (cond (has-target t) [] (p .source) ++ bare-sequence a)) goal-is
+
+    pub split-without : SplitKeeps old now
+    unfolding first-target second-target target-items
+    split-without =
+        record {
+          source = source-turned;
+          goal = not-turned (target-sequence old) (target-sequence now) goal-same;
+          seven = record {
+            src = src-shape;
+            tgt = λ i.
+                Shape-mono (λ c s h. ap (λ (l : Content). anyMk c s (marks i l)) bare-turned
+                ∙ waits-turn (source-cut .keys) i (bare-sequence b) (p .source) (bare-sequence a) c s ∙ ap (λ (l : Content). anyMk c s (marks i l)) (sym bare-old) ∙ h)
+                (subst (λ (l : Content). Shape (waits (bare-sequence old) i) (marks i l)) (sym goal-same) (g .tgt i));
+            bal = all-balanced (subst (λ (t : Target). Balanced (target-items (first-target tcut t))) (sym goal-is) r-nil)
+                (subst (λ (t : Target). Balanced (target-items (second-target tcut t))) (sym goal-is) r-nil);
+          };
+        }
+
+pub split-keeps : (cut tcut new : ℕ) (ps b : List Part) (p : Part) (a : List Part) → fault-5 (b ++ (p ∷ a)) ≡ none → Good7 (b ++ (p ∷ a))
+    → SplitKeeps (b ++ (p ∷ a)) (split-focus cut tcut new ps (here b p a))
+unfolding split-focus
+split-keeps cut tcut new ps b p a five g = by (p .goal) refl
+  where
+    by : (t : Target) → p .goal ≡ t → SplitKeeps (b ++ (p ∷ a)) (after-split cut tcut new b p a)
+    by no-target e = split-without cut tcut new b p a five g e
+    by (target q xs) e = split-with cut tcut new b p a five g q xs e

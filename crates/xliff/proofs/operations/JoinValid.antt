@@ -1,0 +1,135 @@
+-- An accepted join leaves a valid table.
+use Prim.Native.Nat.{ℕ, _+_}
+use mathlib.Core.Path.{_≡_, refl, sym, ap, _∙_, subst}
+use mathlib.Core.Bool.{Bool, true, false, _&&_, _||_, cond, true≢false}
+use mathlib.Core.List.{List, [], _∷_, _++_, map}
+use mathlib.Core.Option.{Option, none, some}
+use lib.Dec.{eqb, leb}
+use Rattle.xliff.specs.Bytes.{'-', 'N', 'Y', Bytes, among}
+use Rattle.xliff.specs.Answer.{Refusal, applies, _then_, is-fault, result}
+use Rattle.xliff.specs.Unit.{Head, segment, ignorable, Target, no-target, target, Part, TheUnit, is-closed, source-sequence}
+use Rattle.xliff.specs.Parse.{unit}
+use Rattle.xliff.specs.Rules.{fault-5, fault-6, fault-7, fault-8, fault-9, fault-6-to-10}
+use Rattle.xliff.specs.Check.{Valid, too-large}
+use Rattle.xliff.specs.Focus.{Focus, nowhere, here, focus, order-target, order-part, order-parts, with-parts}
+use Rattle.xliff.specs.Join.{rank, earliest, dash, join-heads, join-targets, join-parts, join-order, join-focus, join-unit, bad-orders, join-refusal, join}
+use Rattle.xliff.proofs.lists.Each.{each-nil, each-cons, each-append, each-apart}
+use Rattle.xliff.proofs.records.Read.{GoodHead}
+use Rattle.xliff.proofs.operations.Sources.{focus-here, join-source}
+use Rattle.xliff.proofs.unit.Valid.{GoodTarget, GoodPart, GoodParts}
+use Rattle.xliff.proofs.unit.Result.{then-left, then-right, then-none, applies-none, operation-result, Sent, sent}
+use Rattle.xliff.proofs.unit.Accepted.{Accepted, accepted-valid}
+use Rattle.xliff.proofs.operations.SetValid.{some-part}
+use Rattle.xliff.proofs.operations.JoinTarget.{join-target}
+use Rattle.xliff.proofs.operations.JoinRules.{join-6, join-8, join-9, join-10}
+use Rattle.xliff.proofs.operations.JoinOrders.{join-5}
+
+-- the head of the result is good
+dash-good : (b : Bool) → among (dash b) ('Y' ∷ 'N' ∷ '-' ∷ []) ≡ true
+unfolding dash among
+dash-good true = refl
+dash-good false = refl
+
+earliest-good : (s t : ℕ) (l : List ℕ) → among s l ≡ true → among t l ≡ true → among (earliest s t) l ≡ true
+unfolding earliest
+earliest-good s t l a b = by (leb (rank s) (rank t))
+  where
+    by : (c : Bool) → among (cond c s t) l ≡ true
+    by true = a
+    by false = b
+
+head-good : (g h : Head) → GoodHead g → GoodHead h → GoodHead (join-heads g h)
+unfolding join-heads
+head-good (ignorable i) (ignorable k) a b = tt
+head-good (ignorable i) (segment k d t) a b = (dash-good (eqb d '-'), b .1)
+head-good (segment i c s) (ignorable k) a b = (dash-good (eqb c '-'), a .1)
+head-good (segment i c s) (segment k d t) a b = (dash-good (eqb c '-' && eqb d '-'), earliest-good s t _ (a .1) (b .1))
+
+target-good : (g h : Target) → GoodTarget g → GoodTarget h → GoodTarget (join-targets g h)
+unfolding join-targets
+target-good no-target no-target a b = tt
+target-good no-target (target r ys) a b = b
+target-good (target q xs) no-target a b = a
+target-good (target q xs) (target r ys) a b = each-append xs ys a b
+
+part-good : (p q : Part) → GoodPart p → GoodPart q → GoodPart (join-parts p q)
+unfolding join-parts
+part-good p q a b =
+    record { head = head-good (p .head) (q .head) (a .head) (b .head); source = each-append (p .source) (q .source) (a .source) (b .source); goal = target-good (p .goal) (q .goal) (a .goal) (b .goal) }
+
+pub orders-good : (f : ℕ → ℕ) (ps : List Part) → GoodParts ps → GoodParts (order-parts f ps)
+unfolding order-parts order-part order-target
+orders-good f [] each-nil = each-nil
+orders-good f (p ∷ ps) (each-cons g h) = each-cons (record { head = g .head; source = g .source; goal = by (p .goal) (g .goal) }) (orders-good f ps h)
+  where
+    by : (t : Target) → GoodTarget t → GoodTarget (order-target f t)
+    by no-target k = tt
+    by (target q xs) k = k
+
+nonempty : (f : ℕ → ℕ) (ps : List Part) (x : Part) (xs : List Part) → ps ≡ x ∷ xs → (y : Part) × (ys : List Part) × (order-parts f ps ≡ y ∷ ys)
+unfolding order-parts
+nonempty f ps x xs e = (order-part f x, map (order-part f) xs, ap (map (order-part f)) e)
+
+no-fault : (o : Option Refusal) → is-fault o ≡ false → o ≡ none
+unfolding is-fault
+no-fault none e = refl
+no-fault (some r) e = absurd (true≢false e)
+
+-- An accepted join
+pub join-accepted : (t : List ℕ) (n room : ℕ) (r : List ℕ) → Bytes t → join t n room ≡ result r → Accepted t (join-unit (unit t) n) r
+unfolding join join-unit with-parts join-focus join-refusal fault-6-to-10 Valid
+join-accepted t n room r bt e =
+    let (valid, own, same) = operation-result t _ _ r e in
+    let first = then-left (join-refusal (unit t) n (focus (unit t .parts) n)) _ own in
+    let small = applies-none 15 (too-large room (join-unit (unit t) n)) (then-right (join-refusal (unit t) n (focus (unit t .parts) n)) _ own) in
+    let h = sent t bt valid in
+    record { was = h; now = by (focus (unit t .parts) n) refl first h; bytes = same; room = room; fits = small }
+  where
+    u : TheUnit
+    u = unit t
+
+    v : Focus → TheUnit
+    v f = record { canResegment = u .canResegment; parts = join-focus (u .parts) f }
+
+    whole : (b : List Part) (p q : Part) (a : List Part) → u .parts ≡ b ++ (p ∷ q ∷ a) → focus (u .parts) n ≡ here b p (q ∷ a) → bad-orders (p .goal) (q .goal) ≡ false
+        → fault-7 (join-focus (u .parts) (here b p (q ∷ a))) ≡ none → Sent u → Sent (v (here b p (q ∷ a)))
+    whole b p q a at k bo seven h =
+        let ps : List Part = u .parts in
+        let qs : List Part = join-focus (u .parts) (here b p (q ∷ a)) in
+        let src = subst (λ (f : Focus). source-sequence (join-focus (u .parts) f) ≡ source-sequence (u .parts)) k (join-source (u .parts) n) in
+        let tgt = join-target (u .parts) b p q a at (h .rule-5) bo in
+        let r7 = then-right (fault-6 (u .parts)) _ (h .rules) in
+        let r8 = then-right (fault-7 (u .parts)) _ r7 in
+        let r9 = then-right (fault-8 (u .parts)) _ r8 in
+        let (gb, gp, gr) = each-apart b p (q ∷ a) (subst GoodParts at (h .good)) in
+        let (x, xs, shown) = some-part b (join-parts p q) a in
+        let (y, ys, listed) = nonempty (join-order (u .parts) (p .goal) (q .goal)) (b ++ (join-parts p q ∷ a)) x xs shown in
+        record {
+          letter = h .letter;
+          first = y;
+          others = ys;
+          parts = listed;
+          good = orders-good (join-order (u .parts) (p .goal) (q .goal)) (b ++ (join-parts p q ∷ a)) (each-append b (join-parts p q ∷ a) gb (joined p q a gp gr));
+          rule-5 = subst (λ (l : List Part). fault-5 (join-focus l (here b p (q ∷ a))) ≡ none) (sym at) (join-5 b p q a (ap fault-5 (sym at) ∙ h .rule-5) bo);
+          rules = then-none _ _ (join-6 (u .parts) b p q a at (then-left _ _ (h .rules)))
+              (then-none _ _ seven (then-none _ _ (join-8 (u .parts) qs src tgt (then-left _ _ r8))
+              (then-none _ _ (join-9 (u .parts) qs src tgt (then-left _ _ r9)) (join-10 (u .parts) qs src tgt (then-right (fault-9 (u .parts)) _ r9)))));
+        }
+      where
+        joined : (p q : Part) (a : List Part) → GoodPart p → GoodParts (q ∷ a) → GoodParts (join-parts p q ∷ a)
+        joined p q a g (each-cons k h) = each-cons (part-good p q g k) h
+
+    by : (f : Focus) → focus (u .parts) n ≡ f → join-refusal u n f ≡ none → Sent u → Sent (v f)
+    by nowhere k o h = absurd (true≢false (applies-none 11 true o))
+    by (here b p []) k o h = absurd (true≢false (applies-none 11 true o))
+    by (here b p (q ∷ a)) k o h =
+        let at : u .parts ≡ b ++ (p ∷ q ∷ a) = focus-here (u .parts) n b p (q ∷ a) k in
+        let o2 = then-right (applies 12 (is-closed (u .canResegment) p || is-closed (u .canResegment) q)) _ o in
+        let bo : bad-orders (p .goal) (q .goal) ≡ false = applies-none 16 (bad-orders (p .goal) (q .goal)) (then-left _ _ o2) in
+        let seven : fault-7 (join-focus (u .parts) (focus (u .parts) n)) ≡ none
+        = no-fault _ (applies-none 17 (is-fault (fault-7 (join-focus (u .parts) (focus (u .parts) n)))) (then-right (applies 16 (bad-orders (p .goal) (q .goal))) _ o2)) in
+        whole b p q a at k bo (subst (λ (f : Focus). fault-7 (join-focus (u .parts) f) ≡ none) k seven) h
+
+-- An accepted join leaves a valid table
+pub join-valid : (t : List ℕ) (n room : ℕ) (r : List ℕ) → Bytes t → join t n room ≡ result r → Valid r
+join-valid t n room r bt e = accepted-valid t (join-unit (unit t) n) r (join-accepted t n room r bt e)

@@ -1,0 +1,4 @@
+-- Bytes and records, both ways.
+pub mod Read
+pub mod Parse
+pub mod Fits

@@ -1,0 +1,2 @@
+-- UTF-8, both ways.
+pub mod Utf8

@@ -1,0 +1,5 @@
+-- What a valid table is, and the result of an accepted call.
+pub mod Table
+pub mod Valid
+pub mod Result
+pub mod Accepted

@@ -1,0 +1,25 @@
+-- The specification
+pub mod Bytes
+pub mod Text
+pub mod Answer
+pub mod Item
+pub mod Unit
+pub mod Encode
+pub mod Parse
+pub mod Sequences
+pub mod Rules
+pub mod Check
+pub mod Focus
+pub mod Split
+pub mod Join
+pub mod SetTarget
+pub mod RemoveTarget
+pub mod Rewrite
+pub mod Calls
+pub mod BothEnds
+pub mod Desk
+-- Examples
+pub mod Examples
+pub mod MoreExamples
+pub mod LimitExamples
+pub mod DeskExamples
