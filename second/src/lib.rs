@@ -9,6 +9,7 @@ pub mod operations;
 pub mod record;
 pub mod rules;
 pub mod table;
+pub mod tally;
 
 /// "refused with a number and a place".
 #[derive(Clone, Copy, Debug, PartialEq, Eq)]

@@ -194,10 +194,10 @@ impl Inline {
     }
 
     /// The mark of a code or of a half of an annotation.
-    pub fn mark(&self) -> Option<Mark> {
+    pub fn mark(&self) -> Option<&Mark> {
         match self {
-            Inline::Code(code) => Some(code.mark),
-            Inline::Annotation(annotation) => Some(annotation.mark),
+            Inline::Code(code) => Some(&code.mark),
+            Inline::Annotation(annotation) => Some(&annotation.mark),
             _ => None,
         }
     }
@@ -218,7 +218,7 @@ impl Inline {
     }
 
     pub fn class(&self) -> Option<Class> {
-        Some(match &self.mark()? {
+        Some(match self.mark()? {
             b"PH" => Class::Standalone,
             b"IS" => Class::IsolatedStart,
             b"IE" => Class::IsolatedEnd,
@@ -229,7 +229,7 @@ impl Inline {
 
     /// Which half of a pair or of an annotation this is.
     pub fn half(&self) -> Option<Half> {
-        match &self.mark()? {
+        match self.mark()? {
             b"PO" | b"SC" | b"MO" | b"SM" => Some(Half::Start),
             b"PC" | b"EC" | b"MC" | b"EM" => Some(Half::End),
             _ => None,

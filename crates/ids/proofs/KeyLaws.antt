@@ -1,17 +1,16 @@
 -- Laws of ids as numbers.
-use Prim.Native.Nat.{ℕ, zero, suc, _+_, _-_, _*_, _/_, _%_, _≤_, _<_}
-use mathlib.Core.Path.{_≡_, refl, sym, _∙_, ap, ap₂, subst}
-use mathlib.Core.Bool.{Bool, true, false, not, _&&_, _||_, cond, true≢false}
-use mathlib.Core.List.{List, [], _∷_, _++_}
-use mathlib.Core.Option.{Option, some, none}
+use Prim.Native.Nat.{ℕ, zero, suc, _+_, _-_, _≤_, _<_}
+use mathlib.Core.Path.{_≡_, refl, _∙_, ap, ap₂}
+use mathlib.Core.Bool.{Bool, true, false, _||_, cond}
+use mathlib.Core.List.{List, [], _∷_}
 use native.Mathlib.Omega.{arith}
-use borrow.Author.Tests.{eqb-true, eqb-false, eq-eqb, ne-eqb}
-use lib.ListN.{length, take, drop, getD, set, length-set, drop-of-length-le}
-use lib.Dec.{leb, ltb, eqb}
+use borrow.Author.Tests.{eq-eqb, ne-eqb}
+use lib.ListN.{length, drop, getD, drop-of-length-le}
+use lib.Dec.{eqb}
 use Rattle.xliff.specs.Bytes.{any}
-use Rattle.xliff.specs.Rules.{Owner, of-part, of-source, of-target, Named, start-name, clashes, may-share, first-clash, fault-6}
+use Rattle.xliff.specs.Rules.{Owner, of-part, start-name}
 use Rattle.xliff.specs.Item.{Half, start, end, Fields, isolated, class, half, id-of}
-use Rattle.ids.specs.Keys.{owner, Keyed, named, clashTest}
+use Rattle.ids.specs.Keys.{owner, Keyed, named}
 
 -- a number of an owner and an id is not 0
 pub named-some : (o id k at : ℕ) → 1 ≤ o → Keyed o id k → named k at ≡ record { owner = owner o; name = id; at = at } ∷ []

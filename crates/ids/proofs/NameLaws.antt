@@ -1,21 +1,20 @@
 -- Rule 6, one record further.
-use Prim.Native.Nat.{ℕ, zero, suc, _+_, _-_, _*_, _/_, _%_, _≤_, _<_}
-use mathlib.Core.Path.{_≡_, refl, sym, _∙_, ap, ap₂, subst}
+use Prim.Native.Nat.{ℕ, zero, suc, _+_, _-_, _/_, _%_, _≤_, _<_}
+use mathlib.Core.Path.{_≡_, refl, sym, _∙_, ap, ap₂}
 use mathlib.Core.Bool.{Bool, true, false, not, _&&_, _||_, cond, true≢false}
 use mathlib.Core.List.{List, [], _∷_, _++_}
-use mathlib.Core.Option.{Option, some, none}
+use mathlib.Core.Option.{none}
 use native.Mathlib.Omega.{arith}
-use borrow.Author.Tests.{eqb-true, eqb-false, eq-eqb, ne-eqb}
-use lib.ListN.{length, take, drop, getD, set, length-set, replicate}
-use lib.Dec.{leb, ltb, eqb}
+use borrow.Author.Tests.{eqb-true}
+use lib.ListN.{length, take, drop, set}
+use lib.Dec.{eqb}
 use Rattle.xliff.specs.Bytes.{any}
-use Rattle.xliff.specs.Answer.{Refusal, refusal}
+use Rattle.xliff.specs.Answer.{refusal}
 use Rattle.xliff.specs.Encode as encode
 use Rattle.xliff.specs.Encode.{record-bytes, unit-records}
 use Rattle.xliff.specs.Parse.{unit}
 use Rattle.xliff.proofs.lists.Tests.{any-append}
 use Rattle.xliff.specs.Rules.{Owner, of-part, of-source, of-target, Named, start-name, clashes, may-share, first-clash, fault-6}
-use Rattle.places.specs.Passes.{Passes}
 use Rattle.places.proofs.Places.{At, at-end}
 use Rattle.places.specs.Found.{found, found-at, state-after, head-name, no-name, names-found}
 use Rattle.places.proofs.Found.{rule-6-found}
@@ -24,7 +23,7 @@ use Rattle.table.specs.declared.Record.the-variants.{Unit as UnitStart, UnitEnd
 use Rattle.table.specs.declared.Read.{Read}
 use Rattle.table.specs.declared.Read.the-variants.{Good, Ill, Broken}
 use Rattle.orders.proofs.WalkLaws.{Stepped}
-use Rattle.ids.specs.Keys.{owner, Keyed, named, clashTest, ReadKeyed, ownerIn, ownerOf}
+use Rattle.ids.specs.Keys.{owner, named, clashTest, ReadKeyed, ownerOf}
 
 unfoldable pub named-key : ℕ → Named
 named-key k = record { owner = owner (k / 65536); name = k % 65536; at = 0 }

@@ -1,14 +1,13 @@
 -- Ids with their owners as numbers.
-use Prim.Native.Nat.{ℕ, zero, suc, _+_, _-_, _*_, _/_, _%_, _≤_, _<_}
+use Prim.Native.Nat.{ℕ, _-_, _/_, _%_}
 use mathlib.Core.Path.{_≡_}
-use mathlib.Core.Bool.{Bool, true, false, not, _&&_, _||_, cond}
+use mathlib.Core.Bool.{Bool, not, _&&_, _||_, cond}
 use mathlib.Core.List.{List, [], _∷_}
-use lib.Dec.{eqb, leb, ltb}
+use lib.Dec.{eqb}
 use Rattle.xliff.specs.Item as spec
-use Rattle.xliff.specs.Sequences.{Placed}
 use Rattle.xliff.specs.Rules.{Owner, of-part, of-source, of-target, Named, start-name}
 use Rattle.places.specs.Found.{found-at, head-name, no-name}
-use Rattle.table.specs.Meaning.{half, form, fields, item, record-meaning, meaning}
+use Rattle.table.specs.Meaning.{half, fields, item, record-meaning, meaning}
 use Rattle.table.specs.declared.Fields.{Fields}
 use Rattle.table.specs.declared.Form.{Form}
 use Rattle.table.specs.declared.Half.{Half}

@@ -1,22 +1,19 @@
 // Rule 6. An id and its owner are one number: 65536 times 1 for a part, 2 for the source, 3 for a target, plus the id; 0 is none.
-use orders::Place;
+use answers::Place;
 use table::Fields;
-use table::Form;
 use table::Half;
 use table::Item;
 use table::Read;
 use table::Record;
 ghost use mathlib.Core.Path.{_≡_};
-ghost use mathlib.Core.Bool.{true, false, cond, not, _&&_, _||_};
-ghost use mathlib.Core.List.{List};
-ghost use Prim.Native.Nat.{ℕ, _+_, _-_, _*_, _/_, _%_, _<_, _≤_};
-ghost use lib.ListN.{length, getD, take, drop};
-ghost use lib.Dec.{eqb, leb, ltb};
+ghost use mathlib.Core.Bool.{true, false, cond};
+ghost use Prim.Native.Nat.{_+_, _-_, _*_, _/_, _%_, _<_, _≤_};
+ghost use lib.Dec.{eqb};
+ghost use Rattle.answers.specs.Answers.{refusal-at};
 ghost use Rattle.xliff.specs.Bytes.{any};
 ghost use Rattle.xliff.specs.Parse.{unit};
 ghost use Rattle.xliff.specs.Rules.{fault-6};
 ghost use Rattle.places.specs.Passes.{Passes};
-ghost use Rattle.orders.specs.Heads.{refusal-at};
 ghost use Rattle.ids.specs.Keys.{Keyed, PairKeyed, ItemKeyed, HeadKeyed, RecordKeyed, ReadKeyed, clashTest, ownerIn, ownerOf};
 
 fn wide(x: u16) -> u32

@@ -1,31 +1,28 @@
 -- The orders of targets, one record further.
 use Prim.Native.Nat.{ℕ, zero, suc, _+_, _-_, _≤_, _<_}
-use mathlib.Core.Path.{_≡_, refl, sym, _∙_, ap, ap₂, subst}
-use mathlib.Core.Bool.{Bool, true, false, not, _&&_, _||_, cond, true≢false}
-use mathlib.Core.List.{List, [], _∷_, _++_}
-use mathlib.Core.Option.{Option, some, none}
+use mathlib.Core.Path.{_≡_, refl, sym, _∙_, ap}
+use mathlib.Core.Bool.{Bool, true, false, _||_, cond}
+use mathlib.Core.List.{List, [], _∷_}
+use mathlib.Core.Option.{none}
 use native.Mathlib.Omega.{arith}
-use borrow.Author.Tests.{eqb-true, eqb-false, eq-eqb, ne-eqb, ltb-false}
-use lib.ListN.{length, take, drop, getD, set, replicate, length-set}
+use borrow.Author.Tests.{eqb-true, eqb-false, eq-eqb, ltb-false}
+use lib.ListN.{length, drop, getD, set, replicate}
 use lib.Seq.{getD-set-same, getD-set-other}
-use lib.Dec.{leb, ltb, eqb}
+use lib.Dec.{ltb, eqb}
 use Rattle.xliff.specs.Bytes.{among}
-use Rattle.xliff.specs.Answer.{Refusal, refusal}
+use Rattle.xliff.specs.Answer.{refusal}
 use Rattle.xliff.specs.Encode as encode
-use Rattle.xliff.specs.Encode.{opening, closing, part-head, target-head, text-run, inline, ill-text, broken, record-bytes, unit-records}
+use Rattle.xliff.specs.Encode.{target-head, record-bytes, unit-records}
 use Rattle.xliff.specs.Parse.{unit}
 use Rattle.xliff.specs.Rules.{bad-order, fault-5}
-use Rattle.xliff.proofs.lists.Tests.{or-left, or-right}
-use Rattle.places.specs.Passes.{Passes}
 use Rattle.places.proofs.Places.{At, at-end}
-use Rattle.places.specs.Found.{found, found-at, state-after, orders-found, Ordered, first-bad-in}
+use Rattle.places.specs.Found.{found, found-at, state-after, orders-found, first-bad-in}
 use Rattle.places.proofs.Found.{rule-5-found}
-use Rattle.table.specs.Meaning.{item, record-meaning, meaning, width, body}
+use Rattle.table.specs.Meaning.{meaning, width, body}
 use Rattle.table.specs.declared.Record.the-variants.{Unit as UnitStart, UnitEnd, Segment, Ignorable, Target, Text, Inline}
 use Rattle.table.specs.declared.Read.{Read}
 use Rattle.table.specs.declared.Read.the-variants.{Good, Ill, Broken}
-use Rattle.orders.specs.Heads.{orderOf, orderIn}
-use Rattle.orders.specs.declared.Order.{Order}
+use Rattle.orders.specs.Heads.{orderOf}
 use Rattle.orders.specs.declared.Order.the-variants.{Is, Not}
 use Rattle.orders.proofs.WalkLaws.{Stepped}
 

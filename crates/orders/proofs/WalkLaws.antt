@@ -1,35 +1,21 @@
 -- A walk over a table that passes, one record further.
-use Prim.Native.Nat.{ℕ, zero, suc, _+_, _-_, _≤_, _<_}
-use mathlib.Core.Path.{_≡_, refl, sym, _∙_, ap, ap₂, subst}
-use mathlib.Core.Bool.{Bool, true, false, not, _&&_, _||_, cond, true≢false}
-use mathlib.Core.List.{List, [], _∷_, _++_}
-use mathlib.Core.Option.{Option, some, none}
+use Prim.Native.Nat.{ℕ, _+_, _-_, _≤_, _<_}
+use mathlib.Core.Path.{_≡_, sym, _∙_, ap, subst}
+use mathlib.Core.Bool.{Bool, cond}
+use mathlib.Core.List.{List, _∷_}
 use native.Mathlib.Omega.{arith}
-use borrow.Author.Tests.{eqb-true, eqb-false, eq-eqb, ne-eqb, ltb-false}
-use lib.ListN.{length, take, drop, getD}
-use lib.Dec.{leb, ltb, eqb}
-use Rattle.xliff.specs.Bytes.{among}
-use Rattle.xliff.specs.Answer.{Refusal, refusal}
+use lib.ListN.{length, drop}
 use Rattle.xliff.specs.Encode as encode
-use Rattle.xliff.specs.Encode.{opening, closing, part-head, target-head, text-run, inline, ill-text, broken, record-bytes, unit-records}
+use Rattle.xliff.specs.Encode.{record-bytes, unit-records}
 use Rattle.xliff.specs.Parse.{read, unit, is-part}
-use Rattle.xliff.specs.Rules.{bad-order, fault-5}
-use Rattle.xliff.proofs.lists.Tests.{or-left, or-right}
 use Rattle.xliff.proofs.unit.Valid.{part-heads, heads-unit}
 use Rattle.places.specs.Passes.{Passes}
-use Rattle.places.proofs.Places.{At, at-start, Next, at-next, at-end, at-more}
-use Rattle.places.specs.Found.{found, found-at, state-after, orders-found, Ordered, first-bad-in}
-use Rattle.places.proofs.Found.{rule-5-found}
-use Rattle.table.specs.Meaning.{item, record-meaning, meaning, width, body}
+use Rattle.places.proofs.Places.{At, at-next, at-end, at-more}
+use Rattle.table.specs.Meaning.{meaning, width, body}
 use Rattle.table.specs.declared.Record.{Record}
-use Rattle.table.specs.declared.Record.the-variants.{Unit as UnitStart, UnitEnd, Segment, Ignorable, Target, Text, Inline}
 use Rattle.table.specs.declared.Read.{Read}
-use Rattle.table.specs.declared.Read.the-variants.{Good, Ill, Broken}
 use Rattle.syntax.specs.Stages.{isPart}
 use Rattle.syntax.proofs.StepLaws.{part-same}
-use Rattle.orders.specs.Heads.{orderOf, orderIn}
-use Rattle.orders.specs.declared.Order.{Order}
-use Rattle.orders.specs.declared.Order.the-variants.{Is, Not}
 
 -- what was read at an offset is the first of the records there
 pub record Stepped (t : List ℕ) (at : ℕ) (rs : List encode.Record) (r : Read) : Type 0 where

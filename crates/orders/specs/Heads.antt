@@ -1,20 +1,10 @@
--- What places mean, and the code's cases.
-use Prim.Native.Nat.{ℕ}
-use mathlib.Core.Option.{Option, none, some}
-use Rattle.xliff.specs.Answer.{Refusal, refusal}
+-- The order that a record sets, by the code's cases.
 use Rattle.table.specs.declared.Record.{Record}
 use Rattle.table.specs.declared.Record.the-variants.{Unit as UnitStart, UnitEnd, Segment, Ignorable, Target, Text, Inline}
 use Rattle.table.specs.declared.Read.{Read}
 use Rattle.table.specs.declared.Read.the-variants.{Good, Ill, Broken}
-use Rattle.orders.specs.declared.Place.{Place}
-use Rattle.orders.specs.declared.Place.the-variants.{Nowhere, At}
 use Rattle.orders.specs.declared.Order.{Order}
 use Rattle.orders.specs.declared.Order.the-variants.{Is, Not}
-
--- a rule's number at a place
-abbrev pub refusal-at : ℕ → Place → Option Refusal
-refusal-at n Nowhere = none
-refusal-at n (At at) = refusal n at
 
 abbrev pub orderIn : Record → Order
 orderIn (UnitStart c) = Not

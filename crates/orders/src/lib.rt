@@ -1,21 +1,17 @@
 // The number of parts, and rule 5.
+use answers::Place;
 use table::Read;
 use table::Record;
 ghost use mathlib.Core.Path.{_≡_};
-ghost use mathlib.Core.Bool.{true, false, cond, not, _&&_, _||_};
-ghost use Prim.Native.Nat.{ℕ, _+_, _-_, _*_, _<_, _≤_};
-ghost use lib.ListN.{length, getD, take, drop};
-ghost use lib.Dec.{eqb, leb, ltb};
+ghost use mathlib.Core.Bool.{true, cond, _||_};
+ghost use Prim.Native.Nat.{_+_, _-_, _<_, _≤_};
+ghost use lib.ListN.{length, getD};
+ghost use lib.Dec.{eqb, ltb};
+ghost use Rattle.answers.specs.Answers.{refusal-at};
 ghost use Rattle.xliff.specs.Parse.{unit};
 ghost use Rattle.xliff.specs.Rules.{fault-5};
 ghost use Rattle.places.specs.Passes.{Passes};
-ghost use Rattle.orders.specs.Heads.{refusal-at, orderOf, orderIn};
-
-// The first record at fault, if any.
-pub enum Place {
-    Nowhere,
-    At(usize),
-}
+ghost use Rattle.orders.specs.Heads.{orderOf, orderIn};
 
 fn plus_if(b: bool, n: usize) -> usize
     requires { ⌜ n < 65536 ⌝ }

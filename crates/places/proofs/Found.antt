@@ -1,23 +1,21 @@
 -- What a walk over the records finds, part by part: orders for rule 5, ids for rule 6, and the markers of the two sequences.
-use Prim.Native.Nat.{ℕ, zero, suc, _+_, _*_, _-_, _<_, _≤_}
-use mathlib.Core.Path.{_≡_, refl, sym, ap, ap₂, _∙_, subst}
-use mathlib.Core.Bool.{Bool, true, false, not, _&&_, _||_, cond, true≢false}
-use mathlib.Core.List.{List, [], _∷_, _++_, map, append-assoc, append-nil}
-use mathlib.Core.Option.{Option, none, some}
+use Prim.Native.Nat.{ℕ, _+_, _-_}
+use mathlib.Core.Path.{_≡_, refl, sym, ap, ap₂, _∙_}
+use mathlib.Core.Bool.{Bool, true, false, not, _&&_, cond}
+use mathlib.Core.List.{List, [], _∷_, _++_, append-assoc, append-nil}
 use native.Mathlib.Omega.{arith}
 use lib.ListN.{length, length-append}
-use lib.Dec.{eqb, leb, ltb}
+use lib.Dec.{eqb}
 use Rattle.xliff.specs.Bytes.{gather, two}
-use Rattle.xliff.specs.Answer.{Refusal, refusal}
-use Rattle.xliff.specs.Item.{Item, Content, text, character, standalone, isolated, pair, annotation-start, annotation-end, class, half, id-of, is-start}
-use Rattle.xliff.specs.Unit.{Head, Target, no-target, target, Part, TheUnit, head-id}
-use Rattle.xliff.specs.Encode.{Record, opening, closing, part-head, target-head, text-run, inline, ill-text, broken, record-bytes, head-bytes, content-records, target-records, part-records, unit-records, spell, content-bytes}
-use Rattle.xliff.specs.Parse.{Entry}
-use Rattle.xliff.specs.Sequences.{Placed, placed-from, Located, located, located-from, part-size, source-at, order-at, target-at, placed-source, placed-target, placed-source-sequence, placed-of-order, placed-targets, placed-target-sequence}
-use Rattle.xliff.specs.Rules.{bad-order, first-bad-order, fault-5, Owner, of-part, of-source, of-target, Named, start-name, part-name, names, first-clash, fault-6}
+use Rattle.xliff.specs.Answer.{refusal}
+use Rattle.xliff.specs.Item.{Content, text}
+use Rattle.xliff.specs.Unit.{Head, Target, no-target, target, Part, TheUnit}
+use Rattle.xliff.specs.Encode.{Record, closing, part-head, target-head, text-run, inline, record-bytes, head-bytes, content-records, target-records, part-records, unit-records, spell, content-bytes}
+use Rattle.xliff.specs.Sequences.{Placed, placed-from, Located, located, located-from, part-size, source-at, order-at, target-at, placed-source, placed-target, placed-source-sequence, placed-of-order}
+use Rattle.xliff.specs.Rules.{bad-order, first-bad-order, fault-5, of-source, of-target, Named, start-name, part-name, names, first-clash, fault-6}
 use Rattle.xliff.proofs.lists.Tests.{gather-append}
 use Rattle.xliff.proofs.records.Parse.{placed}
-use Rattle.places.proofs.Places.{spell-append, placed-append, of-entry, content-found, Inner, no-inner, text-inner, inline-inner, content-inner}
+use Rattle.places.proofs.Places.{spell-append, of-entry, content-found, Inner, no-inner, text-inner, inline-inner, content-inner}
 use Rattle.places.specs.Found.{state-after, found-at, found, Ordered, orders-found, first-bad-in, head-name, no-name, names-found, marker, no-marker, marks-found, markers}
 
 -- the sizes of a part

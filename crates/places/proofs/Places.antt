@@ -1,25 +1,24 @@
 -- The records of a table with their offsets, and the items of its contents with theirs: the same, but for texts.
-use Prim.Native.Nat.{ℕ, zero, suc, _+_, _*_, _-_, _<_, _≤_}
-use mathlib.Core.Path.{_≡_, refl, sym, ap, ap₂, _∙_, subst}
-use mathlib.Core.Bool.{Bool, true, false, not, _&&_, _||_, cond, true≢false}
+use Prim.Native.Nat.{ℕ, suc, _+_, _-_, _<_, _≤_}
+use mathlib.Core.Path.{_≡_, refl, sym, ap, _∙_, subst}
+use mathlib.Core.Bool.{Bool, true, false, _&&_, cond, true≢false}
 use mathlib.Core.List.{List, [], _∷_, _++_, map, reverse, reverseAux, append-assoc, append-nil}
-use mathlib.Core.Option.{Option, none, some}
+use mathlib.Core.Option.{none}
 use native.Mathlib.Omega.{arith}
-use lib.ListN.{length, getD, take, drop, length-append, length-drop}
+use lib.ListN.{length, drop, length-append, length-drop}
 use borrow.Author.Tests.{eqb-false}
 use lib.Seq.{drop-append-seam, drop-drop}
-use lib.Dec.{eqb, leb, ltb}
+use lib.Dec.{eqb}
 use Rattle.xliff.specs.Bytes.{gather, Bytes}
 use Rattle.xliff.specs.Item.{Item, Content, text, character, standalone, isolated, pair, annotation-start, annotation-end}
-use Rattle.xliff.specs.Unit.{Head, Target, no-target, target, Part, TheUnit}
-use Rattle.xliff.specs.Encode.{Record, opening, closing, part-head, target-head, text-run, inline, ill-text, broken, record-bytes, text-before, item-before, content-records, target-records, part-records, unit-records, spell, content-bytes, encode}
+use Rattle.xliff.specs.Encode.{Record, opening, closing, part-head, target-head, text-run, inline, ill-text, broken, record-bytes, text-before, item-before, content-records, unit-records, spell, content-bytes, encode}
 use Rattle.xliff.specs.Parse.{Entry, table-fault, unit, records, entries, read, is-part, first-bad, most-records, most-parts, Stage, unit-due}
 use Rattle.xliff.specs.Sequences.{Placed, placed-from}
-use Rattle.xliff.proofs.lists.Tests.{gather-append, none-some}
+use Rattle.xliff.proofs.lists.Tests.{gather-append}
 use Rattle.xliff.proofs.records.Parse.{placed, AllGood, good-length}
-use Rattle.xliff.proofs.lists.Each.{Each, each-nil, each-cons}
+use Rattle.xliff.proofs.lists.Each.{each-cons}
 use Rattle.xliff.proofs.records.Read.{GoodRecord, read-bytes}
-use Rattle.xliff.proofs.unit.Valid.{part-heads, GoodParts, unit-good}
+use Rattle.xliff.proofs.unit.Valid.{part-heads, unit-good}
 use Rattle.xliff.proofs.unit.Table.{table-walked, shape, closed-off, encode-unit, first-bad-cons}
 use Rattle.places.specs.Passes.{Passes}
 

@@ -1,22 +1,21 @@
 -- Rule 10 on markers.
-use Prim.Native.Nat.{ℕ, zero, suc, _+_}
-use mathlib.Core.Path.{_≡_, refl, sym, ap, ap₂, _∙_, subst}
-use mathlib.Core.Bool.{Bool, true, false, not, _&&_, _||_, cond, true≢false}
+use Prim.Native.Nat.{ℕ, _+_}
+use mathlib.Core.Path.{_≡_, refl, sym, ap, ap₂, _∙_}
+use mathlib.Core.Bool.{Bool, true, false, not, _||_, true≢false}
 use mathlib.Core.List.{List, [], _∷_, _++_, map}
-use native.Mathlib.Omega.{arith}
 use lib.ListN.{length}
 use lib.Dec.{eqb}
-use borrow.Author.Tests.{eqb-true, eqb-false, ne-eqb}
+use borrow.Author.Tests.{eqb-true}
 use Rattle.xliff.specs.Bytes.{gather, any, among}
-use Rattle.xliff.specs.Item.{Item, Content, Half, start, end, text, character, standalone, isolated, pair, annotation-start, annotation-end, class, half, id-of, fields, alike}
+use Rattle.xliff.specs.Item.{Item, Content, start, end, text, character, standalone, isolated, pair, annotation-start, annotation-end, class, half, id-of, alike}
 use Rattle.xliff.specs.Unit.{Part, source-sequence}
 use Rattle.xliff.specs.Encode.{unit-records}
 use Rattle.xliff.specs.Parse.{unit, good-id, good-code}
 use Rattle.xliff.specs.Sequences.{Placed, located, blamed, items, first-of}
 use Rattle.xliff.specs.Rules.{bad-10-source, bad-10-target, unlike-source, bad-copy, of-other-class, starts-id, agrees, same-half, may-copy, fault-10}
 use Rattle.xliff.proofs.lists.Tests.{and-left, any-append}
-use Rattle.xliff.proofs.unit.Valid.{GoodIn, GoodContent, GoodPart, GoodParts}
-use Rattle.xliff.proofs.lists.Each.{Each, each-nil, each-cons}
+use Rattle.xliff.proofs.unit.Valid.{GoodIn, GoodContent, GoodParts}
+use Rattle.xliff.proofs.lists.Each.{each-nil, each-cons}
 use Rattle.places.specs.Passes.{Passes}
 use Rattle.places.specs.Found.{marks-found}
 use Rattle.places.specs.Markers.{is-marked, marked, OnMarks, placed-at, target-offsets}

@@ -1,23 +1,21 @@
 -- The tests of 7 to 10 on markers alone, and the markers read back from their offsets.
-use Prim.Native.Nat.{ℕ, zero, suc, _+_, _*_, _-_, _<_, _≤_}
+use Prim.Native.Nat.{ℕ, zero, suc, _+_, _-_}
 use mathlib.Core.Path.{_≡_, refl, sym, ap, ap₂, _∙_, subst}
-use mathlib.Core.Bool.{Bool, true, false, not, _&&_, _||_, cond, true≢false}
-use mathlib.Core.List.{List, [], _∷_, _++_, map, append-assoc, append-nil}
-use native.Mathlib.Omega.{arith}
+use mathlib.Core.Bool.{Bool, true, false, not, _&&_, _||_, cond}
+use mathlib.Core.List.{List, [], _∷_, _++_, map}
 use lib.ListN.{length, drop}
 use lib.Dec.{eqb}
-use borrow.Author.Tests.{eqb-true, eqb-false, eq-eqb, ne-eqb}
-use Rattle.xliff.specs.Bytes.{gather, keep, any, among}
-use Rattle.xliff.specs.Item.{Item, Content, text, class, is-code}
-use Rattle.xliff.specs.Unit.{Part, TheUnit}
+use Rattle.xliff.specs.Bytes.{gather, keep, any}
+use Rattle.xliff.specs.Item.{Item, Content, class}
+use Rattle.xliff.specs.Unit.{Part}
 use Rattle.xliff.specs.Encode.{Record, opening, closing, part-head, target-head, text-run, inline, ill-text, broken, record-bytes, unit-records}
 use Rattle.xliff.specs.Parse.{read, unit}
 use Rattle.xliff.specs.Unit.{source-sequence}
-use Rattle.xliff.specs.Sequences.{Placed, Located, located, located-from, part-size, target-at, blamed, items, placed-source-sequence, placed-of-order, placed-targets, placed-target-sequence}
+use Rattle.xliff.specs.Sequences.{Placed, located, located-from, part-size, target-at, blamed, items, placed-source-sequence, placed-of-order, placed-targets, placed-target-sequence}
 use Rattle.xliff.proofs.rules.Sequences.{items-source}
 use Rattle.xliff.proofs.lists.Tests.{map-append, gather-append}
 use Rattle.places.specs.Passes.{Passes}
-use Rattle.places.proofs.Places.{At, at-start, Next, at-next}
+use Rattle.places.proofs.Places.{At, at-start, at-next}
 use Rattle.places.specs.Found.{marker, no-marker, markers, marks-found, found, found-at, state-after}
 use Rattle.places.proofs.Found.{source-marks, order-marks}
 use Rattle.places.specs.Markers.{is-marked, marked, OnMarks, item-in, item-at, placed-at, target-offsets}

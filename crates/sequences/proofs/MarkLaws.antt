@@ -1,23 +1,21 @@
 -- Markers, one record further.
-use Prim.Native.Nat.{ℕ, zero, suc, _+_, _-_, _*_, _≤_, _<_}
-use mathlib.Core.Path.{_≡_, refl, sym, _∙_, ap, ap₂, subst}
-use mathlib.Core.Bool.{Bool, true, false, not, _&&_, _||_, cond, true≢false}
-use mathlib.Core.List.{List, [], _∷_, _++_, map, append-assoc, append-nil}
+use Prim.Native.Nat.{ℕ, zero, suc, _+_, _-_, _≤_, _<_}
+use mathlib.Core.Path.{_≡_, refl, sym, _∙_, ap, ap₂}
+use mathlib.Core.Bool.{Bool, true, false, not, _&&_, cond, true≢false}
+use mathlib.Core.List.{List, [], _∷_, _++_, append-assoc, append-nil}
 use native.Mathlib.Omega.{arith}
-use lib.ListN.{length, take, drop, getD, set, length-set, length-append}
-use lib.Dec.{leb, ltb, eqb}
+use lib.ListN.{length, take, drop, set, length-set, length-append}
+use lib.Dec.{eqb}
 use Rattle.xliff.specs.Encode as encode
-use Rattle.xliff.specs.Encode.{record-bytes, unit-records, inline}
+use Rattle.xliff.specs.Encode.{record-bytes}
 use Rattle.xliff.specs.Item as spec
 use Rattle.xliff.specs.Item.{class}
-use Rattle.xliff.specs.Parse.{unit}
 use Rattle.xliff.proofs.lists.Tests.{map-append}
-use Rattle.xliff.specs.Sequences.{Placed}
 use Rattle.places.specs.Passes.{Passes}
 use Rattle.places.proofs.Places.{At, at-end}
 use Rattle.places.specs.Found.{found, found-at, state-after, marker, no-marker, marks-found}
 use Rattle.places.specs.Markers.{target-offsets}
-use Rattle.places.proofs.Few.{few-source, few-targets}
+use Rattle.places.proofs.Few.{few-source}
 use Rattle.table.specs.Meaning.{meaning, width, body, half, item}
 use Rattle.table.specs.declared.Half.{Half}
 use Rattle.table.specs.declared.Half.the-variants.{Start, End}
@@ -26,7 +24,7 @@ use Rattle.table.specs.declared.Record.the-variants.{Unit as UnitStart, UnitEnd
 use Rattle.table.specs.declared.Read.{Read}
 use Rattle.table.specs.declared.Read.the-variants.{Good, Ill, Broken}
 use Rattle.orders.proofs.WalkLaws.{Stepped}
-use Rattle.sequences.specs.Marks.{places, ItemMarked, ReadMarked, insideIn, insideOf, offsets}
+use Rattle.sequences.specs.Marks.{places, ItemMarked, ReadMarked, insideOf, offsets}
 
 pub isolated-marked : (h : Half) (f : spec.Fields) → true ≡ not (eqb (class (spec.isolated (half h) f)) 0)
 unfolding class

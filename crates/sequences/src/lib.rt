@@ -1,16 +1,12 @@
 // The offsets of the markers of a sequence.
-use table::Half;
 use table::Item;
 use table::Read;
 use table::Record;
 ghost use mathlib.Core.Path.{_≡_};
-ghost use mathlib.Core.Bool.{true, false, cond, not, _&&_, _||_};
-ghost use mathlib.Core.List.{List, [], _∷_, _++_, map};
-ghost use Prim.Native.Nat.{ℕ, _+_, _-_, _*_, _/_, _%_, _<_, _≤_};
-ghost use lib.ListN.{length, getD, take, drop};
-ghost use lib.Dec.{eqb, leb, ltb};
-ghost use Rattle.xliff.specs.Parse.{unit};
-ghost use Rattle.xliff.specs.Encode.{unit-records};
+ghost use mathlib.Core.Bool.{true, false, cond};
+ghost use mathlib.Core.List.{[], _∷_, _++_};
+ghost use Prim.Native.Nat.{_+_, _-_, _<_, _≤_};
+ghost use lib.ListN.{length, take};
 ghost use Rattle.places.specs.Passes.{Passes};
 ghost use Rattle.places.specs.Markers.{target-offsets};
 ghost use Rattle.sequences.specs.Marks.{ItemMarked, RecordMarked, ReadMarked, insideIn, insideOf, offsets};

@@ -1,25 +1,24 @@
 -- The steps of the code are those of the specification, and the walk goes on by them.
-use Prim.Native.Nat.{ℕ, zero, suc, _+_, _-_, _≤_, _<_}
-use mathlib.Core.Path.{_≡_, refl, sym, _∙_, ap, ap₂, subst}
-use mathlib.Core.Bool.{Bool, true, false, not, _&&_, _||_, cond, true≢false}
-use mathlib.Core.List.{List, [], _∷_, _++_, append-nil}
-use mathlib.Core.Option.{Option, some, none}
+use Prim.Native.Nat.{ℕ, suc, _+_, _-_, _≤_, _<_}
+use mathlib.Core.Path.{_≡_, refl, sym, _∙_, ap}
+use mathlib.Core.Bool.{Bool, true, false, _&&_, _||_, cond}
+use mathlib.Core.List.{List, [], _∷_}
+use mathlib.Core.Option.{Option, none}
 use native.Mathlib.Omega.{arith}
-use borrow.Author.Tests.{eqb-true, eqb-false, eq-eqb, ne-eqb}
-use lib.ListN.{length, take, drop, getD, length-drop, length-append, drop-of-length-le}
+use borrow.Author.Tests.{eqb-false, eq-eqb, ne-eqb}
+use lib.ListN.{length, drop, getD, length-drop, length-append, drop-of-length-le}
 use lib.Seq.{drop-drop}
-use lib.Dec.{leb, ltb, eqb}
+use lib.Dec.{ltb, eqb}
 use Rattle.xliff.specs.Bytes.{Bytes, no-bytes, one-byte, two, gather}
 use Rattle.xliff.specs.Text.{utf8, utf8s, utf8-1, utf8-2, utf8-3, utf8-4}
 use Rattle.xliff.specs.Answer.{Refusal, refusal, unless, answer, accepted, refused}
 use Rattle.xliff.specs.Encode as encode
-use Rattle.xliff.specs.Encode.{opening, closing, part-head, target-head, text-run, inline, ill-text, broken, record-bytes}
-use Rattle.xliff.specs.Parse as parse
-use Rattle.xliff.specs.Parse.{on, fault, read, Entry, is-broken, walk, bad-item, bad-text, inline-step, unit-step, part-step, outer-step, step, is-part, may-end, first-bad, most-records, most-parts, unit-due, entries, table-fault}
-use Rattle.xliff.proofs.records.Parse.{walk-step, good-length}
+use Rattle.xliff.specs.Encode.{text-run, inline, record-bytes}
+use Rattle.xliff.specs.Parse.{on, fault, read, Entry, is-broken, walk, bad-item, bad-text, inline-step, unit-step, part-step, outer-step, step, is-part, may-end, first-bad, entries, table-fault}
+use Rattle.xliff.proofs.records.Parse.{good-length}
 use Rattle.xliff.proofs.lists.Tests.{or-left}
 use Rattle.xliff.proofs.records.Read.{read-sound}
-use Rattle.xliff.proofs.unit.Table.{fault-on, stepped-whole, bytes-drop}
+use Rattle.xliff.proofs.unit.Table.{stepped-whole, bytes-drop}
 use Rattle.table.specs.Meaning.{item, record-meaning, meaning, width, body}
 use Rattle.table.proofs.TextLaws.{xml-same}
 use Rattle.table.specs.declared.Item.{Item}
@@ -28,13 +27,12 @@ use Rattle.table.specs.declared.Record.{Record}
 use Rattle.table.specs.declared.Record.the-variants.{Unit as UnitStart, UnitEnd, Segment, Ignorable, Target, Text, Inline}
 use Rattle.table.specs.declared.Read.{Read}
 use Rattle.table.specs.declared.Read.the-variants.{Good, Ill, Broken}
-use Rattle.syntax.specs.Stages.{stage, step-meaning, answer-meaning, badItem, stepIf, unitNext, endNext, partNext, targetNext, textNext, itemNext, illNext, recordStep, stepOf, isHead, isPart, moved, moveOf, mayEnd}
+use Rattle.syntax.specs.Stages.{stage, step-meaning, badItem, stepIf, textNext, itemNext, recordStep, stepOf, isPart, moved, moveOf, mayEnd}
 use Rattle.syntax.specs.declared.Stage.{Stage}
 use Rattle.syntax.specs.declared.Stage.the-variants.{UnitDue, PartDue, InSource, InTarget, Complete, Alone}
 use Rattle.syntax.specs.declared.Step.{Step}
 use Rattle.syntax.specs.declared.Step.the-variants.{On, Fault}
 use Rattle.syntax.specs.declared.State.{State}
-use Rattle.syntax.specs.declared.Move.{Move}
 use Rattle.syntax.specs.declared.Move.the-variants.{Go, Halt}
 
 item-same : (i : Item) → badItem i ≡ bad-item (item i)

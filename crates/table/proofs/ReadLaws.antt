@@ -1,12 +1,12 @@
 -- What the reader finds is what the specification reads.
-use Prim.Native.Nat.{ℕ, zero, suc, _+_, _-_, _*_, _≤_, _<_}
+use Prim.Native.Nat.{ℕ, zero, suc, _+_, _-_, _≤_, _<_}
 use mathlib.Core.Path.{_≡_, refl, sym, _∙_, ap, ap₂, subst}
-use mathlib.Core.Bool.{Bool, true, false, not, _&&_, _||_, cond, true≢false}
-use mathlib.Core.List.{List, [], _∷_, _++_}
-use mathlib.Core.Option.{Option, some, none}
+use mathlib.Core.Bool.{Bool, true, false, not, _&&_, _||_, cond}
+use mathlib.Core.List.{List, [], _∷_}
+use mathlib.Core.Option.{Option}
 use native.Mathlib.Omega.{arith}
 use borrow.Author.Tests.{leb-true, le-leb, lt-leb}
-use lib.ListN.{length, take, drop, getD, length-drop, length-append}
+use lib.ListN.{length, take, drop, getD, length-drop}
 use lib.Dec.{leb, eqb}
 use Rattle.xliff.specs.Bytes.{'-', 'C', 'E', 'F', 'G', 'H', 'I', 'M', 'N', 'O', 'P', 'R', 'S', 'T', 'U', 'X', 'Y', two, four, two-at, four-at, enough, among}
 use Rattle.xliff.specs.Text as text
@@ -14,26 +14,24 @@ use Rattle.xliff.specs.Text.{text-of}
 use Rattle.xliff.specs.Item as spec
 use Rattle.xliff.specs.Item.{mark}
 use Rattle.xliff.specs.Encode as encode
-use Rattle.xliff.specs.Encode.{opening, closing, part-head, target-head, text-run, inline, ill-text, broken, code-bytes, field-bytes, head-bytes, record-bytes}
+use Rattle.xliff.specs.Encode.{text-run, inline, broken, code-bytes, field-bytes, head-bytes, record-bytes}
 use Rattle.xliff.specs.Parse.{Mark, UN, UE, SG, IG, TG, TX, CP, PH, PO, PC, SC, EC, IS, IE, MO, SM, MC, EM, unknown, is, mark-of, mark-at, whole, whole-part, code-at, good-id, good-code, code, mark-start, mark-end, text-record, read-as, read}
 use Rattle.xliff.proofs.text.Utf8.{text-of-some}
-use Rattle.table.specs.Pick.{pick, both, neither}
-use Rattle.table.specs.Number.{numberAt, marked}
-use Rattle.table.specs.Letters.{yesNo, yesNoNone, stateLetter, reorderLetter, overlapLetter, fieldsOk}
+use Rattle.table.specs.Number.{numberAt}
+use Rattle.table.specs.Letters.{yesNo, reorderLetter, overlapLetter, fieldsOk}
 use Rattle.table.specs.Utf8.{textOk}
 use Rattle.table.specs.Records.{sized, sizedPart, unitOf, segmentOf, ignorableOf, targetOf, fieldsOf, standaloneOf, isolatedOf, pairOf, noteStartOf, noteEndOf, textOf, characterOf, codeAt, markedOf, inlineOf, pairMarkOf, noteMarkOf, recordOf}
-use Rattle.table.specs.Meaning.{half, form, fields, item, record-meaning, meaning, width, points, body}
+use Rattle.table.specs.Meaning.{half, form, fields, record-meaning, meaning, width, points, body}
 use Rattle.table.specs.declared.Fields.{Fields}
 use Rattle.table.specs.declared.Record.{Record}
-use Rattle.table.specs.declared.Record.the-variants.{Unit as UnitStart, UnitEnd, Segment, Ignorable, Target, Text, Inline}
-use Rattle.table.specs.declared.Item.the-variants.{Character, Standalone, Isolated, Pair, NoteStart, NoteEnd}
+use Rattle.table.specs.declared.Record.the-variants.{UnitEnd, Text, Inline}
+use Rattle.table.specs.declared.Item.the-variants.{Character}
 use Rattle.table.specs.declared.Read.{Read}
 use Rattle.table.specs.declared.Read.the-variants.{Good, Ill, Broken}
 use Rattle.table.specs.declared.Half.{Half}
 use Rattle.table.specs.declared.Half.the-variants.{Start, End}
 use Rattle.table.specs.declared.Form.{Form}
 use Rattle.table.specs.declared.Form.the-variants.{P as FormP, S as FormS}
-use Rattle.table.proofs.Laws.{split}
 use Rattle.table.proofs.TextLaws.{text-good, text-bad-is}
 
 -- an answer is that of a record of the specification

@@ -1,18 +1,16 @@
 -- The reader's UTF-8 is the specification's.
-use Prim.Native.Nat.{ℕ, zero, suc, _+_, _-_, _*_, _/_, _%_, _≤_, _<_}
+use Prim.Native.Nat.{ℕ, _+_, _-_, _≤_}
 use mathlib.Core.Path.{_≡_, refl, sym, _∙_, ap, ap₂, subst}
-use mathlib.Core.Bool.{Bool, true, false, not, _&&_, _||_, cond, true≢false}
+use mathlib.Core.Bool.{Bool, true, false, _||_, true≢false}
 use mathlib.Core.List.{List, [], _∷_, _++_}
 use mathlib.Core.Option.{Option, some, none}
 use native.Mathlib.Omega.{arith}
-use borrow.Author.Tests.{leb-true, ltb-true, leb-false, ltb-false, lt-ltb, le-ltb, le-leb, lt-leb, ne-eqb}
-use lib.ListN.{length, take, drop, getD}
-use lib.Dec.{leb, ltb, eqb}
+use borrow.Author.Tests.{leb-true, le-leb, lt-leb, ne-eqb}
+use lib.Dec.{leb, eqb}
 use Rattle.xliff.specs.Bytes.{gather}
 use Rattle.xliff.specs.Text as spec
 use Rattle.xliff.specs.Text.{between, xml-allows, text-of}
 use Rattle.xliff.proofs.text.Utf8.{Allowed, no-text, one-point, allowed-bound, text-of-utf8s, text-of-some}
-use Rattle.table.specs.Pick.{pick, both, neither}
 use Rattle.table.specs.Utf8.{utf8, utf8s, scalar, within, xmlChar, codes, allXml, someXml, textOk, allScalar}
 use Rattle.table.proofs.Laws.{split, both-left, both-right}
 use Rattle.table.proofs.Coding.{codes-of-bytes, bytes-of-codes}

@@ -1,29 +1,25 @@
 -- One rule after the other.
-use Prim.Native.Nat.{ℕ, zero, suc, _+_, _≤_, _<_}
-use mathlib.Core.Path.{_≡_, refl, sym, ap, ap₂, _∙_, subst}
-use mathlib.Core.Bool.{Bool, true, false, cond}
-use mathlib.Core.List.{List, [], _∷_}
+use Prim.Native.Nat.{ℕ, _≤_}
+use mathlib.Core.Path.{_≡_, refl, sym, ap, _∙_}
+use mathlib.Core.List.{List}
 use mathlib.Core.Option.{Option, none, some}
 use native.Mathlib.Omega.{arith}
 use lib.ListN.{length}
 use lib.Dec.{ltb}
 use borrow.Author.Tests.{ltb-false}
+use Rattle.answers.specs.Answers.{answer-meaning, refusal-at, refusedBy}
 use Rattle.xliff.specs.Bytes.{Bytes}
 use Rattle.xliff.specs.Answer as answers
-use Rattle.xliff.specs.Answer.{Refusal, refusal, applies, _then_, unless, answer}
-use Rattle.xliff.specs.Parse.{most-bytes, table-fault, unit}
-use Rattle.xliff.specs.Rules.{fault-5, fault-6, fault-10}
-use Rattle.xliff.proofs.lists.Tests.{none-some}
+use Rattle.xliff.specs.Answer.{Refusal, applies, _then_, unless, answer}
+use Rattle.xliff.specs.Parse.{most-bytes, table-fault}
 use Rattle.xliff.proofs.unit.Result.{then-left, then-right, applies-none}
 use Rattle.places.specs.Passes.{Passes}
 use Rattle.places.proofs.Places.{passes}
-use Rattle.orders.specs.Heads.{refusal-at}
-use Rattle.orders.specs.declared.Place.{Place}
-use Rattle.orders.specs.declared.Place.the-variants.{Nowhere, At}
-use Rattle.syntax.specs.Stages.{answer-meaning}
-use Rattle.syntax.specs.declared.Answer.{Answer}
-use Rattle.syntax.specs.declared.Answer.the-variants.{Accepted, Refused}
-use Rattle.table_check.specs.Desk.{refusedBy, rules-so-far, table-so-far}
+use Rattle.answers.specs.declared.Place.{Place}
+use Rattle.answers.specs.declared.Place.the-variants.{Nowhere, At}
+use Rattle.answers.specs.declared.Answer.{Answer}
+use Rattle.answers.specs.declared.Answer.the-variants.{Accepted}
+use Rattle.table_check.specs.Desk.{rules-so-far, table-so-far}
 
 -- a rule, then the others
 pub rule-then : (t : List ℕ) (n : ℕ) (p : Place) (f g : Option Refusal) (rest : Answer) → refusal-at n p ≡ f → answer-meaning rest ≡ answer (unless g t)

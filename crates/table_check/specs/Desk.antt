@@ -7,14 +7,6 @@ use lib.Dec.{ltb}
 use Rattle.xliff.specs.Answer.{Refusal, applies, _then_}
 use Rattle.xliff.specs.Parse.{most-bytes, table-fault, unit}
 use Rattle.xliff.specs.Rules.{fault-5, fault-6, fault-10}
-use Rattle.orders.specs.declared.Place.{Place}
-use Rattle.orders.specs.declared.Place.the-variants.{Nowhere, At}
-use Rattle.syntax.specs.declared.Answer.{Answer}
-use Rattle.syntax.specs.declared.Answer.the-variants.{Accepted, Refused}
-
-abbrev pub refusedBy : ℕ → Place → Answer → Answer
-refusedBy n Nowhere rest = rest
-refusedBy n (At at) rest = Refused n at
 
 unfoldable pub rules-so-far : List ℕ → Option Refusal
 rules-so-far t = fault-5 (unit t .parts) then (fault-6 (unit t .parts) then fault-10 (unit t .parts))

@@ -1,27 +1,16 @@
 // The check as far as it is proved: 1 to 6, and 10. Rules 7 to 9 go between 6 and 10 in the same way.
-use orders::Place;
-use syntax::Answer;
+use answers::Place;
+use answers::Answer;
 ghost use mathlib.Core.Path.{_≡_};
-ghost use mathlib.Core.Bool.{true, false, cond};
-ghost use Prim.Native.Nat.{ℕ, _+_, _-_, _*_, _<_, _≤_};
-ghost use lib.ListN.{length, getD, take, drop};
+ghost use Prim.Native.Nat.{_-_, _≤_};
+ghost use lib.ListN.{length};
 ghost use lib.Dec.{ltb};
+ghost use Rattle.answers.specs.Answers.{answer-meaning, refusal-at};
 ghost use Rattle.xliff.specs.Answer.{applies, _then_, unless, answer};
 ghost use Rattle.xliff.specs.Parse.{most-bytes, table-fault, unit};
-ghost use Rattle.xliff.specs.Rules.{fault-5, fault-6, fault-10};
+ghost use Rattle.xliff.specs.Rules.{fault-10};
 ghost use Rattle.places.specs.Passes.{Passes};
-ghost use Rattle.syntax.specs.Stages.{answer-meaning};
-ghost use Rattle.orders.specs.Heads.{refusal-at};
-ghost use Rattle.table_check.specs.Desk.{refusedBy, rules-so-far, table-so-far};
-
-fn refused_by(n: u8, p: Place, rest: Answer) -> Answer
-    ensures { λ r. ⌜ r ≡ refusedBy n p rest ⌝ }
-{
-    match p {
-        Place::Nowhere => rest,
-        Place::At(at) => Answer::Refused(n, at),
-    }
-}
+ghost use Rattle.table_check.specs.Desk.{rules-so-far, table-so-far};
 
 // Rule 10, with the markers of both sequences.
 fn tenth(t: &[u8], parts: u16) -> Place
@@ -32,7 +21,7 @@ fn tenth(t: &[u8], parts: u16) -> Place
     let mut tgt = [0u16; 1024];
     let k = sequences::sources(t, &mut src);
     let m = sequences::targets(t, parts, &mut tgt);
-    views::rule_10(t, &src[..k], &tgt[..m])
+    source_match::rule_10(t, &src[..k], &tgt[..m])
 }
 
 fn narrow(n: usize) -> u16
@@ -50,7 +39,7 @@ fn by_rules(t: &[u8], len: usize) -> Answer
     let five = orders::first_order(t, n);
     let six = ids::first_name(t);
     let ten = tenth(t, narrow(n));
-    refused_by(5, five, refused_by(6, six, refused_by(10, ten, Answer::Accepted(len))))
+    answers::refused_by(5, five, answers::refused_by(6, six, answers::refused_by(10, ten, Answer::Accepted(len))))
 }
 
 fn go_on(t: &[u8], a: Answer) -> Answer

@@ -1,9 +1,8 @@
 -- Items as numbers, and the tests of the rules on them.
-use Prim.Native.Nat.{ℕ, zero, suc, _+_, _-_}
-use mathlib.Core.Path.{_≡_}
-use mathlib.Core.Bool.{Bool, true, false, not, _&&_, _||_, cond}
-use mathlib.Core.List.{List, [], _∷_, map}
-use lib.Dec.{eqb, leb, ltb}
+use Prim.Native.Nat.{ℕ, _-_}
+use mathlib.Core.Bool.{Bool, true, false, _||_}
+use mathlib.Core.List.{List, map}
+use lib.Dec.{eqb}
 use Rattle.xliff.specs.Item as spec
 use Rattle.places.specs.Markers.{item-at}
 use Rattle.table.specs.declared.Fields.{Fields}
@@ -17,12 +16,6 @@ use Rattle.table.specs.declared.Record.{Record}
 use Rattle.table.specs.declared.Record.the-variants.{Unit as UnitStart, UnitEnd, Segment, Ignorable, Target, Text, Inline}
 use Rattle.table.specs.declared.Read.{Read}
 use Rattle.table.specs.declared.Read.the-variants.{Good, Ill, Broken}
-use Rattle.orders.specs.declared.Place.{Place}
-use Rattle.orders.specs.declared.Place.the-variants.{Nowhere, At}
-use Rattle.xliff.specs.Bytes.{any}
-use Rattle.xliff.specs.Answer.{Refusal, refusal}
-use Rattle.xliff.specs.Sequences.{first-of, least}
-use mathlib.Core.Option.{Option}
 use Rattle.views.specs.declared.View.{View}
 
 -- what the specification's tests ask of an item
@@ -100,40 +93,5 @@ readView (Good x w) = recordView x
 readView Ill = nothing
 readView (Broken b) = nothing
 
--- rule 10 on views
-abbrev pub startsId : View → View → Bool
-startsId x y = not (eqb (y .class) 0) && not (eqb (y .half) 2) && eqb (y .id) (x .id)
-
-abbrev pub agreesWith : View → View → Bool
-agreesWith x y =
-    eqb (x .class) (y .class) && eqb (x .id) (y .id) && eqb (x .half) (y .half) && (eqb (x .refers) (y .refers) && (eqb (x .copy) (y .copy)
-    && (eqb (x .delete) (y .delete) && (eqb (x .overlap) (y .overlap) && eqb (x .reorder) (y .reorder)))))
-
-abbrev pub mayCopy : View → View → Bool
-mayCopy x y = eqb (x .class) (y .class) && (eqb (x .of) (y .id) && eqb (y .copy) 89)
-
-abbrev pub testOf : ℕ → View → View → Bool
-testOf kind x y =
-    eqb kind 0 && startsId x y || eqb kind 1 && (startsId x y && not (eqb (x .class) (y .class))) || eqb kind 2 && agreesWith x y || eqb kind 3 && mayCopy x y
-
 abbrev pub isCode : View → Bool
 isCode x = eqb (x .class) 1 || (eqb (x .class) 2 || (eqb (x .class) 3 || eqb (x .class) 4))
-
-abbrev pub badTenSource : View → Bool
-badTenSource x = isCode x && not (eqb (x .of) 0)
-
-abbrev pub badTenTarget : List spec.Item → View → Bool
-badTenTarget source x =
-    any (λ y. testOf 1 x (viewOf y)) source
-    || isCode x && any (λ y. testOf 0 x (viewOf y)) source && (not (any (λ y. testOf 2 x (viewOf y)) source) || not (eqb (x .of) 0))
-    || isCode x && (not (eqb (x .of) 0) && not (any (λ y. testOf 3 x (viewOf y)) source))
-
--- the lower of two places
-abbrev pub lower : Place → ℕ → Place
-lower Nowhere at = At at
-lower (At a) at = At (cond (ltb at a) at a)
-
--- the least of a place, if there is one, and of others
-unfoldable pub toward : ℕ → Place → List ℕ → Option Refusal
-toward n Nowhere bs = first-of n bs
-toward n (At a) bs = refusal n (least a bs)

@@ -74,7 +74,7 @@ fn waits(
     lone: &Standing,
 ) -> bool {
     let lone_mark = matches!(
-        &lone.inline.mark(),
+        lone.inline.mark(),
         Some(b"SC") | Some(b"EC") | Some(b"SM") | Some(b"EM")
     );
     let halves_of_id = target

@@ -9,7 +9,7 @@ pub mod sequence;
 use crate::table::{read_table, Unit};
 use crate::Refusal;
 
-pub use codes::{rule_10, rule_8, rule_9};
+pub use codes::{close_letter, rule_10, rule_8, rule_9};
 pub use ids::{rule_5, rule_6, rule_7};
 
 /// "**Check.**": the unit if none of 1 to 10 applies, else number and place.

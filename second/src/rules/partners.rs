@@ -32,7 +32,7 @@ pub fn partners_in_content(content: &[&Inline]) -> Vec<Option<usize>> {
     let mut open: Vec<usize> = Vec::new();
     for (position, inline) in content.iter().enumerate() {
         let Some(mark) = inline.mark() else { continue };
-        match &mark {
+        match mark {
             b"PO" | b"MO" => open.push(position),
             b"PC" | b"MC" => match open.pop() {
                 Some(start) if fit(content[start], inline) => {
@@ -51,12 +51,12 @@ fn fit(start: &Inline, end: &Inline) -> bool {
     end.mark() == start.mark().and_then(end_mark) && start.id() == end.id()
 }
 
-fn end_mark(start: Mark) -> Option<Mark> {
-    match &start {
-        b"PO" => Some(*b"PC"),
-        b"MO" => Some(*b"MC"),
-        b"SC" => Some(*b"EC"),
-        b"SM" => Some(*b"EM"),
+fn end_mark(start: &Mark) -> Option<&'static Mark> {
+    match start {
+        b"PO" => Some(b"PC"),
+        b"MO" => Some(b"MC"),
+        b"SC" => Some(b"EC"),
+        b"SM" => Some(b"EM"),
         _ => None,
     }
 }
@@ -65,7 +65,7 @@ fn end_mark(start: Mark) -> Option<Mark> {
 /// sequence, and no other start's."
 fn start_and_end_partners(sequence: &[Standing], found: &mut [Option<usize>]) {
     for start in 0..sequence.len() {
-        if !matches!(&sequence[start].inline.mark(), Some(b"SC") | Some(b"SM")) {
+        if !matches!(sequence[start].inline.mark(), Some(b"SC") | Some(b"SM")) {
             continue;
         }
         let end = (start + 1..sequence.len())

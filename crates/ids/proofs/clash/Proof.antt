@@ -1,17 +1,12 @@
 use Rattle.ids.proofs.KeyLaws.{any-on, any-off, any-end}
 use Rattle.ids.specs.Keys.{clashTest}
 use Rattle.xliff.specs.Bytes.{any}
-use native.Mathlib.Omega.{arith}
-use Prim.Native.Nat.{ℕ, _≤_, _-_}
+use Prim.Native.Nat.{_≤_, _-_}
 use lib.ListN.{length, drop}
-use mathlib.Core.Bool.{true, false}
-use mathlib.Core.Path.{_≡_, refl, sym, _∙_, ap, ap₂}
+use mathlib.Core.Path.{_≡_, refl, sym, _∙_}
 use borrow.Author.Needs.{needs}
 use Rattle.ids.proofs.clash.Statement.{statement}
 use Rattle.ids.proofs.clash.Tie as tie
-use Rattle.ids.proofs.clash.Reads as reads
-use Rattle.ids.proofs.clash.Lts as lts
-use Rattle.ids.proofs.clash_with.Reads as clash-with-reads
 
 abbrev Inv-loop : tie.InvT-loop
 Inv-loop keys k i₀ i = (i ≤ length keys) × (any (clashTest k) keys ≡ any (clashTest k) (drop i keys))

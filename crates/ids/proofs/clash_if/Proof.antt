@@ -2,9 +2,6 @@ use borrow.Author.Tests.{eq-eqb, ne-eqb}
 use borrow.Author.Needs.{needs}
 use Rattle.ids.proofs.clash_if.Statement.{statement}
 use Rattle.ids.proofs.clash_if.Tie as tie
-use Rattle.ids.proofs.clash_if.Reads as reads
-use Rattle.ids.proofs.clash_if.Lts as lts
-use Rattle.ids.proofs.clash.Reads as clash-reads
 
 -- src/lib.rt:141:9
 returns : tie.Need-returns

@@ -2,8 +2,6 @@ use borrow.Author.Tests.{eq-eqb, ne-eqb}
 use borrow.Author.Needs.{needs}
 use Rattle.ids.proofs.count_if.Statement.{statement}
 use Rattle.ids.proofs.count_if.Tie as tie
-use Rattle.ids.proofs.count_if.Reads as reads
-use Rattle.ids.proofs.count_if.Lts as lts
 
 -- src/lib.rt:150:28
 add-result : tie.Need-add-result

@@ -1,33 +1,22 @@
-use Prim.Native.Nat.{ℕ, _≤_, _<_, _-_, _+_}
+use Prim.Native.Nat.{ℕ, _≤_, _-_, _+_}
 use lib.Dec.{eqb}
-use mathlib.Core.Bool.{Bool, cond}
-use mathlib.Core.List.{List, [], _∷_, _++_}
+use mathlib.Core.List.{List, []}
 use mathlib.Core.Path.{_≡_, refl, sym, _∙_, ap, ap₂, subst}
 use native.Mathlib.Omega.{arith}
-use lib.ListN.{length, set, drop, length-drop, length-set, length-take, length-replicate, take}
+use lib.ListN.{length, set, length-set, length-take}
 use Rattle.table.specs.Meaning.{width}
 use Rattle.table.proofs.Laws.{tail-is}
 use Rattle.xliff.specs.Parse.{unit}
 use Rattle.xliff.specs.Encode.{Record, unit-records}
-use Rattle.xliff.specs.Answer.{Refusal, refusal}
 use Rattle.xliff.specs.Rules.{fault-6, first-clash, Named}
 use Rattle.places.specs.Found.{names-found}
-use Rattle.places.specs.Passes.{Passes}
 use Rattle.places.proofs.Places.{At, at-start}
-use Rattle.orders.proofs.WalkLaws.{Stepped, stepped}
-use Rattle.ids.specs.Keys.{owner, named, ownerOf}
+use Rattle.orders.proofs.WalkLaws.{stepped}
+use Rattle.ids.specs.Keys.{owner, ownerOf}
 use Rattle.ids.proofs.NameLaws.{Met, name-hit, name-miss, owner-bound, count-bound, names-step, names-end, names-start, met-none}
 use borrow.Author.Needs.{needs}
 use Rattle.ids.proofs.first_name.Statement.{statement}
 use Rattle.ids.proofs.first_name.Tie as tie
-use Rattle.ids.proofs.first_name.Reads as reads
-use Rattle.ids.proofs.first_name.Lts as lts
-use Rattle.ids.proofs.clash_if.Reads as clash-if-reads
-use Rattle.ids.proofs.count_if.Reads as count-if-reads
-use Rattle.ids.proofs.key_of.Reads as key-of-reads
-use Rattle.ids.proofs.owner_of.Reads as owner-of-reads
-use Rattle.syntax.proofs.width_of.Reads as width-of-reads
-use Rattle.table.proofs.record_of.Reads as record-of-reads
 
 abbrev Inv-loop : tie.InvT-loop
 Inv-loop t keys₀ n₀ o₀ at₀ keys n o at = (rs : List Record) × (met : List Named) × At t at rs × (fault-6 (unit t .parts) ≡ first-clash met (names-found (owner o) at rs)) × Met keys n met × (n + length rs ≤ 1024) × (length keys ≡ 1024) × ((1 ≤ o) × (o ≤ 3))

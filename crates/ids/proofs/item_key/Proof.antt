@@ -1,22 +1,13 @@
 use Rattle.table.specs.Meaning as table-meaning
 use Rattle.ids.specs.Keys.{owner}
-use Rattle.ids.proofs.KeyLaws.{named-some, named-none, part-owner, head-named, head-none, isolated-name}
-use Prim.Native.Nat.{ℕ, _≤_}
-use mathlib.Core.Path.{_≡_, refl, sym, _∙_, ap}
-use borrow.Author.Tests.{eq-eqb, ne-eqb}
-use native.Mathlib.Omega.{arith}
-use Rattle.places.specs.Found.{found-at}
-use Rattle.xliff.specs.Unit.{head-id}
+use Rattle.ids.proofs.KeyLaws.{named-some, named-none, isolated-name}
+use mathlib.Core.Path.{sym, _∙_}
 use Rattle.xliff.specs.Item.{class, half, id-of}
 use Rattle.xliff.specs.Rules.{start-name}
-use Rattle.ids.proofs.KeyLaws.{named-some, named-none, part-owner}
+use Rattle.ids.proofs.KeyLaws.{named-some, named-none}
 use borrow.Author.Needs.{needs}
 use Rattle.ids.proofs.item_key.Statement.{statement}
 use Rattle.ids.proofs.item_key.Tie as tie
-use Rattle.ids.proofs.item_key.Reads as reads
-use Rattle.ids.proofs.item_key.Lts as lts
-use Rattle.ids.proofs.key.Reads as key-reads
-use Rattle.ids.proofs.pair_key.Reads as pair-key-reads
 
 -- src/lib.rt:50:31
 enum-told : tie.Need-enum-told

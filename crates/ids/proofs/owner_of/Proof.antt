@@ -1,9 +1,6 @@
 use borrow.Author.Needs.{needs}
 use Rattle.ids.proofs.owner_of.Statement.{statement}
 use Rattle.ids.proofs.owner_of.Tie as tie
-use Rattle.ids.proofs.owner_of.Reads as reads
-use Rattle.ids.proofs.owner_of.Lts as lts
-use Rattle.ids.proofs.owner_in.Reads as owner-in-reads
 
 -- src/lib.rt:109:20
 enum-known-r : tie.Need-enum-known-r

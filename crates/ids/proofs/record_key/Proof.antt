@@ -1,19 +1,9 @@
-use Prim.Native.Nat.{ℕ, _≤_}
-use mathlib.Core.Path.{_≡_, refl, sym, _∙_, ap}
-use borrow.Author.Tests.{eq-eqb, ne-eqb}
-use native.Mathlib.Omega.{arith}
 use Rattle.places.specs.Found.{found-at}
 use Rattle.xliff.specs.Unit.{head-id}
-use Rattle.xliff.specs.Item.{class, half, id-of}
-use Rattle.xliff.specs.Rules.{start-name}
-use Rattle.ids.proofs.KeyLaws.{named-some, named-none, part-owner}
+use Rattle.ids.proofs.KeyLaws.{named-none}
 use borrow.Author.Needs.{needs}
 use Rattle.ids.proofs.record_key.Statement.{statement}
 use Rattle.ids.proofs.record_key.Tie as tie
-use Rattle.ids.proofs.record_key.Reads as reads
-use Rattle.ids.proofs.record_key.Lts as lts
-use Rattle.ids.proofs.head_key.Reads as head-key-reads
-use Rattle.ids.proofs.item_key.Reads as item-key-reads
 
 -- src/lib.rt:70:28
 enum-told : tie.Need-enum-told

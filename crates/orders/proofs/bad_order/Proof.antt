@@ -1,12 +1,8 @@
 use Rattle.orders.proofs.OrderLaws.{or-true}
-use mathlib.Core.Path.{_≡_, refl}
-use mathlib.Core.Bool.{Bool, true, false, _||_}
 use borrow.Author.Tests.{lt-ltb, le-ltb}
 use borrow.Author.Needs.{needs}
 use Rattle.orders.proofs.bad_order.Statement.{statement}
 use Rattle.orders.proofs.bad_order.Tie as tie
-use Rattle.orders.proofs.bad_order.Reads as reads
-use Rattle.orders.proofs.bad_order.Lts as lts
 
 -- src/lib.rt:76:9
 returns : tie.Need-returns

@@ -1,27 +1,18 @@
-use Prim.Native.Nat.{ℕ, _≤_, _<_, _-_, _+_}
+use Prim.Native.Nat.{ℕ, _-_, _+_}
 use mathlib.Core.Bool.{Bool, cond}
 use mathlib.Core.List.{List}
-use mathlib.Core.Path.{_≡_, refl, sym, _∙_, ap, subst}
+use mathlib.Core.Path.{_≡_, sym, _∙_, ap, subst}
 use native.Mathlib.Omega.{arith}
-use lib.ListN.{length, drop, length-drop}
-use Rattle.syntax.specs.Stages.{isPart}
-use Rattle.table.specs.Meaning.{width}
+use lib.ListN.{length}
 use Rattle.table.proofs.Laws.{tail-is}
 use Rattle.xliff.specs.Parse.{unit}
 use Rattle.xliff.specs.Encode.{Record, unit-records}
 use Rattle.xliff.proofs.unit.Valid.{part-heads}
-use Rattle.places.specs.Passes.{Passes}
 use Rattle.places.proofs.Places.{At, at-start}
-use Rattle.orders.proofs.WalkLaws.{Stepped, stepped, parts-on, parts-end, few-parts}
+use Rattle.orders.proofs.WalkLaws.{stepped, parts-on, parts-end, few-parts}
 use borrow.Author.Needs.{needs}
 use Rattle.orders.proofs.count_parts.Statement.{statement}
 use Rattle.orders.proofs.count_parts.Tie as tie
-use Rattle.orders.proofs.count_parts.Reads as reads
-use Rattle.orders.proofs.count_parts.Lts as lts
-use Rattle.orders.proofs.plus_if.Reads as plus-if-reads
-use Rattle.syntax.proofs.is_part.Reads as is-part-reads
-use Rattle.syntax.proofs.width_of.Reads as width-of-reads
-use Rattle.table.proofs.record_of.Reads as record-of-reads
 
 abbrev Inv-loop : tie.InvT-loop
 Inv-loop t at₀ n₀ at n = (rs : List Record) × At t at rs × (n + part-heads rs ≡ part-heads (unit-records (unit t)))

@@ -1,34 +1,25 @@
-use Prim.Native.Nat.{ℕ, _≤_, _<_, _-_, _+_}
+use Prim.Native.Nat.{ℕ, _-_, _+_}
 use Rattle.xliff.proofs.lists.Tests.{or-left, or-right}
-use lib.ListN.{getD}
 use lib.Dec.{eqb, ltb}
 use borrow.Author.Tests.{ltb-false}
-use mathlib.Core.Bool.{Bool, cond, _||_}
+use mathlib.Core.Bool.{Bool, cond}
 use mathlib.Core.List.{List, [], _∷_}
 use mathlib.Core.Path.{_≡_, refl, sym, _∙_, ap, subst}
 use native.Mathlib.Omega.{arith}
-use lib.ListN.{length, drop, length-drop, length-set}
+use lib.ListN.{length, length-set}
 use Rattle.table.specs.Meaning.{width}
 use Rattle.table.proofs.Laws.{tail-is}
 use Rattle.xliff.specs.Parse.{unit}
 use Rattle.xliff.specs.Encode.{Record, unit-records}
-use Rattle.xliff.specs.Answer.{Refusal, refusal}
+use Rattle.xliff.specs.Answer.{refusal}
 use Rattle.xliff.specs.Rules.{fault-5, bad-order}
 use Rattle.places.specs.Found.{orders-found, first-bad-in}
-use Rattle.places.specs.Passes.{Passes}
 use Rattle.places.proofs.Places.{At, at-start}
-use Rattle.orders.specs.Heads.{orderOf}
 use Rattle.orders.proofs.OrderLaws.{orders-skip, orders-at, orders-end, Marked, bad-same, marked-more, marked-none, orders-start}
-use Rattle.orders.proofs.WalkLaws.{Stepped, stepped, few-parts}
+use Rattle.orders.proofs.WalkLaws.{stepped, few-parts}
 use borrow.Author.Needs.{needs}
 use Rattle.orders.proofs.first_order.Statement.{statement}
 use Rattle.orders.proofs.first_order.Tie as tie
-use Rattle.orders.proofs.first_order.Reads as reads
-use Rattle.orders.proofs.first_order.Lts as lts
-use Rattle.orders.proofs.bad_order.Reads as bad-order-reads
-use Rattle.orders.proofs.order_of.Reads as order-of-reads
-use Rattle.syntax.proofs.width_of.Reads as width-of-reads
-use Rattle.table.proofs.record_of.Reads as record-of-reads
 
 abbrev Inv-loop : tie.InvT-loop
 Inv-loop t n used₀ at₀ used at = (rs : List Record) × (us : List ℕ) × At t at rs × (fault-5 (unit t .parts) ≡ first-bad-in n us (orders-found at rs)) × Marked used us × (length used ≡ 65)

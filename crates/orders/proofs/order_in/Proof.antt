@@ -1,8 +1,6 @@
 use borrow.Author.Needs.{needs}
 use Rattle.orders.proofs.order_in.Statement.{statement}
 use Rattle.orders.proofs.order_in.Tie as tie
-use Rattle.orders.proofs.order_in.Reads as reads
-use Rattle.orders.proofs.order_in.Lts as lts
 
 -- src/lib.rt:51:28
 enum-told : tie.Need-enum-told

@@ -2,8 +2,6 @@ use native.Mathlib.Omega.{arith}
 use borrow.Author.Needs.{needs}
 use Rattle.orders.proofs.plus_if.Statement.{statement}
 use Rattle.orders.proofs.plus_if.Tie as tie
-use Rattle.orders.proofs.plus_if.Reads as reads
-use Rattle.orders.proofs.plus_if.Lts as lts
 
 -- src/lib.rt:24:12
 add-result : tie.Need-add-result

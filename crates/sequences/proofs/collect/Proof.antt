@@ -1,30 +1,21 @@
-use Prim.Native.Nat.{ℕ, _≤_, _<_, _-_, _+_}
-use lib.Dec.{eqb}
-use mathlib.Core.Bool.{Bool, cond, false}
+use Prim.Native.Nat.{ℕ, _-_, _+_}
+use mathlib.Core.Bool.{Bool, cond}
 use mathlib.Core.List.{List, [], _∷_, _++_, append-nil}
 use mathlib.Core.Path.{_≡_, refl, sym, _∙_, ap, ap₂, subst}
 use native.Mathlib.Omega.{arith}
-use lib.ListN.{length, drop, length-drop, length-append, take}
+use lib.ListN.{length, length-append, take}
 use Rattle.table.specs.Meaning.{width}
 use Rattle.table.proofs.Laws.{tail-is}
 use Rattle.xliff.specs.Parse.{unit}
 use Rattle.xliff.specs.Encode.{Record, unit-records}
 use Rattle.places.specs.Found.{marks-found}
-use Rattle.places.specs.Passes.{Passes}
 use Rattle.places.proofs.Places.{At, at-start}
-use Rattle.orders.proofs.WalkLaws.{Stepped, stepped}
+use Rattle.orders.proofs.WalkLaws.{stepped}
 use Rattle.sequences.specs.Marks.{places, insideOf, offsets}
 use Rattle.sequences.proofs.MarkLaws.{marks-step, marks-end, collected, counted}
 use borrow.Author.Needs.{needs}
 use Rattle.sequences.proofs.collect.Statement.{statement}
 use Rattle.sequences.proofs.collect.Tie as tie
-use Rattle.sequences.proofs.collect.Reads as reads
-use Rattle.sequences.proofs.collect.Lts as lts
-use Rattle.sequences.proofs.inside_of.Reads as inside-of-reads
-use Rattle.sequences.proofs.mark_of.Reads as mark-of-reads
-use Rattle.sequences.proofs.put_if.Reads as put-if-reads
-use Rattle.syntax.proofs.width_of.Reads as width-of-reads
-use Rattle.table.proofs.record_of.Reads as record-of-reads
 
 abbrev Inv-loop : tie.InvT-loop
 Inv-loop t source q out₀ n at₀ inside₀ m₀ out at inside m = (rs : List Record) × At t at rs × (length out ≡ length out₀) × (take m out ++ places (marks-found source q inside at rs) ≡ take n out₀ ++ offsets source q t) × (length (places (marks-found source q inside at rs)) + m ≡ length (offsets source q t) + n)

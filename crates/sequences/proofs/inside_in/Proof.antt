@@ -1,8 +1,6 @@
 use borrow.Author.Needs.{needs}
 use Rattle.sequences.proofs.inside_in.Statement.{statement}
 use Rattle.sequences.proofs.inside_in.Tie as tie
-use Rattle.sequences.proofs.inside_in.Reads as reads
-use Rattle.sequences.proofs.inside_in.Lts as lts
 
 -- src/lib.rt:58:28
 enum-told : tie.Need-enum-told

@@ -1,9 +1,6 @@
 use borrow.Author.Needs.{needs}
 use Rattle.sequences.proofs.inside_of.Statement.{statement}
 use Rattle.sequences.proofs.inside_of.Tie as tie
-use Rattle.sequences.proofs.inside_of.Reads as reads
-use Rattle.sequences.proofs.inside_of.Lts as lts
-use Rattle.sequences.proofs.inside_in.Reads as inside-in-reads
 
 -- src/lib.rt:72:20
 enum-known-r : tie.Need-enum-known-r

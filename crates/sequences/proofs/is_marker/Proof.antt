@@ -1,15 +1,10 @@
 use Rattle.table.specs.Meaning as table-meaning
-use mathlib.Core.Bool.{true, false}
-use native.Mathlib.Omega.{arith}
-use mathlib.Core.Path.{_≡_, refl, sym, _∙_, ap}
-use Rattle.places.specs.Found.{found-at, marker}
+use mathlib.Core.Path.{refl}
 use Rattle.xliff.specs.Item.{class}
-use Rattle.sequences.proofs.MarkLaws.{isolated-marked, inline-marked, put-room, put-more, put-none}
+use Rattle.sequences.proofs.MarkLaws.{isolated-marked}
 use borrow.Author.Needs.{needs}
 use Rattle.sequences.proofs.is_marker.Statement.{statement}
 use Rattle.sequences.proofs.is_marker.Tie as tie
-use Rattle.sequences.proofs.is_marker.Reads as reads
-use Rattle.sequences.proofs.is_marker.Lts as lts
 
 -- src/lib.rt:21:31
 enum-told : tie.Need-enum-told

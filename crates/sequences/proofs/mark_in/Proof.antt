@@ -1,16 +1,10 @@
 use Rattle.sequences.proofs.MarkLaws.{inline-marked}
-use mathlib.Core.Bool.{true, false}
-use native.Mathlib.Omega.{arith}
-use mathlib.Core.Path.{_≡_, refl, sym, _∙_, ap}
-use Rattle.places.specs.Found.{found-at, marker}
-use Rattle.xliff.specs.Item.{class}
-use Rattle.sequences.proofs.MarkLaws.{isolated-marked, inline-marked, put-room, put-more, put-none}
+use mathlib.Core.Path.{refl}
+use Rattle.places.specs.Found.{found-at}
+use Rattle.sequences.proofs.MarkLaws.{inline-marked}
 use borrow.Author.Needs.{needs}
 use Rattle.sequences.proofs.mark_in.Statement.{statement}
 use Rattle.sequences.proofs.mark_in.Tie as tie
-use Rattle.sequences.proofs.mark_in.Reads as reads
-use Rattle.sequences.proofs.mark_in.Lts as lts
-use Rattle.sequences.proofs.is_marker.Reads as is-marker-reads
 
 -- src/lib.rt:34:28
 enum-told : tie.Need-enum-told

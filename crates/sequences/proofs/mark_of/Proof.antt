@@ -1,15 +1,8 @@
-use mathlib.Core.Bool.{true, false}
-use native.Mathlib.Omega.{arith}
-use mathlib.Core.Path.{_≡_, refl, sym, _∙_, ap}
-use Rattle.places.specs.Found.{found-at, marker}
-use Rattle.xliff.specs.Item.{class}
-use Rattle.sequences.proofs.MarkLaws.{isolated-marked, inline-marked, put-room, put-more, put-none}
+use mathlib.Core.Path.{refl}
+use Rattle.places.specs.Found.{found-at}
 use borrow.Author.Needs.{needs}
 use Rattle.sequences.proofs.mark_of.Statement.{statement}
 use Rattle.sequences.proofs.mark_of.Tie as tie
-use Rattle.sequences.proofs.mark_of.Reads as reads
-use Rattle.sequences.proofs.mark_of.Lts as lts
-use Rattle.sequences.proofs.mark_in.Reads as mark-in-reads
 
 -- src/lib.rt:48:20
 enum-known-r : tie.Need-enum-known-r

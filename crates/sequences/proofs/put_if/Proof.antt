@@ -1,14 +1,7 @@
-use mathlib.Core.Bool.{true, false}
-use native.Mathlib.Omega.{arith}
-use mathlib.Core.Path.{_≡_, refl, sym, _∙_, ap}
-use Rattle.places.specs.Found.{found-at, marker}
-use Rattle.xliff.specs.Item.{class}
-use Rattle.sequences.proofs.MarkLaws.{isolated-marked, inline-marked, put-room, put-more, put-none}
+use Rattle.sequences.proofs.MarkLaws.{put-room, put-more, put-none}
 use borrow.Author.Needs.{needs}
 use Rattle.sequences.proofs.put_if.Statement.{statement}
 use Rattle.sequences.proofs.put_if.Tie as tie
-use Rattle.sequences.proofs.put_if.Reads as reads
-use Rattle.sequences.proofs.put_if.Lts as lts
 
 -- src/lib.rt:83:9
 mul-out : tie.Need-mul-out

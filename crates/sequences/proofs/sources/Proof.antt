@@ -1,20 +1,10 @@
-use Prim.Native.Nat.{ℕ, _≤_, _<_, _-_, _+_}
-use mathlib.Core.Bool.{true, false}
-use mathlib.Core.List.{List, [], _∷_, _++_, append-nil}
-use mathlib.Core.Path.{_≡_, refl, sym, _∙_, ap}
+use Prim.Native.Nat.{_-_}
+use mathlib.Core.Path.{_∙_}
 use native.Mathlib.Omega.{arith}
-use lib.ListN.{length, length-append, take}
-use Rattle.places.proofs.Few.{few-targets}
-use Rattle.places.specs.Markers.{target-offsets}
-use Rattle.places.specs.Passes.{Passes}
-use Rattle.sequences.specs.Marks.{offsets}
-use Rattle.sequences.proofs.MarkLaws.{collected, counted, source-room, order-on, order-end, order-start}
+use Rattle.sequences.proofs.MarkLaws.{source-room}
 use borrow.Author.Needs.{needs}
 use Rattle.sequences.proofs.sources.Statement.{statement}
 use Rattle.sequences.proofs.sources.Tie as tie
-use Rattle.sequences.proofs.sources.Reads as reads
-use Rattle.sequences.proofs.sources.Lts as lts
-use Rattle.sequences.proofs.collect.Reads as collect-reads
 
 -- src/lib.rt:112:5
 collect-requires : tie.Need-collect-requires

@@ -1,20 +1,16 @@
-use Prim.Native.Nat.{ℕ, _≤_, _<_, _-_, _+_}
-use mathlib.Core.Bool.{true, false}
-use mathlib.Core.List.{List, [], _∷_, _++_, append-nil}
-use mathlib.Core.Path.{_≡_, refl, sym, _∙_, ap}
+use Prim.Native.Nat.{ℕ, _≤_, _-_, _+_}
+use mathlib.Core.Bool.{false}
+use mathlib.Core.List.{List, _++_, append-nil}
+use mathlib.Core.Path.{_≡_, sym, _∙_, ap}
 use native.Mathlib.Omega.{arith}
 use lib.ListN.{length, length-append, take}
 use Rattle.places.proofs.Few.{few-targets}
 use Rattle.places.specs.Markers.{target-offsets}
-use Rattle.places.specs.Passes.{Passes}
 use Rattle.sequences.specs.Marks.{offsets}
-use Rattle.sequences.proofs.MarkLaws.{collected, counted, source-room, order-on, order-end, order-start}
+use Rattle.sequences.proofs.MarkLaws.{collected, counted, order-on, order-end, order-start}
 use borrow.Author.Needs.{needs}
 use Rattle.sequences.proofs.targets.Statement.{statement}
 use Rattle.sequences.proofs.targets.Tie as tie
-use Rattle.sequences.proofs.targets.Reads as reads
-use Rattle.sequences.proofs.targets.Lts as lts
-use Rattle.sequences.proofs.collect.Reads as collect-reads
 
 abbrev Inv-loop : tie.InvT-loop
 Inv-loop t parts out₀ q₀ n₀ out q n = (q ≤ parts) × (length out ≡ 1024) × (take n out ++ target-offsets t q (parts - q) ≡ target-offsets t 0 parts) × (length (target-offsets t q (parts - q)) + n ≡ length (target-offsets t 0 parts))

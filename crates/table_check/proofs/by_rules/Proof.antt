@@ -1,30 +1,15 @@
-use Prim.Native.Nat.{ℕ, _≤_}
-use mathlib.Core.Option.{Option}
-use mathlib.Core.Path.{_≡_, refl, sym, _∙_, ap}
+use mathlib.Core.Path.{_∙_, ap}
 use native.Mathlib.Omega.{arith}
-use lib.Dec.{ltb}
-use lib.ListN.{length, length-take, take}
-use Rattle.places.specs.Markers.{target-offsets}
+use Rattle.answers.specs.Answers.{answer-meaning}
 use Rattle.xliff.specs.Rules.{fault-5, fault-6, fault-10}
-use Rattle.xliff.specs.Parse.{most-bytes, table-fault, unit}
-use Rattle.xliff.specs.Answer.{Refusal, applies, _then_, unless, answer}
-use Rattle.syntax.specs.declared.Answer.the-variants.{Accepted}
-use Rattle.syntax.proofs.StepLaws.{bytes-from}
-use Rattle.syntax.specs.Stages.{answer-meaning}
+use Rattle.xliff.specs.Parse.{unit}
+use Rattle.xliff.specs.Answer.{_then_}
 use Rattle.orders.proofs.WalkLaws.{few-parts}
-use Rattle.table_check.specs.Desk.{rules-so-far, table-so-far, refusedBy}
-use Rattle.table_check.proofs.DeskLaws.{rule-then, rule-last, refused-same, so-far}
+use Rattle.table_check.specs.Desk.{rules-so-far}
+use Rattle.table_check.proofs.DeskLaws.{rule-then, rule-last}
 use borrow.Author.Needs.{needs}
 use Rattle.table_check.proofs.by_rules.Statement.{statement}
 use Rattle.table_check.proofs.by_rules.Tie as tie
-use Rattle.table_check.proofs.by_rules.Reads as reads
-use Rattle.table_check.proofs.by_rules.Lts as lts
-use Rattle.table_check.proofs.narrow.Reads as narrow-reads
-use Rattle.table_check.proofs.refused_by.Reads as refused-by-reads
-use Rattle.table_check.proofs.tenth.Reads as tenth-reads
-use Rattle.orders.proofs.count_parts.Reads as count-parts-reads
-use Rattle.orders.proofs.first_order.Reads as first-order-reads
-use Rattle.ids.proofs.first_name.Reads as first-name-reads
 
 -- src/lib.rt:49:9
 count-parts-requires : tie.Need-count-parts-requires

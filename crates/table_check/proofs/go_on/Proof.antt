@@ -1,25 +1,17 @@
-use Prim.Native.Nat.{ℕ, _≤_}
 use mathlib.Core.Option.{Option}
-use mathlib.Core.Path.{_≡_, refl, sym, _∙_, ap}
+use mathlib.Core.Path.{sym, _∙_, ap}
 use native.Mathlib.Omega.{arith}
 use lib.Dec.{ltb}
-use lib.ListN.{length, length-take, take}
-use Rattle.places.specs.Markers.{target-offsets}
-use Rattle.xliff.specs.Rules.{fault-5, fault-6, fault-10}
-use Rattle.xliff.specs.Parse.{most-bytes, table-fault, unit}
-use Rattle.xliff.specs.Answer.{Refusal, applies, _then_, unless, answer}
-use Rattle.syntax.specs.declared.Answer.the-variants.{Accepted}
+use lib.ListN.{length}
+use Rattle.answers.specs.Answers.{answer-meaning}
+use Rattle.xliff.specs.Parse.{most-bytes, table-fault}
+use Rattle.xliff.specs.Answer.{Refusal, applies, unless, answer}
 use Rattle.syntax.proofs.StepLaws.{bytes-from}
-use Rattle.syntax.specs.Stages.{answer-meaning}
-use Rattle.orders.proofs.WalkLaws.{few-parts}
-use Rattle.table_check.specs.Desk.{rules-so-far, table-so-far, refusedBy}
-use Rattle.table_check.proofs.DeskLaws.{rule-then, rule-last, refused-same, so-far}
+use Rattle.table_check.specs.Desk.{rules-so-far, table-so-far}
+use Rattle.table_check.proofs.DeskLaws.{refused-same, so-far}
 use borrow.Author.Needs.{needs}
 use Rattle.table_check.proofs.go_on.Statement.{statement}
 use Rattle.table_check.proofs.go_on.Tie as tie
-use Rattle.table_check.proofs.go_on.Reads as reads
-use Rattle.table_check.proofs.go_on.Lts as lts
-use Rattle.table_check.proofs.by_rules.Reads as by-rules-reads
 
 -- src/lib.rt:61:26
 enum-known-a : tie.Need-enum-known-a

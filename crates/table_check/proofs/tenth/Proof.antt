@@ -1,27 +1,10 @@
-use Prim.Native.Nat.{ℕ, _≤_}
-use mathlib.Core.Option.{Option}
-use mathlib.Core.Path.{_≡_, refl, sym, _∙_, ap}
+use mathlib.Core.Path.{_∙_, ap}
 use native.Mathlib.Omega.{arith}
-use lib.Dec.{ltb}
-use lib.ListN.{length, length-take, take}
+use lib.ListN.{length-take}
 use Rattle.places.specs.Markers.{target-offsets}
-use Rattle.xliff.specs.Rules.{fault-5, fault-6, fault-10}
-use Rattle.xliff.specs.Parse.{most-bytes, table-fault, unit}
-use Rattle.xliff.specs.Answer.{Refusal, applies, _then_, unless, answer}
-use Rattle.syntax.specs.declared.Answer.the-variants.{Accepted}
-use Rattle.syntax.proofs.StepLaws.{bytes-from}
-use Rattle.syntax.specs.Stages.{answer-meaning}
-use Rattle.orders.proofs.WalkLaws.{few-parts}
-use Rattle.table_check.specs.Desk.{rules-so-far, table-so-far, refusedBy}
-use Rattle.table_check.proofs.DeskLaws.{rule-then, rule-last, refused-same, so-far}
 use borrow.Author.Needs.{needs}
 use Rattle.table_check.proofs.tenth.Statement.{statement}
 use Rattle.table_check.proofs.tenth.Tie as tie
-use Rattle.table_check.proofs.tenth.Reads as reads
-use Rattle.table_check.proofs.tenth.Lts as lts
-use Rattle.sequences.proofs.sources.Reads as sources-reads
-use Rattle.sequences.proofs.targets.Reads as targets-reads
-use Rattle.views.proofs.rule_10.Reads as rule-10-reads
 
 -- src/lib.rt:33:31
 slice-aggregate-sources : tie.Need-slice-aggregate-sources

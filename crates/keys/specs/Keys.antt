@@ -1,0 +1,33 @@
+-- A marker as one number, its key: id, class, half and form, all that rule 7 asks of it. The key of text and characters is 0.
+use Prim.Native.Nat.{ℕ, _+_, _*_, _/_, _%_}
+use mathlib.Core.Bool.{Bool, not, _&&_, _||_, cond}
+use mathlib.Core.List.{List, map}
+use lib.Dec.{eqb}
+use Rattle.xliff.specs.Item.{Item, class, half, is-form-P, id-of}
+use Rattle.views.specs.Views.{itemsAt}
+
+unfoldable pub key : Item → ℕ
+key x = id-of x * 64 + (class x * 8 + (half x * 2 + cond (is-form-P x) 1 0))
+
+unfoldable pub keysAt : List ℕ → List ℕ → List ℕ
+keysAt t os = map key (itemsAt t os)
+
+-- the parts of a key
+abbrev pub idKey : ℕ → ℕ
+idKey k = k / 64
+
+abbrev pub classKey : ℕ → ℕ
+classKey k = k % 64 / 8
+
+abbrev pub halfKey : ℕ → ℕ
+halfKey k = k % 8 / 2
+
+abbrev pub formKey : ℕ → Bool
+formKey k = eqb (k % 2) 1
+
+-- the tests of two items, on their keys: class and id
+abbrev pub alikeKeys : ℕ → ℕ → Bool
+alikeKeys x y = eqb (x / 8) (y / 8)
+
+abbrev pub otherKey : ℕ → ℕ → Bool
+otherKey x y = eqb (x / 8) (y / 8) && (eqb (x % 8 / 2) 1 && eqb (y % 8 / 2) 2 || eqb (x % 8 / 2) 2 && eqb (y % 8 / 2) 1)

@@ -1,0 +1,34 @@
+-- Rule 10 on views.
+use Prim.Native.Nat.{ℕ}
+use mathlib.Core.Bool.{Bool, not, _&&_, _||_}
+use mathlib.Core.List.{List}
+use lib.Dec.{eqb}
+use Rattle.xliff.specs.Item as spec
+use Rattle.xliff.specs.Bytes.{any}
+use Rattle.views.specs.Views.{viewOf, isCode}
+use Rattle.views.specs.declared.View.{View}
+
+-- rule 10 on views
+abbrev pub startsId : View → View → Bool
+startsId x y = not (eqb (y .class) 0) && not (eqb (y .half) 2) && eqb (y .id) (x .id)
+
+abbrev pub agreesWith : View → View → Bool
+agreesWith x y =
+    eqb (x .class) (y .class) && eqb (x .id) (y .id) && eqb (x .half) (y .half) && (eqb (x .refers) (y .refers) && (eqb (x .copy) (y .copy)
+    && (eqb (x .delete) (y .delete) && (eqb (x .overlap) (y .overlap) && eqb (x .reorder) (y .reorder)))))
+
+abbrev pub mayCopy : View → View → Bool
+mayCopy x y = eqb (x .class) (y .class) && (eqb (x .of) (y .id) && eqb (y .copy) 89)
+
+abbrev pub testOf : ℕ → View → View → Bool
+testOf kind x y =
+    eqb kind 0 && startsId x y || eqb kind 1 && (startsId x y && not (eqb (x .class) (y .class))) || eqb kind 2 && agreesWith x y || eqb kind 3 && mayCopy x y
+
+abbrev pub badTenSource : View → Bool
+badTenSource x = isCode x && not (eqb (x .of) 0)
+
+abbrev pub badTenTarget : List spec.Item → View → Bool
+badTenTarget source x =
+    any (λ y. testOf 1 x (viewOf y)) source
+    || isCode x && any (λ y. testOf 0 x (viewOf y)) source && (not (any (λ y. testOf 2 x (viewOf y)) source) || not (eqb (x .of) 0))
+    || isCode x && (not (eqb (x .of) 0) && not (any (λ y. testOf 3 x (viewOf y)) source))

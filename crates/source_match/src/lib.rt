@@ -1,0 +1,100 @@
+// Rule 10: codes of targets match those of the source.
+use answers::Place;
+use views::View;
+ghost use mathlib.Core.Path.{_≡_};
+ghost use mathlib.Core.Bool.{true, false};
+ghost use mathlib.Core.List.{[]};
+ghost use Prim.Native.Nat.{_+_, _-_, _<_};
+ghost use lib.ListN.{length};
+ghost use Rattle.answers.specs.Answers.{refusal-at, toward};
+ghost use Rattle.xliff.specs.Bytes.{any};
+ghost use Rattle.views.specs.Views.{viewOf, itemsAt};
+ghost use Rattle.source_match.specs.Ten.{testOf, badTenSource, badTenTarget};
+ghost use Rattle.xliff.specs.Sequences.{blamed, first-of};
+ghost use Rattle.xliff.specs.Rules.{bad-10-source, bad-10-target, fault-10};
+ghost use Rattle.xliff.specs.Parse.{unit};
+ghost use Rattle.places.specs.Passes.{Passes};
+ghost use Rattle.sequences.specs.Marks.{offsets};
+ghost use Rattle.places.specs.Markers.{placed-at, target-offsets};
+
+// The tests of an item against another: 0 gives its id, 1 gives it in another class, 2 is its like in the source, 3 is what it may be a copy of.
+fn passes(kind: u8, x: View, y: View) -> bool
+    ensures { λ r. ⌜ r ≡ testOf kind x y ⌝ }
+{
+    let starts = (!(y.class == 0) & !(y.half == 2)) & (y.id == x.id);
+    let class = x.class == y.class;
+    let letters = (x.refers == y.refers) & ((x.copy == y.copy)
+        & ((x.delete == y.delete) & ((x.overlap == y.overlap) & (x.reorder == y.reorder))));
+    let agrees = ((class & (x.id == y.id)) & (x.half == y.half)) & letters;
+    let copies = class & ((x.of == y.id) & (y.copy == b'Y'));
+    ((kind == 0) & starts) | ((kind == 1) & (starts & !class)) | ((kind == 2) & agrees) | ((kind == 3) & copies)
+}
+
+// Whether some item passes.
+pub fn any_of(t: &[u8], os: &[u16], kind: u8, x: View) -> bool
+    ensures { λ r. ⌜ r ≡ any (λ y. testOf kind x (viewOf y)) (itemsAt (now (t .entry)) (now (os .entry))) ⌝ }
+{
+    let mut i = 0;
+    while i < os.len() {
+        if passes(kind, x, views::view_at(t, views::wide(os[i]))) {
+            return true;
+        }
+        i += 1;
+    }
+    false
+}
+
+// Rule 10 of a source item.
+fn bad_copy_in_source(x: View) -> bool
+    ensures { λ r. ⌜ r ≡ badTenSource x ⌝ }
+{
+    views::is_code(x) & !(x.of == 0)
+}
+
+// Rule 10 of a target item.
+fn bad_in_target(t: &[u8], os: &[u16], x: View) -> bool
+    ensures { λ r. ⌜ r ≡ badTenTarget (itemsAt (now (t .entry)) (now (os .entry))) x ⌝ }
+{
+    let starts = any_of(t, os, 0, x);
+    let class = any_of(t, os, 1, x);
+    let agrees = any_of(t, os, 2, x);
+    let copies = any_of(t, os, 3, x);
+    let code = views::is_code(x);
+    (class | ((code & starts) & (!agrees | !(x.of == 0)))) | (code & (!(x.of == 0) & !copies))
+}
+
+// Rule 10 over the markers of the source sequence.
+pub fn ten_source(t: &[u8], os: &[u16]) -> Place
+    ensures { λ r. ⌜ refusal-at 10 r ≡ first-of 10 (blamed bad-10-source [] (placed-at (now (t .entry)) (now (os .entry)))) ⌝ }
+{
+    let mut best = Place::Nowhere;
+    let mut i = 0;
+    while i < os.len() {
+        let at = views::wide(os[i]);
+        best = answers::lower_if(bad_copy_in_source(views::view_at(t, at)), best, at);
+        i += 1;
+    }
+    best
+}
+
+// Rule 10 over the markers of the target sequence, below `start`.
+pub fn ten_target(t: &[u8], src: &[u16], os: &[u16], start: Place) -> Place
+    ensures { λ r. ⌜ refusal-at 10 r ≡ toward 10 start (blamed (bad-10-target (itemsAt (now (t .entry)) (now (src .entry)))) [] (placed-at (now (t .entry)) (now (os .entry)))) ⌝ }
+{
+    let mut best = start;
+    let mut i = 0;
+    while i < os.len() {
+        let at = views::wide(os[i]);
+        best = answers::lower_if(bad_in_target(t, src, views::view_at(t, at)), best, at);
+        i += 1;
+    }
+    best
+}
+
+// Rule 10, by the offsets of the markers of both sequences.
+pub fn rule_10(t: &[u8], src: &[u16], tgt: &[u16]) -> Place
+    requires { ⌜ Passes (now t) × (now src ≡ offsets true 0 (now t)) × (now tgt ≡ target-offsets (now t) 0 (length (unit (now t) .parts))) ⌝ }
+    ensures { λ r. ⌜ refusal-at 10 r ≡ fault-10 (unit (now (t .entry)) .parts) ⌝ }
+{
+    ten_target(t, src, tgt, ten_source(t, src))
+}

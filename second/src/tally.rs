@@ -1,0 +1,50 @@
+//! The answers in what a desk printed: accepted, and refused by each number.
+
+use std::collections::BTreeMap;
+
+#[derive(Clone, Default)]
+pub struct Tally {
+    /// Lines `OK length`.
+    pub accepted: usize,
+    /// Lines `NO number place`, by number.
+    pub refused: BTreeMap<u16, usize>,
+    /// Lines with a table.
+    pub tables: usize,
+}
+
+impl Tally {
+    pub fn count(&mut self, printed: &[u8]) {
+        for line in String::from_utf8_lossy(printed).lines() {
+            let mut words = line.split(' ');
+            match (words.next(), words.next().and_then(|word| word.parse::<u16>().ok())) {
+                (Some("OK"), _) => self.accepted += 1,
+                (Some("NO"), Some(number)) => *self.refused.entry(number).or_default() += 1,
+                _ => self.tables += 1,
+            }
+        }
+    }
+
+    pub fn add(&mut self, other: &Tally) {
+        self.accepted += other.accepted;
+        self.tables += other.tables;
+        for (number, count) in &other.refused {
+            *self.refused.entry(*number).or_default() += count;
+        }
+    }
+
+    /// One line for each answer with its count and share of all lines.
+    pub fn report(&self) -> String {
+        let refused: usize = self.refused.values().sum();
+        let all = self.accepted + self.tables + refused;
+        let line = |name: String, count: usize| {
+            format!("  {name:<16}{count:>8}{:>8.2} %\n", 100.0 * count as f64 / all.max(1) as f64)
+        };
+        let mut report = line("table printed".into(), self.tables);
+        report += &line("accepted".into(), self.accepted);
+        for number in 1..=21 {
+            let count = self.refused.get(&number).copied().unwrap_or(0);
+            report += &line(format!("refused {number}"), count);
+        }
+        report
+    }
+}

@@ -1,0 +1,33 @@
+//! Every line of `shared/vectors/jobs.txt`, where that file is present: a third opinion.
+
+use second::desk::{desk, from_hexadecimal};
+use second::notation::job_in_notation;
+use second::operations::Operation;
+
+#[test]
+fn desk_prints_what_the_vectors_expect() {
+    let path = concat!(env!("CARGO_MANIFEST_DIR"), "/../../shared/vectors/jobs.txt");
+    let Ok(file) = std::fs::read_to_string(path) else {
+        println!("no vectors at {path}: nothing compared");
+        return;
+    };
+    let mut passed = 0;
+    for (number, line) in file.lines().enumerate() {
+        // The empty job leaves its word empty.
+        let (job, expected) = line.split_once(' ').expect("two words a line");
+        let job = from_hexadecimal(job).expect("hexadecimal");
+        let expected = from_hexadecimal(expected).expect("hexadecimal");
+        let printed = desk(&job, &Operation::ALL);
+        assert!(
+            printed == expected,
+            "line {}:\n{}expected\n{}printed\n{}",
+            number + 1,
+            job_in_notation(&job),
+            String::from_utf8_lossy(&expected),
+            String::from_utf8_lossy(&printed)
+        );
+        passed += 1;
+    }
+    println!("{passed} vectors passed");
+    assert!(passed > 0, "the vectors file is empty");
+}
