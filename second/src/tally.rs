@@ -2,6 +2,8 @@
 
 use std::collections::BTreeMap;
 
+const MOST_LINES: usize = 100;
+
 #[derive(Clone, Default)]
 pub struct Tally {
     /// Lines `OK length`.
@@ -13,22 +15,19 @@ pub struct Tally {
 }
 
 impl Tally {
+    /// Counts a job's lines; of a very long output the first ones only, so that one job with
+    /// thousands of requests does not stand for all.
     pub fn count(&mut self, printed: &[u8]) {
-        for line in String::from_utf8_lossy(printed).lines() {
+        for line in String::from_utf8_lossy(printed).lines().take(MOST_LINES) {
             let mut words = line.split(' ');
-            match (words.next(), words.next().and_then(|word| word.parse::<u16>().ok())) {
+            match (
+                words.next(),
+                words.next().and_then(|word| word.parse::<u16>().ok()),
+            ) {
                 (Some("OK"), _) => self.accepted += 1,
                 (Some("NO"), Some(number)) => *self.refused.entry(number).or_default() += 1,
                 _ => self.tables += 1,
             }
-        }
-    }
-
-    pub fn add(&mut self, other: &Tally) {
-        self.accepted += other.accepted;
-        self.tables += other.tables;
-        for (number, count) in &other.refused {
-            *self.refused.entry(*number).or_default() += count;
         }
     }
 
@@ -37,7 +36,10 @@ impl Tally {
         let refused: usize = self.refused.values().sum();
         let all = self.accepted + self.tables + refused;
         let line = |name: String, count: usize| {
-            format!("  {name:<16}{count:>8}{:>8.2} %\n", 100.0 * count as f64 / all.max(1) as f64)
+            format!(
+                "  {name:<16}{count:>8}{:>8.2} %\n",
+                100.0 * count as f64 / all.max(1) as f64
+            )
         };
         let mut report = line("table printed".into(), self.tables);
         report += &line("accepted".into(), self.accepted);

@@ -35,7 +35,15 @@ pub fn damaged(random: &mut Random) -> Vec<u8> {
 }
 
 pub fn bytes(random: &mut Random, length: usize) -> Vec<u8> {
-    (0..length).map(|_| if random.chance(50) { random.letter(b"UNESGTXPHOC\0\0\x01") } else { random.below(256) as u8 }).collect()
+    (0..length)
+        .map(|_| {
+            if random.chance(50) {
+                random.letter(b"UNESGTXPHOC\0\0\x01")
+            } else {
+                random.below(256) as u8
+            }
+        })
+        .collect()
 }
 
 fn flip(random: &mut Random, table: &mut [u8]) {

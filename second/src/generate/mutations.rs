@@ -45,10 +45,17 @@ pub fn mutate(random: &mut Random, records: &mut RawRecords) {
         4 => drop(records.remove(at)),
         5 => {
             let place = random.below(records.len() + 1);
-            records.insert(if random.chance(50) { at } else { place }, records[at].clone());
+            records.insert(
+                if random.chance(50) { at } else { place },
+                records[at].clone(),
+            );
         }
         6 => {
-            let other = if random.chance(60) { at + 1 } else { random.below(records.len()) };
+            let other = if random.chance(60) {
+                at + 1
+            } else {
+                random.below(records.len())
+            };
             let other = other.min(records.len() - 1);
             records.swap(at, other);
         }
@@ -66,7 +73,10 @@ pub fn mutate(random: &mut Random, records: &mut RawRecords) {
 
 fn is_code(record: &[u8]) -> bool {
     record.len() == 12
-        && matches!(&record[..2], b"PH" | b"PO" | b"PC" | b"SC" | b"EC" | b"IS" | b"IE")
+        && matches!(
+            &record[..2],
+            b"PH" | b"PO" | b"PC" | b"SC" | b"EC" | b"IS" | b"IE"
+        )
 }
 
 /// Where the letters of a record stand, with letters that fit there or nearly.
@@ -76,7 +86,13 @@ fn letters(record: &[u8]) -> Vec<(usize, &'static [u8])> {
         b"SG" => vec![(4, b"YN-"), (5, b"ITRF-")],
         b"MO" | b"SM" => vec![(4, b"YN-F")],
         _ if is_code(record) => {
-            vec![(8, b"YN"), (9, b"YN"), (10, b"YN-"), (11, b"YFN"), (11, b"YFN-")]
+            vec![
+                (8, b"YN"),
+                (9, b"YN"),
+                (10, b"YN-"),
+                (11, b"YFN"),
+                (11, b"YFN-"),
+            ]
         }
         _ => vec![],
     }
@@ -106,7 +122,11 @@ fn change_number(random: &mut Random, records: &mut RawRecords, at: usize) {
     if record.len() < 4 || &record[..2] == b"CP" || others.is_empty() {
         return;
     }
-    let place = if is_code(record) { *random.pick(&[2, 2, 4, 6]) } else { 2 };
+    let place = if is_code(record) {
+        *random.pick(&[2, 2, 4, 6])
+    } else {
+        2
+    };
     let old = u16::from_be_bytes([record[place], record[place + 1]]);
     let new = match random.below(8) {
         0 => [0, 0],
@@ -119,8 +139,15 @@ fn change_number(random: &mut Random, records: &mut RawRecords, at: usize) {
 
 /// `PO` to `SC` and the like, and back.
 fn twin_mark(record: &mut [u8]) {
-    let twins: [(&Mark, &Mark); 7] = [(b"PO", b"SC"), (b"PC", b"EC"), (b"MO", b"SM"),
-        (b"MC", b"EM"), (b"IS", b"IE"), (b"SG", b"CP"), (b"IG", b"TG")];
+    let twins: [(&Mark, &Mark); 7] = [
+        (b"PO", b"SC"),
+        (b"PC", b"EC"),
+        (b"MO", b"SM"),
+        (b"MC", b"EM"),
+        (b"IS", b"IE"),
+        (b"SG", b"CP"),
+        (b"IG", b"TG"),
+    ];
     for (one, two) in twins {
         if &record[..2] == one {
             record[..2].copy_from_slice(two);
@@ -158,9 +185,20 @@ fn insert_record(random: &mut Random, records: &mut RawRecords, at: usize) {
 /// Text of length 0, no UTF-8, a forbidden code point, a length that is wrong; a `CP` that is
 /// allowed or too high. Another record takes a text before it.
 fn spoil_text(random: &mut Random, records: &mut RawRecords, at: usize) {
-    let spoiled: [&[u8]; 12] = [b"TX\0\0", b"TX\0\x01\xFF", b"TX\0\x02\xC0\x80", b"TX\0\x01\x0B",
-        b"TX\0\x03\xED\xA0\x80", b"TX\0\x03\xEF\xBF\xBE", b"TX\0\x05a", b"TX\0\x02\xC3\xA9",
-        b"CP\0\0\0A", b"CP\0\x11\0\0", b"CP\0\x10\xFF\xFF", b"CP\0\0\0\x7F"];
+    let spoiled: [&[u8]; 12] = [
+        b"TX\0\0",
+        b"TX\0\x01\xFF",
+        b"TX\0\x02\xC0\x80",
+        b"TX\0\x01\x0B",
+        b"TX\0\x03\xED\xA0\x80",
+        b"TX\0\x03\xEF\xBF\xBE",
+        b"TX\0\x05a",
+        b"TX\0\x02\xC3\xA9",
+        b"CP\0\0\0A",
+        b"CP\0\x11\0\0",
+        b"CP\0\x10\xFF\xFF",
+        b"CP\0\0\0\x7F",
+    ];
     let wrong = random.pick(&spoiled).to_vec();
     let record = &mut records[at];
     match &record[..2] {
@@ -194,7 +232,10 @@ fn change_class_of_id(records: &mut RawRecords, at: usize) {
         Some(id) if is_code(&records[at]) => id.to_vec(),
         _ => return,
     };
-    for record in records[at..].iter_mut().filter(|r| is_code(r) && r[2..4] == id) {
+    for record in records[at..]
+        .iter_mut()
+        .filter(|r| is_code(r) && r[2..4] == id)
+    {
         let mark: &[u8] = match &record[..2] {
             b"PO" => b"MO",
             b"SC" => b"SM",
@@ -205,7 +246,11 @@ fn change_class_of_id(records: &mut RawRecords, at: usize) {
                 continue;
             }
         };
-        let translate: &[u8] = if mark[1] == b'O' || mark[0] == b'S' { b"Y" } else { b"" };
+        let translate: &[u8] = if mark[1] == b'O' || mark[0] == b'S' {
+            b"Y"
+        } else {
+            b""
+        };
         *record = [mark, &id, translate].concat();
     }
 }

@@ -75,7 +75,11 @@ fn cut_anew(
         let waits = !with.contains(&part);
         for inline in content {
             let other_half_elsewhere = inline.half().is_some()
-                && content.iter().filter(|i| i.half().is_some() && i.id() == inline.id()).count() == 1;
+                && content
+                    .iter()
+                    .filter(|i| i.half().is_some() && i.id() == inline.id())
+                    .count()
+                    == 1;
             let left_out = (waits && other_half_elsewhere && random.chance(50))
                 || (inline.half().is_none() && random.chance(25));
             if !left_out {
@@ -136,7 +140,8 @@ pub fn edit(random: &mut Random, ids: &mut Ids, source: &Source, content: &mut V
 
 /// A copy (copyOf) of a source code with canCopy Y, under a new id.
 fn add_copy(random: &mut Random, ids: &mut Ids, source: &Source, content: &mut Vec<Inline>) {
-    let copyable = |inline: &&Inline| inline.is_start() && inline.code().is_some_and(|c| c.can_copy == b'Y');
+    let copyable =
+        |inline: &&Inline| inline.is_start() && inline.code().is_some_and(|c| c.can_copy == b'Y');
     let bases: Vec<&Inline> = source.contents.iter().flatten().filter(copyable).collect();
     if bases.is_empty() {
         return;
@@ -152,7 +157,11 @@ fn add_copy(random: &mut Random, ids: &mut Ids, source: &Source, content: &mut V
         let mut end = start.clone();
         end.mark = *b"EC";
         let bracket = random.chance(50);
-        let last = if bracket { place } else { place + random.below(content.len() + 1 - place) };
+        let last = if bracket {
+            place
+        } else {
+            place + random.below(content.len() + 1 - place)
+        };
         content.insert(last, Inline::Code(end));
         content.insert(place, Inline::Code(start));
         if bracket {

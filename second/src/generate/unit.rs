@@ -30,9 +30,16 @@ pub fn drafted(random: &mut Random, parts: usize) -> Unit {
     let mut ids = Ids::default();
     let source = source(random, &mut ids, parts);
     let targets = targets(random, &mut ids, &source);
-    let mut unit = Unit { can_resegment: random.letter(b"YYYYYN"), parts: Vec::new() };
+    let mut unit = Unit {
+        can_resegment: random.letter(b"YYYYYN"),
+        parts: Vec::new(),
+    };
     for (content, target) in source.contents.into_iter().zip(targets) {
-        let id = if random.chance(35) { 0 } else { ids.fresh(random) };
+        let id = if random.chance(35) {
+            0
+        } else {
+            ids.fresh(random)
+        };
         let kind = match random.below(4) {
             0 => PartKind::Ignorable,
             _ => PartKind::Segment {
@@ -40,9 +47,18 @@ pub fn drafted(random: &mut Random, parts: usize) -> Unit {
                 state: random.letter(b"ITRF"),
             },
         };
-        let target = target
-            .map(|(order, content)| Target { offset: 0, order, content: placed(content) });
-        unit.parts.push(Part { offset: 0, id, kind, source: placed(content), target });
+        let target = target.map(|(order, content)| Target {
+            offset: 0,
+            order,
+            content: placed(content),
+        });
+        unit.parts.push(Part {
+            offset: 0,
+            id,
+            kind,
+            source: placed(content),
+            target,
+        });
     }
     unit
 }
@@ -53,7 +69,9 @@ pub fn repaired(table: Vec<u8>) -> Option<Vec<u8>> {
     let mut records = raw_records(&table);
     for _ in 0..400 {
         let table = records.concat();
-        let Err(refusal) = check(&table) else { return Some(table) };
+        let Err(refusal) = check(&table) else {
+            return Some(table);
+        };
         let blamed = index_at(&records, refusal.place)?;
         if records[blamed].len() < 4 || matches!(&records[blamed][..2], b"SG" | b"IG" | b"TG") {
             return None;
@@ -70,7 +88,11 @@ pub fn repaired(table: Vec<u8>) -> Option<Vec<u8>> {
 fn allow_overlap(records: &mut RawRecords, blamed: usize) {
     let id = records[blamed][2..4].to_vec();
     for record in records.iter_mut() {
-        if record.len() == 12 && &record[..2] != b"PH" && &record[..2] != b"TX" && record[2..4] == id {
+        if record.len() == 12
+            && &record[..2] != b"PH"
+            && &record[..2] != b"TX"
+            && record[2..4] == id
+        {
             record[10] = b'Y';
         }
     }

@@ -9,7 +9,9 @@ pub fn remove_target(table: &[u8], part: u16, room: usize) -> Outcome {
     let unit = check(table)?;
     let refuse = |number| Err(Refusal::without_place(number));
     // "11."
-    let Some(old) = unit.part(part) else { return refuse(11) };
+    let Some(old) = unit.part(part) else {
+        return refuse(11);
+    };
     // "20: no target."
     if old.target.is_none() {
         return refuse(20);

@@ -3,9 +3,9 @@
 use super::{hand_out, Outcome};
 use crate::record::{Half, Inline, Mark};
 use crate::rules::check;
+use crate::rules::close_letter;
 use crate::rules::partners::partners;
 use crate::rules::sequence::{sequence, Side, Standing};
-use crate::rules::close_letter;
 use crate::table::Unit;
 use crate::Refusal;
 
@@ -29,7 +29,9 @@ pub fn rewrite(table: &[u8], side: u8, id: u16, form: u8, room: usize) -> Outcom
             && standing[*i].inline.half() == Some(Half::Start)
             && found[*i].is_some()
     };
-    let Some(start) = (0..standing.len()).find(is_start) else { return refuse(20) };
+    let Some(start) = (0..standing.len()).find(is_start) else {
+        return refuse(20);
+    };
     if form_of(standing[start].inline) == form {
         return refuse(20);
     }
@@ -51,12 +53,7 @@ fn form_of(start: &Inline) -> u8 {
 
 /// 21: "not in one content, not balanced between, or the end's canReorder is not the `PC`
 /// letter" refuses.
-fn may_be_pc(
-    standing: &[Standing],
-    found: &[Option<usize>],
-    start: usize,
-    end: usize,
-) -> bool {
+fn may_be_pc(standing: &[Standing], found: &[Option<usize>], start: usize, end: usize) -> bool {
     let one_content = standing[start].part == standing[end].part;
     let between = start + 1..end;
     let balanced = between.clone().all(|i| match standing[i].inline.mark() {

@@ -8,8 +8,13 @@ use crate::table::Unit;
 /// Rule 8, in both sequences.
 pub fn rule_8(unit: &Unit) -> Option<usize> {
     let (source, target) = (source_sequence(unit), target_sequence(unit));
-    let faults = [partner_faults(&source), partner_faults(&target), letter_faults(&source),
-        letter_faults(&target), firstless(&source)];
+    let faults = [
+        partner_faults(&source),
+        partner_faults(&target),
+        letter_faults(&source),
+        letter_faults(&target),
+        firstless(&source),
+    ];
     faults.into_iter().flatten().min()
 }
 
@@ -22,7 +27,12 @@ fn partner_faults(sequence: &[Standing]) -> Vec<usize> {
             continue;
         };
         let end = &sequence[*partner];
-        if position < *partner && end.inline.code().is_some_and(|end| partners_differ(start, end)) {
+        if position < *partner
+            && end
+                .inline
+                .code()
+                .is_some_and(|end| partners_differ(start, end))
+        {
             faults.push(end.offset);
         }
     }
@@ -32,7 +42,14 @@ fn partner_faults(sequence: &[Standing]) -> Vec<usize> {
 /// "partners differ in copyOf, canCopy, canDelete or canOverlap; an end whose start has F is
 /// not N; a `PC` letter is not N for F and else equal to `PO`'s".
 fn partners_differ(start: &Code, end: &Code) -> bool {
-    let fields = |code: &Code| (code.copy_of, code.can_copy, code.can_delete, code.can_overlap);
+    let fields = |code: &Code| {
+        (
+            code.copy_of,
+            code.can_copy,
+            code.can_delete,
+            code.can_overlap,
+        )
+    };
     fields(start) != fields(end)
         || (start.can_reorder == b'F' && end.can_reorder != b'N')
         || (&end.mark == b"PC" && end.can_reorder != close_letter(start))
@@ -52,7 +69,9 @@ fn letter_faults(sequence: &[Standing]) -> Vec<usize> {
     let at_fault = |code: &Code| {
         code.can_reorder != b'Y' && (code.can_copy == b'Y' || code.can_delete == b'Y')
     };
-    let faults = sequence.iter().filter(|s| s.inline.code().is_some_and(at_fault));
+    let faults = sequence
+        .iter()
+        .filter(|s| s.inline.code().is_some_and(at_fault));
     faults.map(|s| s.offset).collect()
 }
 
@@ -60,12 +79,18 @@ fn letter_faults(sequence: &[Standing]) -> Vec<usize> {
 fn firstless(source: &[Standing]) -> Vec<usize> {
     let reorder = |s: &Standing| s.inline.code().map(|code| code.can_reorder);
     let before_first = source.iter().take_while(|s| reorder(s) != Some(b'F'));
-    before_first.filter(|s| reorder(s) == Some(b'N')).map(|s| s.offset).collect()
+    before_first
+        .filter(|s| reorder(s) == Some(b'N'))
+        .map(|s| s.offset)
+        .collect()
 }
 
 /// Rule 9, in both sequences.
 pub fn rule_9(unit: &Unit) -> Option<usize> {
-    let faults = [overlap_faults(&source_sequence(unit)), overlap_faults(&target_sequence(unit))];
+    let faults = [
+        overlap_faults(&source_sequence(unit)),
+        overlap_faults(&target_sequence(unit)),
+    ];
     faults.into_iter().flatten().min()
 }
 
@@ -75,7 +100,9 @@ fn overlap_faults(sequence: &[Standing]) -> Vec<usize> {
     let found = partners(sequence);
     let mut faults = Vec::new();
     for (start, partner) in found.iter().enumerate() {
-        let (Some(end), Inline::Code(code)) = (*partner, sequence[start].inline) else { continue };
+        let (Some(end), Inline::Code(code)) = (*partner, sequence[start].inline) else {
+            continue;
+        };
         if start > end || code.can_overlap != b'N' {
             continue;
         }
@@ -114,24 +141,37 @@ fn differs_from_source(record: &Inline, source: &[Standing]) -> bool {
     if start.inline.class() != record.class() {
         return true;
     }
-    let Some(code) = record.code() else { return false };
+    let Some(code) = record.code() else {
+        return false;
+    };
     let same_half = |s: &&Standing| s.inline.half() == record.half();
-    let counterpart = source.iter().filter(of_id).find(same_half).and_then(|s| s.inline.code());
+    let counterpart = source
+        .iter()
+        .filter(of_id)
+        .find(same_half)
+        .and_then(|s| s.inline.code());
     code.copy_of != 0
-        || !counterpart.is_some_and(|c| {
-            (c.data_ref, letters(c)) == (code.data_ref, letters(code))
-        })
+        || !counterpart.is_some_and(|c| (c.data_ref, letters(c)) == (code.data_ref, letters(code)))
 }
 
 fn letters(code: &Code) -> [u8; 4] {
-    [code.can_copy, code.can_delete, code.can_overlap, code.can_reorder]
+    [
+        code.can_copy,
+        code.can_delete,
+        code.can_overlap,
+        code.can_reorder,
+    ]
 }
 
 /// "or is not 0 and names no source code of that class with canCopy Y".
 fn names_no_code(record: &Inline, source: &[Standing]) -> bool {
-    let Some(code) = record.code().filter(|code| code.copy_of != 0) else { return false };
+    let Some(code) = record.code().filter(|code| code.copy_of != 0) else {
+        return false;
+    };
     !source.iter().any(|s| {
         s.inline.class() == record.class()
-            && s.inline.code().is_some_and(|c| c.id == code.copy_of && c.can_copy == b'Y')
+            && s.inline
+                .code()
+                .is_some_and(|c| c.id == code.copy_of && c.can_copy == b'Y')
     })
 }

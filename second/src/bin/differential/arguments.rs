@@ -18,8 +18,13 @@ pub struct Arguments {
 
 pub fn read(mut words: impl Iterator<Item = String>) -> Result<Arguments, String> {
     let program = PathBuf::from(words.next().ok_or("no desk program named")?);
-    let mut arguments =
-        Arguments { program, jobs: 10_000, seed: 20_260_101, operations: Vec::new(), vectors: None };
+    let mut arguments = Arguments {
+        program,
+        jobs: 10_000,
+        seed: 20_260_101,
+        operations: Vec::new(),
+        vectors: None,
+    };
     while let Some(option) = words.next() {
         let value = words.next().ok_or(format!("{option} without a value"))?;
         match option.as_str() {
@@ -47,8 +52,6 @@ fn number<T: std::str::FromStr>(word: &str) -> Result<T, String> {
 fn operations(word: &str) -> Result<Vec<Operation>, String> {
     let marks = word.split(',').filter(|mark| !mark.is_empty());
     marks
-        .map(|mark| {
-            Operation::of_mark(mark.as_bytes()).ok_or(format!("{mark} marks no operation"))
-        })
+        .map(|mark| Operation::of_mark(mark.as_bytes()).ok_or(format!("{mark} marks no operation")))
         .collect()
 }

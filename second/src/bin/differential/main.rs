@@ -47,11 +47,18 @@ struct Results {
 }
 
 fn compare_generated(arguments: &Arguments, results: &Results) -> Result<(), String> {
-    let Arguments { seed, operations, .. } = arguments;
+    let Arguments {
+        seed, operations, ..
+    } = arguments;
     let case = |number: usize| {
         let (kind, job) = job(*seed, number as u64, operations);
         let name = format!("job {number} of seed {seed} ({})", kind.name());
-        Case { name, kind: Some(kind), expected: desk(&job, operations), job }
+        Case {
+            name,
+            kind: Some(kind),
+            expected: desk(&job, operations),
+            job,
+        }
     };
     compare(&arguments.program, arguments.jobs, case, |case| {
         let place = Kind::ALL.iter().position(|kind| Some(*kind) == case.kind);
@@ -91,7 +98,7 @@ impl Results {
         for (kind, count) in Kind::ALL.iter().zip(kinds) {
             println!("  {:<34}{count:>6}", kind.name());
         }
-        println!("answers, of all printed lines:");
+        println!("answers, of all printed lines (of a job at most the first 100):");
         print!("{}", self.tally.lock().unwrap().report());
         if arguments.vectors.is_some() {
             println!("vectors: {vectors} passed, {passed_over} passed over (operation not there)");

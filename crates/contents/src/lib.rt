@@ -1,0 +1,4 @@
+// The contents of a table, each by itself.
+pub fn tg_key() -> u32 {
+    1
+}
