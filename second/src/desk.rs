@@ -8,28 +8,11 @@ use crate::{Refusal, MOST_BYTES, MOST_JOB_BYTES};
 /// A request of a job, read by mark and length only: "Wrong letters go to the operation."
 #[derive(Clone, Debug, PartialEq, Eq)]
 pub enum Request<'a> {
-    Split {
-        part: u16,
-        source_cut: u16,
-        target_cut: u16,
-        new_id: u16,
-    },
-    Join {
-        part: u16,
-    },
-    SetTarget {
-        part: u16,
-        state: u8,
-        content: &'a [u8],
-    },
-    RemoveTarget {
-        part: u16,
-    },
-    Rewrite {
-        side: u8,
-        id: u16,
-        form: u8,
-    },
+    Split { part: u16, source_cut: u16, target_cut: u16, new_id: u16 },
+    Join { part: u16 },
+    SetTarget { part: u16, state: u8, content: &'a [u8] },
+    RemoveTarget { part: u16 },
+    Rewrite { side: u8, id: u16, form: u8 },
 }
 
 impl Request<'_> {
@@ -45,18 +28,13 @@ impl Request<'_> {
 
     pub fn run(&self, table: &[u8], room: usize) -> Outcome {
         match *self {
-            Request::Split {
-                part,
-                source_cut,
-                target_cut,
-                new_id,
-            } => split(table, part, source_cut, target_cut, new_id, room),
+            Request::Split { part, source_cut, target_cut, new_id } => {
+                split(table, part, source_cut, target_cut, new_id, room)
+            }
             Request::Join { part } => join(table, part, room),
-            Request::SetTarget {
-                part,
-                state,
-                content,
-            } => set_target(table, part, state, content, room),
+            Request::SetTarget { part, state, content } => {
+                set_target(table, part, state, content, room)
+            }
             Request::RemoveTarget { part } => remove_target(table, part, room),
             Request::Rewrite { side, id, form } => rewrite(table, side, id, form, room),
         }
@@ -96,22 +74,14 @@ pub fn read_request(job: &[u8], offset: usize) -> Option<(Request<'_>, usize)> {
             target_cut: number_at(bytes, 6),
             new_id: number_at(bytes, 8),
         },
-        Operation::Join => Request::Join {
-            part: number_at(bytes, 2),
-        },
-        Operation::SetTarget => Request::SetTarget {
-            part: number_at(bytes, 2),
-            state: bytes[4],
-            content: &bytes[7..],
-        },
-        Operation::RemoveTarget => Request::RemoveTarget {
-            part: number_at(bytes, 2),
-        },
-        Operation::Rewrite => Request::Rewrite {
-            side: bytes[2],
-            id: number_at(bytes, 3),
-            form: bytes[5],
-        },
+        Operation::Join => Request::Join { part: number_at(bytes, 2) },
+        Operation::SetTarget => {
+            Request::SetTarget { part: number_at(bytes, 2), state: bytes[4], content: &bytes[7..] }
+        }
+        Operation::RemoveTarget => Request::RemoveTarget { part: number_at(bytes, 2) },
+        Operation::Rewrite => {
+            Request::Rewrite { side: bytes[2], id: number_at(bytes, 3), form: bytes[5] }
+        }
     };
     Some((request, length))
 }
@@ -137,10 +107,7 @@ pub fn desk(input: &[u8], operations: &[Operation]) -> Vec<u8> {
             read_request(job, offset).filter(|(r, _)| operations.contains(&r.operation()));
         // "is unreadable: it prints `NO 2` with its offset in the job and ends the requests."
         let Some((request, length)) = readable else {
-            printed += &refused_line(Refusal {
-                number: 2,
-                place: offset,
-            });
+            printed += &refused_line(Refusal { number: 2, place: offset });
             break;
         };
         match request.run(&table, MOST_BYTES) {
@@ -168,15 +135,8 @@ pub fn hexadecimal(bytes: &[u8]) -> String {
 
 /// Bytes from hexadecimal in either case; nothing if it is none.
 pub fn from_hexadecimal(text: &str) -> Option<Vec<u8>> {
-    let digits: Option<Vec<u8>> = text
-        .chars()
-        .map(|c| c.to_digit(16).map(|digit| digit as u8))
-        .collect();
+    let digits: Option<Vec<u8>> =
+        text.chars().map(|c| c.to_digit(16).map(|digit| digit as u8)).collect();
     let digits = digits.filter(|digits| digits.len() % 2 == 0)?;
-    Some(
-        digits
-            .chunks(2)
-            .map(|pair| pair[0] << 4 | pair[1])
-            .collect(),
-    )
+    Some(digits.chunks(2).map(|pair| pair[0] << 4 | pair[1]).collect())
 }

@@ -24,11 +24,7 @@ pub fn job_in_notation(input: &[u8]) -> String {
         offset += length;
     }
     if job.len() < input.len() {
-        lines += &format!(
-            "{}  ({} bytes not read)\n",
-            job.len(),
-            input.len() - job.len()
-        );
+        lines += &format!("{}  ({} bytes not read)\n", job.len(), input.len() - job.len());
     }
     lines
 }
@@ -86,29 +82,16 @@ fn letter_in_notation(letter: u8) -> String {
 
 fn request_in_notation(request: &Request) -> String {
     match request {
-        Request::Split {
-            part,
-            source_cut,
-            target_cut,
-            new_id,
-        } => {
+        Request::Split { part, source_cut, target_cut, new_id } => {
             format!("SP {part} {source_cut} {target_cut} {new_id}")
         }
         Request::Join { part } => format!("JN {part}"),
-        Request::SetTarget {
-            part,
-            state,
-            content,
-        } => {
+        Request::SetTarget { part, state, content } => {
             format!("ST {part} {} {}", letter_in_notation(*state), content.len())
         }
         Request::RemoveTarget { part } => format!("RT {part}"),
         Request::Rewrite { side, id, form } => {
-            format!(
-                "RW {} {id} {}",
-                letter_in_notation(*side),
-                letter_in_notation(*form)
-            )
+            format!("RW {} {id} {}", letter_in_notation(*side), letter_in_notation(*form))
         }
     }
 }

@@ -51,21 +51,11 @@ pub enum Inline {
 
 #[derive(Clone, Debug, PartialEq, Eq)]
 pub enum Record {
-    Unit {
-        can_resegment: u8,
-    },
+    Unit { can_resegment: u8 },
     UnitEnd,
-    Segment {
-        id: u16,
-        can_resegment: u8,
-        state: u8,
-    },
-    Ignorable {
-        id: u16,
-    },
-    Target {
-        order: u16,
-    },
+    Segment { id: u16, can_resegment: u8, state: u8 },
+    Ignorable { id: u16 },
+    Target { order: u16 },
     Inline(Inline),
 }
 
@@ -98,21 +88,15 @@ pub fn read_record(bytes: &[u8], offset: usize) -> Option<(Record, usize)> {
     let record = &bytes[offset..offset + length];
     let fields = &record[2..];
     let read = match &record[..2] {
-        b"UN" => Record::Unit {
-            can_resegment: letter(fields[0], b"YN")?,
-        },
+        b"UN" => Record::Unit { can_resegment: letter(fields[0], b"YN")? },
         b"UE" => Record::UnitEnd,
         b"SG" => Record::Segment {
             id: number_at(fields, 0),
             can_resegment: letter(fields[2], b"YN-")?,
             state: letter(fields[3], b"ITRF")?,
         },
-        b"IG" => Record::Ignorable {
-            id: number_at(fields, 0),
-        },
-        b"TG" => Record::Target {
-            order: number_at(fields, 0),
-        },
+        b"IG" => Record::Ignorable { id: number_at(fields, 0) },
+        b"TG" => Record::Target { order: number_at(fields, 0) },
         b"TX" => Record::Inline(Inline::Text(fields[2..].to_vec())),
         b"CP" => Record::Inline(Inline::Character(
             u32::from(number_at(fields, 0)) << 16 | u32::from(number_at(fields, 2)),
@@ -164,11 +148,7 @@ impl Record {
         match self {
             Record::Unit { can_resegment } => out.extend([b'U', b'N', *can_resegment]),
             Record::UnitEnd => out.extend(b"UE"),
-            Record::Segment {
-                id,
-                can_resegment,
-                state,
-            } => {
+            Record::Segment { id, can_resegment, state } => {
                 out.extend(b"SG");
                 out.extend(id.to_be_bytes());
                 out.extend([*can_resegment, *state]);
@@ -203,12 +183,7 @@ impl Inline {
                 for number in [code.id, code.copy_of, code.data_ref] {
                     out.extend(number.to_be_bytes());
                 }
-                out.extend([
-                    code.can_copy,
-                    code.can_delete,
-                    code.can_overlap,
-                    code.can_reorder,
-                ]);
+                out.extend([code.can_copy, code.can_delete, code.can_overlap, code.can_reorder]);
             }
             Inline::Annotation(annotation) => {
                 out.extend(annotation.mark);

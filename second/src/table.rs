@@ -55,17 +55,11 @@ pub fn read_table(table: &[u8]) -> Result<Unit, Refusal> {
     if table.len() > MOST_BYTES {
         return Err(Refusal::without_place(1));
     }
-    let mut unit = Unit {
-        can_resegment: b'N',
-        parts: Vec::new(),
-    };
+    let mut unit = Unit { can_resegment: b'N', parts: Vec::new() };
     let (mut stand, mut offset, mut records) = (Stand::Start, 0, 0);
     let mut after_text = false;
     while offset < table.len() {
-        let bad = |number| Refusal {
-            number,
-            place: offset,
-        };
+        let bad = |number| Refusal { number, place: offset };
         // "4 if it is the 65th part or 1,025th record": before 2 and 3, whatever begins here.
         let part_mark = matches!(table.get(offset..offset + 2), Some(b"SG") | Some(b"IG"));
         if records == MOST_RECORDS || (part_mark && unit.parts.len() == MOST_PARTS) {
@@ -84,10 +78,7 @@ pub fn read_table(table: &[u8]) -> Result<Unit, Refusal> {
     }
     // "a missing record is 2, blamed at the table's end".
     if stand != Stand::End {
-        return Err(Refusal {
-            number: 2,
-            place: table.len(),
-        });
+        return Err(Refusal { number: 2, place: table.len() });
     }
     Ok(unit)
 }
@@ -131,36 +122,16 @@ pub fn xml_allows(code_point: u32) -> bool {
 }
 
 fn take(unit: &mut Unit, record: Record, offset: usize) {
-    let new_part = |id, kind| Part {
-        offset,
-        id,
-        kind,
-        source: Vec::new(),
-        target: None,
-    };
+    let new_part = |id, kind| Part { offset, id, kind, source: Vec::new(), target: None };
     match record {
         Record::Unit { can_resegment } => unit.can_resegment = can_resegment,
         Record::UnitEnd => {}
-        Record::Segment {
-            id,
-            can_resegment,
-            state,
-        } => {
-            unit.parts.push(new_part(
-                id,
-                PartKind::Segment {
-                    can_resegment,
-                    state,
-                },
-            ));
+        Record::Segment { id, can_resegment, state } => {
+            unit.parts.push(new_part(id, PartKind::Segment { can_resegment, state }));
         }
         Record::Ignorable { id } => unit.parts.push(new_part(id, PartKind::Ignorable)),
         Record::Target { order } => {
-            last(unit).target = Some(Target {
-                offset,
-                order,
-                content: Vec::new(),
-            });
+            last(unit).target = Some(Target { offset, order, content: Vec::new() });
         }
         Record::Inline(inline) => {
             let part = last(unit);
@@ -174,9 +145,7 @@ fn take(unit: &mut Unit, record: Record, offset: usize) {
 }
 
 fn last(unit: &mut Unit) -> &mut Part {
-    unit.parts
-        .last_mut()
-        .expect("the sequence was judged before")
+    unit.parts.last_mut().expect("the sequence was judged before")
 }
 
 /// Set target: "Then 4, 2, 3, place in the content. The new content is judged by the content
@@ -185,10 +154,7 @@ pub fn read_content(bytes: &[u8]) -> Result<Vec<Placed>, Refusal> {
     let mut content: Vec<Placed> = Vec::new();
     let mut offset = 0;
     while offset < bytes.len() {
-        let bad = |number| Refusal {
-            number,
-            place: offset,
-        };
+        let bad = |number| Refusal { number, place: offset };
         if content.len() == MOST_RECORDS {
             return Err(bad(4));
         }
@@ -196,20 +162,11 @@ pub fn read_content(bytes: &[u8]) -> Result<Vec<Placed>, Refusal> {
         let Record::Inline(inline) = &record else {
             return Err(bad(2));
         };
-        let after_text = matches!(
-            content.last(),
-            Some(Placed {
-                inline: Inline::Text(_),
-                ..
-            })
-        );
+        let after_text = matches!(content.last(), Some(Placed { inline: Inline::Text(_), .. }));
         if !text_fits(&record, after_text) {
             return Err(bad(3));
         }
-        content.push(Placed {
-            offset,
-            inline: inline.clone(),
-        });
+        content.push(Placed { offset, inline: inline.clone() });
         offset += length;
     }
     Ok(content)
@@ -218,27 +175,18 @@ pub fn read_content(bytes: &[u8]) -> Result<Vec<Placed>, Refusal> {
 impl Unit {
     /// The unit as its records in table order.
     pub fn records(&self) -> Vec<Record> {
-        let mut records = vec![Record::Unit {
-            can_resegment: self.can_resegment,
-        }];
+        let mut records = vec![Record::Unit { can_resegment: self.can_resegment }];
         for part in &self.parts {
             records.push(match part.kind {
-                PartKind::Segment {
-                    can_resegment,
-                    state,
-                } => Record::Segment {
-                    id: part.id,
-                    can_resegment,
-                    state,
-                },
+                PartKind::Segment { can_resegment, state } => {
+                    Record::Segment { id: part.id, can_resegment, state }
+                }
                 PartKind::Ignorable => Record::Ignorable { id: part.id },
             });
             let inline = |placed: &Placed| Record::Inline(placed.inline.clone());
             records.extend(part.source.iter().map(inline));
             if let Some(target) = &part.target {
-                records.push(Record::Target {
-                    order: target.order,
-                });
+                records.push(Record::Target { order: target.order });
                 records.extend(target.content.iter().map(inline));
             }
         }

@@ -20,10 +20,7 @@ impl Tally {
     pub fn count(&mut self, printed: &[u8]) {
         for line in String::from_utf8_lossy(printed).lines().take(MOST_LINES) {
             let mut words = line.split(' ');
-            match (
-                words.next(),
-                words.next().and_then(|word| word.parse::<u16>().ok()),
-            ) {
+            match (words.next(), words.next().and_then(|word| word.parse::<u16>().ok())) {
                 (Some("OK"), _) => self.accepted += 1,
                 (Some("NO"), Some(number)) => *self.refused.entry(number).or_default() += 1,
                 _ => self.tables += 1,
@@ -36,10 +33,7 @@ impl Tally {
         let refused: usize = self.refused.values().sum();
         let all = self.accepted + self.tables + refused;
         let line = |name: String, count: usize| {
-            format!(
-                "  {name:<16}{count:>8}{:>8.2} %\n",
-                100.0 * count as f64 / all.max(1) as f64
-            )
+            format!("  {name:<16}{count:>8}{:>8.2} %\n", 100.0 * count as f64 / all.max(1) as f64)
         };
         let mut report = line("table printed".into(), self.tables);
         report += &line("accepted".into(), self.accepted);

@@ -19,12 +19,8 @@ fn valid_units_are_valid_and_rich() {
         at_once += usize::from(check(&drafted(random, 4).write()).is_ok());
         let unit = check(&valid_table(random)).expect("a valid table");
         parts += unit.parts.len();
-        let orders: Vec<u16> = unit
-            .parts
-            .iter()
-            .filter_map(|p| p.target.as_ref())
-            .map(|t| t.order)
-            .collect();
+        let orders: Vec<u16> =
+            unit.parts.iter().filter_map(|p| p.target.as_ref()).map(|t| t.order).collect();
         targets += orders.len();
         shuffled += usize::from(!orders.is_sorted());
         let target: Vec<&Inline> = unit
@@ -34,27 +30,18 @@ fn valid_units_are_valid_and_rich() {
             .flat_map(|t| &t.content)
             .map(|placed| &placed.inline)
             .collect();
-        copies += target
-            .iter()
-            .filter(|i| i.code().is_some_and(|c| c.copy_of != 0))
-            .count();
+        copies += target.iter().filter(|i| i.code().is_some_and(|c| c.copy_of != 0)).count();
         lone += target
             .iter()
             .filter(|i| i.half().is_some())
             .filter(|i| {
-                target
-                    .iter()
-                    .filter(|o| o.half().is_some() && o.id() == i.id())
-                    .count()
-                    == 1
+                target.iter().filter(|o| o.half().is_some() && o.id() == i.id()).count() == 1
             })
             .count();
         for record in unit.records() {
             let mut bytes = Vec::new();
             record.write(&mut bytes);
-            *marks
-                .entry(String::from_utf8_lossy(&bytes[..2]).into_owned())
-                .or_insert(0) += 1;
+            *marks.entry(String::from_utf8_lossy(&bytes[..2]).into_owned()).or_insert(0) += 1;
         }
     }
     println!("{units} units: {at_once} of as many drafts valid without repair; {parts} parts, {targets} targets,");
@@ -74,9 +61,6 @@ fn every_answer_is_reached() {
     }
     println!("{kinds:?}\n{}", tally.report());
     for number in 1..=21 {
-        assert!(
-            tally.refused.contains_key(&number),
-            "number {number} is not reached"
-        );
+        assert!(tally.refused.contains_key(&number), "number {number} is not reached");
     }
 }

@@ -1,11 +1,43 @@
 // A marker as one number: what rule 7 asks of it, so that its loops read no table.
 use views::View;
 ghost use mathlib.Core.Path.{_≡_};
-ghost use mathlib.Core.Bool.{cond, not, _&&_, _||_};
-ghost use Prim.Native.Nat.{ℕ, _+_, _*_, _/_, _%_, _<_, _≤_};
+ghost use mathlib.Core.Bool.{cond};
+ghost use Prim.Native.Nat.{_+_, _*_, _/_, _%_, _<_, _≤_};
 ghost use lib.ListN.{length, take};
-ghost use lib.Dec.{eqb};
-ghost use Rattle.keys.specs.Keys.{keysAt, alikeKeys, otherKey, halfKey, formKey, classKey};
+ghost use Rattle.places.specs.Markers.{item-at};
+ghost use Rattle.keys.specs.Keys.{key, keysAt, keyOf, alikeKeys, otherKey, halfKey, formKey, classKey};
+
+fn bit(b: bool) -> u32
+    ensures { λ r. ⌜ (r ≡ cond b 1 0) × (r ≤ 1) ⌝ }
+{
+    if b { 1 } else { 0 }
+}
+
+fn key_of(v: View) -> u32
+    ensures { λ r. ⌜ r ≡ keyOf v ⌝ }
+{
+    (v.id as u32) * 64 + ((v.class as u32) * 8 + ((v.half as u32) * 2 + bit(v.pform)))
+}
+
+// The key of the item at an offset; where none is, as a text's.
+pub fn key_at(t: &[u8], at: usize) -> u32
+    ensures { λ r. ⌜ r ≡ key (item-at (now (t .entry)) at) ⌝ }
+{
+    key_of(views::view_at(t, at))
+}
+
+// The keys of the items at some offsets, at the front of `out`.
+pub fn keys_at(t: &[u8], os: &[u16], out: &mut [u32]) -> usize
+    requires { ⌜ length (now os) ≤ length (now out) ⌝ }
+    ensures { λ r. ⌜ (r ≡ length (now (os .entry))) × (take r (now (out .exit)) ≡ keysAt (now (t .entry)) (now (os .entry))) × (length (now (out .exit)) ≡ length (now (out .entry))) ⌝ }
+{
+    let mut i: usize = 0;
+    while i < os.len() {
+        out[i] = key_at(t, views::wide(os[i]));
+        i += 1;
+    }
+    i
+}
 
 pub fn half_of(k: u32) -> u32
     ensures { λ r. ⌜ r ≡ halfKey k ⌝ }

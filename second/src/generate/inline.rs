@@ -5,20 +5,15 @@ use crate::operations::content::gather;
 use crate::record::{Annotation, Code, Inline, Mark};
 use crate::table::Placed;
 
-const WORDS: [&str; 12] = [
-    "A. B", "x", "Hello", " ", ". ", "naïve", "漢字", "😀", "e\u{301}", "\t\n", "\u{FFFD}", "½ a",
-];
+const WORDS: [&str; 12] =
+    ["A. B", "x", "Hello", " ", ". ", "naïve", "漢字", "😀", "e\u{301}", "\t\n", "\u{FFFD}", "½ a"];
 
 /// Code points that XML 1.0 forbids.
 const FORBIDDEN: [u32; 9] = [0, 1, 8, 0xB, 0x1F, 0xD800, 0xDFFF, 0xFFFE, 0xFFFF];
 
 pub fn text(random: &mut Random) -> Inline {
     let words = 1 + random.below(3);
-    Inline::Text(
-        (0..words)
-            .flat_map(|_| random.pick(&WORDS).bytes())
-            .collect(),
-    )
+    Inline::Text((0..words).flat_map(|_| random.pick(&WORDS).bytes()).collect())
 }
 
 pub fn character(random: &mut Random) -> Inline {
@@ -27,20 +22,12 @@ pub fn character(random: &mut Random) -> Inline {
 
 /// A code whose letters allow everything.
 pub fn code(mark: &Mark, id: u16, random: &mut Random) -> Inline {
-    let can_overlap = if mark == b"PH" {
-        b'-'
-    } else {
-        random.letter(b"YYN")
-    };
+    let can_overlap = if mark == b"PH" { b'-' } else { random.letter(b"YYN") };
     Inline::Code(Code {
         mark: *mark,
         id,
         copy_of: 0,
-        data_ref: if random.chance(40) {
-            random.number(9)
-        } else {
-            0
-        },
+        data_ref: if random.chance(40) { random.number(9) } else { 0 },
         can_copy: b'Y',
         can_delete: b'Y',
         can_overlap,
@@ -50,11 +37,7 @@ pub fn code(mark: &Mark, id: u16, random: &mut Random) -> Inline {
 
 pub fn annotation(mark: &Mark, id: u16, random: &mut Random) -> Inline {
     let translate = (mark == b"MO" || mark == b"SM").then(|| random.letter(b"YN-"));
-    Inline::Annotation(Annotation {
-        mark: *mark,
-        id,
-        translate,
-    })
+    Inline::Annotation(Annotation { mark: *mark, id, translate })
 }
 
 /// The two halves of a new pair (or annotation), as start and end marks.
@@ -68,9 +51,7 @@ pub fn halves(random: &mut Random, ids: &mut Ids, pair: bool) -> (Inline, Inline
 
 /// Cuts a flat sequence into this many contents, some of them empty.
 pub fn cut_into(random: &mut Random, flat: Vec<Inline>, contents: usize) -> Vec<Vec<Inline>> {
-    let mut cuts: Vec<usize> = (1..contents)
-        .map(|_| random.below(flat.len() + 1))
-        .collect();
+    let mut cuts: Vec<usize> = (1..contents).map(|_| random.below(flat.len() + 1)).collect();
     cuts.sort_unstable();
     cuts.push(flat.len());
     let mut first = 0;
@@ -84,10 +65,7 @@ pub fn cut_into(random: &mut Random, flat: Vec<Inline>, contents: usize) -> Vec<
 
 /// Turns the halves of the id to pc or mrk where both stand in this content.
 pub fn turn_to_brackets(content: &mut [Inline], id: u16) {
-    if content
-        .iter()
-        .filter(|inline| inline.half().is_some() && inline.id() == Some(id))
-        .count()
+    if content.iter().filter(|inline| inline.half().is_some() && inline.id() == Some(id)).count()
         != 2
     {
         return;

@@ -28,22 +28,14 @@ fn many_parts(random: &mut Random) -> Vec<u8> {
     let parts = 63 + random.below(4);
     let mut table = b"UNY".to_vec();
     for part in 0..parts {
-        table.extend(if random.chance(30) {
-            b"IG\0\0".as_slice()
-        } else {
-            b"SG\0\0-T"
-        });
+        table.extend(if random.chance(30) { b"IG\0\0".as_slice() } else { b"SG\0\0-T" });
         table.extend(b"TX\0\x02ab");
         if random.chance(50) {
             table.extend([b'T', b'G', 0, part as u8 + 1]);
         }
     }
     if random.chance(30) {
-        table.extend(
-            random
-                .pick(&[b"SG".as_slice(), b"SG\0\0XX", b"IG\0", b"SG\0\0-"])
-                .iter(),
-        );
+        table.extend(random.pick(&[b"SG".as_slice(), b"SG\0\0XX", b"IG\0", b"SG\0\0-"]).iter());
     }
     if random.chance(85) {
         table.extend(b"UE");
@@ -72,16 +64,8 @@ fn many_records(random: &mut Random) -> Vec<u8> {
 
 /// 8,180 to 8,194 bytes, most of them text.
 fn many_bytes(random: &mut Random) -> Vec<u8> {
-    let wanted = if random.chance(60) {
-        8190 + random.below(5)
-    } else {
-        8180 + random.below(14)
-    };
-    let mut table = if random.chance(60) {
-        valid_table(random)
-    } else {
-        b"UNYSG\0\0-TUE".to_vec()
-    };
+    let wanted = if random.chance(60) { 8190 + random.below(5) } else { 8180 + random.below(14) };
+    let mut table = if random.chance(60) { valid_table(random) } else { b"UNYSG\0\0-TUE".to_vec() };
     table.truncate(table.len() - 2);
     // One more part, closed or open, with a long text and sometimes a short second one.
     let parts: [&[u8]; 3] = [b"SG\0\0-T", b"SG\0\0YT", b"IG\0\0"];
@@ -109,11 +93,7 @@ fn text_lengths(random: &mut Random) -> Vec<u8> {
 /// Jobs of about 65,535 bytes: later input is not read.
 fn long_job(random: &mut Random) -> Vec<u8> {
     let length = 65530 + random.below(12);
-    let mut job = if random.chance(80) {
-        valid_table(random)
-    } else {
-        bytes(random, 9000)
-    };
+    let mut job = if random.chance(80) { valid_table(random) } else { bytes(random, 9000) };
     match random.below(4) {
         0 if random.chance(10) => {
             while job.len() < length {
@@ -134,13 +114,7 @@ fn long_job(random: &mut Random) -> Vec<u8> {
             // Set targets with contents of many records and bytes.
             while job.len() < length {
                 let records = 900 + random.below(600);
-                job.extend([
-                    b'S',
-                    b'T',
-                    0,
-                    1 + random.below(9) as u8,
-                    random.letter(b"IT-"),
-                ]);
+                job.extend([b'S', b'T', 0, 1 + random.below(9) as u8, random.letter(b"IT-")]);
                 job.extend((6 * records as u16).to_be_bytes());
                 job.extend(b"CP\0\0\0\x02".repeat(records));
             }

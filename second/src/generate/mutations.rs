@@ -45,17 +45,10 @@ pub fn mutate(random: &mut Random, records: &mut RawRecords) {
         4 => drop(records.remove(at)),
         5 => {
             let place = random.below(records.len() + 1);
-            records.insert(
-                if random.chance(50) { at } else { place },
-                records[at].clone(),
-            );
+            records.insert(if random.chance(50) { at } else { place }, records[at].clone());
         }
         6 => {
-            let other = if random.chance(60) {
-                at + 1
-            } else {
-                random.below(records.len())
-            };
+            let other = if random.chance(60) { at + 1 } else { random.below(records.len()) };
             let other = other.min(records.len() - 1);
             records.swap(at, other);
         }
@@ -73,10 +66,7 @@ pub fn mutate(random: &mut Random, records: &mut RawRecords) {
 
 fn is_code(record: &[u8]) -> bool {
     record.len() == 12
-        && matches!(
-            &record[..2],
-            b"PH" | b"PO" | b"PC" | b"SC" | b"EC" | b"IS" | b"IE"
-        )
+        && matches!(&record[..2], b"PH" | b"PO" | b"PC" | b"SC" | b"EC" | b"IS" | b"IE")
 }
 
 /// Where the letters of a record stand, with letters that fit there or nearly.
@@ -86,13 +76,7 @@ fn letters(record: &[u8]) -> Vec<(usize, &'static [u8])> {
         b"SG" => vec![(4, b"YN-"), (5, b"ITRF-")],
         b"MO" | b"SM" => vec![(4, b"YN-F")],
         _ if is_code(record) => {
-            vec![
-                (8, b"YN"),
-                (9, b"YN"),
-                (10, b"YN-"),
-                (11, b"YFN"),
-                (11, b"YFN-"),
-            ]
+            vec![(8, b"YN"), (9, b"YN"), (10, b"YN-"), (11, b"YFN"), (11, b"YFN-")]
         }
         _ => vec![],
     }
@@ -122,11 +106,7 @@ fn change_number(random: &mut Random, records: &mut RawRecords, at: usize) {
     if record.len() < 4 || &record[..2] == b"CP" || others.is_empty() {
         return;
     }
-    let place = if is_code(record) {
-        *random.pick(&[2, 2, 4, 6])
-    } else {
-        2
-    };
+    let place = if is_code(record) { *random.pick(&[2, 2, 4, 6]) } else { 2 };
     let old = u16::from_be_bytes([record[place], record[place + 1]]);
     let new = match random.below(8) {
         0 => [0, 0],
@@ -232,10 +212,7 @@ fn change_class_of_id(records: &mut RawRecords, at: usize) {
         Some(id) if is_code(&records[at]) => id.to_vec(),
         _ => return,
     };
-    for record in records[at..]
-        .iter_mut()
-        .filter(|r| is_code(r) && r[2..4] == id)
-    {
+    for record in records[at..].iter_mut().filter(|r| is_code(r) && r[2..4] == id) {
         let mark: &[u8] = match &record[..2] {
             b"PO" => b"MO",
             b"SC" => b"SM",
@@ -246,11 +223,7 @@ fn change_class_of_id(records: &mut RawRecords, at: usize) {
                 continue;
             }
         };
-        let translate: &[u8] = if mark[1] == b'O' || mark[0] == b'S' {
-            b"Y"
-        } else {
-            b""
-        };
+        let translate: &[u8] = if mark[1] == b'O' || mark[0] == b'S' { b"Y" } else { b"" };
         *record = [mark, &id, translate].concat();
     }
 }

@@ -35,11 +35,8 @@ pub fn request_list(
 
 /// A request, nearly always of an operation that the desk has.
 fn request(random: &mut Random, unit: &Unit, operations: &[Operation]) -> Vec<u8> {
-    let known = if operations.is_empty() || random.chance(3) {
-        &Operation::ALL
-    } else {
-        operations
-    };
+    let known =
+        if operations.is_empty() || random.chance(3) { &Operation::ALL } else { operations };
     match *random.pick(known) {
         Operation::Split => split_request(random, unit),
         Operation::Join => join_request(random, unit),
@@ -68,17 +65,13 @@ pub fn unreadable(random: &mut Random, unit: &Unit, operations: &[Operation]) ->
 
 fn numbers(mark: &[u8; 2], fields: &[u16]) -> Vec<u8> {
     let mut request = mark.to_vec();
-    fields
-        .iter()
-        .for_each(|field| request.extend(field.to_be_bytes()));
+    fields.iter().for_each(|field| request.extend(field.to_be_bytes()));
     request
 }
 
 /// The number of a part: mostly one that suits, else any, 0 or one too high.
 pub fn part_number(random: &mut Random, unit: &Unit, suits: impl Fn(&Part) -> bool) -> u16 {
-    let fitting: Vec<usize> = (0..unit.parts.len())
-        .filter(|&i| suits(&unit.parts[i]))
-        .collect();
+    let fitting: Vec<usize> = (0..unit.parts.len()).filter(|&i| suits(&unit.parts[i])).collect();
     let all = unit.parts.len() as u16;
     match random.below(20) {
         0 => random.number(all),
@@ -95,9 +88,7 @@ fn split_request(random: &mut Random, unit: &Unit) -> Vec<u8> {
     let (source_items, target_items) = match unit.part(number) {
         Some(part) => (
             items(&part.source).len(),
-            part.target
-                .as_ref()
-                .map_or(0, |target| items(&target.content).len()),
+            part.target.as_ref().map_or(0, |target| items(&target.content).len()),
         ),
         None => (3, 3),
     };
@@ -111,23 +102,13 @@ fn split_request(random: &mut Random, unit: &Unit) -> Vec<u8> {
         _ => random.below(target_items + 1),
     };
     let new_id = new_id(random, unit);
-    numbers(
-        b"SP",
-        &[number, source_cut as u16, target_cut as u16, new_id],
-    )
+    numbers(b"SP", &[number, source_cut as u16, target_cut as u16, new_id])
 }
 
 /// 0, an id that is used, or any.
 fn new_id(random: &mut Random, unit: &Unit) -> u16 {
-    let inline_ids = contents(unit)
-        .flatten()
-        .filter_map(|placed| placed.inline.id());
-    let used: Vec<u16> = unit
-        .parts
-        .iter()
-        .map(|part| part.id)
-        .chain(inline_ids)
-        .collect();
+    let inline_ids = contents(unit).flatten().filter_map(|placed| placed.inline.id());
+    let used: Vec<u16> = unit.parts.iter().map(|part| part.id).chain(inline_ids).collect();
     match random.below(10) {
         0..=1 => 0,
         2 => *random.pick(&used),
@@ -177,19 +158,12 @@ fn rewrite_request(random: &mut Random, unit: &Unit) -> Vec<u8> {
         halves.extend(target.map(|placed| (b'T', &placed.inline)));
     }
     halves.retain(|(_, inline)| inline.half() == Some(Half::Start));
-    let (mut side, mut id, mut form) = (
-        random.letter(b"STSTX"),
-        random.number(30),
-        random.letter(b"PSPS-"),
-    );
+    let (mut side, mut id, mut form) =
+        (random.letter(b"STSTX"), random.number(30), random.letter(b"PSPS-"));
     if !halves.is_empty() && !random.chance(8) {
         let (its_side, start) = *random.pick(&halves);
         let is_bracket = matches!(start.mark(), Some(b"PO") | Some(b"MO"));
-        side = if random.chance(4) {
-            random.letter(b"STX")
-        } else {
-            its_side
-        };
+        side = if random.chance(4) { random.letter(b"STX") } else { its_side };
         id = start.id().unwrap_or(id);
         form = match random.below(20) {
             0 => random.letter(b"PSTN\0"),

@@ -22,21 +22,11 @@ pub fn set_target_request(random: &mut Random, unit: &Unit) -> Vec<u8> {
     };
     let content = content(random, unit, part);
     let length = (content.len() as u16).to_be_bytes();
-    [
-        b"ST".as_slice(),
-        &number.to_be_bytes(),
-        &[state],
-        &length,
-        &content,
-    ]
-    .concat()
+    [b"ST".as_slice(), &number.to_be_bytes(), &[state], &length, &content].concat()
 }
 
 fn content(random: &mut Random, unit: &Unit, part: &Part) -> Vec<u8> {
-    let old = part
-        .target
-        .as_ref()
-        .map_or(&part.source, |target| &target.content);
+    let old = part.target.as_ref().map_or(&part.source, |target| &target.content);
     let chosen: Vec<Placed> = match random.below(10) {
         0..=5 => old.clone(),
         6 | 7 => part.source.clone(),
@@ -68,11 +58,7 @@ fn content(random: &mut Random, unit: &Unit, part: &Part) -> Vec<u8> {
 /// Swaps two codes with canReorder F or N, or writes one of them twice.
 fn disturb_fixed_order(random: &mut Random, inlines: &mut Vec<Inline>) {
     let fixed: Vec<usize> = (0..inlines.len())
-        .filter(|&i| {
-            inlines[i]
-                .code()
-                .is_some_and(|code| code.can_reorder != b'Y')
-        })
+        .filter(|&i| inlines[i].code().is_some_and(|code| code.can_reorder != b'Y'))
         .collect();
     if fixed.is_empty() {
         return;
@@ -144,8 +130,6 @@ fn inlines_of(content: &[Placed]) -> Vec<Inline> {
 
 fn written(content: &[Placed]) -> Vec<u8> {
     let mut bytes = Vec::new();
-    content
-        .iter()
-        .for_each(|placed| placed.inline.write(&mut bytes));
+    content.iter().for_each(|placed| placed.inline.write(&mut bytes));
     bytes
 }

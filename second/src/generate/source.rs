@@ -15,18 +15,11 @@ pub struct Source {
 }
 
 pub fn source(random: &mut Random, ids: &mut Ids, parts: usize) -> Source {
-    let mut growth = Growth {
-        random,
-        ids,
-        flat: Vec::new(),
-        nested: Vec::new(),
-    };
+    let mut growth = Growth { random, ids, flat: Vec::new(), nested: Vec::new() };
     for _ in 0..1 + parts {
         growth.grow(0);
     }
-    let Growth {
-        mut flat, nested, ..
-    } = growth;
+    let Growth { mut flat, nested, .. } = growth;
     if random.chance(45) {
         cross(random, ids, &mut flat);
     }
@@ -119,11 +112,7 @@ fn give_letters(random: &mut Random, contents: &mut [Vec<Inline>]) {
 
 fn start_letters(random: &mut Random, code: &mut Code, chain_percent: usize, first_seen: bool) {
     if random.chance(chain_percent) {
-        code.can_reorder = if first_seen {
-            random.letter(b"NNF")
-        } else {
-            b'F'
-        };
+        code.can_reorder = if first_seen { random.letter(b"NNF") } else { b'F' };
         (code.can_copy, code.can_delete) = (b'N', b'N');
     } else {
         (code.can_copy, code.can_delete) = (random.letter(b"YYN"), random.letter(b"YYN"));
@@ -134,17 +123,9 @@ fn end_letters(random: &mut Random, start: &Code, end: &mut Code, first_seen: bo
     end.can_copy = start.can_copy;
     end.can_delete = start.can_delete;
     end.can_overlap = start.can_overlap;
-    end.can_reorder = if start.can_reorder == b'F' {
-        b'N'
-    } else {
-        start.can_reorder
-    };
+    end.can_reorder = if start.can_reorder == b'F' { b'N' } else { start.can_reorder };
     let free = (start.can_copy, start.can_delete) == (b'N', b'N') && start.can_reorder != b'F';
     if &end.mark == b"EC" && free && random.chance(30) {
-        end.can_reorder = if first_seen {
-            random.letter(b"YNF")
-        } else {
-            random.letter(b"YF")
-        };
+        end.can_reorder = if first_seen { random.letter(b"YNF") } else { random.letter(b"YF") };
     }
 }

@@ -75,10 +75,7 @@ fn cut_anew(
         let waits = !with.contains(&part);
         for inline in content {
             let other_half_elsewhere = inline.half().is_some()
-                && content
-                    .iter()
-                    .filter(|i| i.half().is_some() && i.id() == inline.id())
-                    .count()
+                && content.iter().filter(|i| i.half().is_some() && i.id() == inline.id()).count()
                     == 1;
             let left_out = (waits && other_half_elsewhere && random.chance(50))
                 || (inline.half().is_none() && random.chance(25));
@@ -157,11 +154,7 @@ fn add_copy(random: &mut Random, ids: &mut Ids, source: &Source, content: &mut V
         let mut end = start.clone();
         end.mark = *b"EC";
         let bracket = random.chance(50);
-        let last = if bracket {
-            place
-        } else {
-            place + random.below(content.len() + 1 - place)
-        };
+        let last = if bracket { place } else { place + random.below(content.len() + 1 - place) };
         content.insert(last, Inline::Code(end));
         content.insert(place, Inline::Code(start));
         if bracket {

@@ -30,16 +30,9 @@ pub fn drafted(random: &mut Random, parts: usize) -> Unit {
     let mut ids = Ids::default();
     let source = source(random, &mut ids, parts);
     let targets = targets(random, &mut ids, &source);
-    let mut unit = Unit {
-        can_resegment: random.letter(b"YYYYYN"),
-        parts: Vec::new(),
-    };
+    let mut unit = Unit { can_resegment: random.letter(b"YYYYYN"), parts: Vec::new() };
     for (content, target) in source.contents.into_iter().zip(targets) {
-        let id = if random.chance(35) {
-            0
-        } else {
-            ids.fresh(random)
-        };
+        let id = if random.chance(35) { 0 } else { ids.fresh(random) };
         let kind = match random.below(4) {
             0 => PartKind::Ignorable,
             _ => PartKind::Segment {
@@ -47,18 +40,9 @@ pub fn drafted(random: &mut Random, parts: usize) -> Unit {
                 state: random.letter(b"ITRF"),
             },
         };
-        let target = target.map(|(order, content)| Target {
-            offset: 0,
-            order,
-            content: placed(content),
-        });
-        unit.parts.push(Part {
-            offset: 0,
-            id,
-            kind,
-            source: placed(content),
-            target,
-        });
+        let target =
+            target.map(|(order, content)| Target { offset: 0, order, content: placed(content) });
+        unit.parts.push(Part { offset: 0, id, kind, source: placed(content), target });
     }
     unit
 }

@@ -10,10 +10,7 @@ pub fn items(content: &[Placed]) -> Vec<Inline> {
         match &placed.inline {
             Inline::Text(text) => {
                 let text = std::str::from_utf8(text).expect("the table was checked before");
-                items.extend(
-                    text.chars()
-                        .map(|c| Inline::Text(c.to_string().into_bytes())),
-                );
+                items.extend(text.chars().map(|c| Inline::Text(c.to_string().into_bytes())));
             }
             other => items.push(other.clone()),
         }
@@ -27,13 +24,7 @@ pub fn gather(items: impl IntoIterator<Item = Inline>) -> Vec<Placed> {
     let mut content: Vec<Placed> = Vec::new();
     for item in items {
         match (content.last_mut(), item) {
-            (
-                Some(Placed {
-                    inline: Inline::Text(before),
-                    ..
-                }),
-                Inline::Text(text),
-            ) => {
+            (Some(Placed { inline: Inline::Text(before), .. }), Inline::Text(text)) => {
                 before.extend(text);
             }
             (_, inline) => content.push(Placed { offset: 0, inline }),

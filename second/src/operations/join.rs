@@ -26,9 +26,7 @@ pub fn join(table: &[u8], part: u16, room: usize) -> Outcome {
     }
     let mut result = unit.clone();
     let position = part as usize - 1;
-    result
-        .parts
-        .splice(position..position + 2, [joined(first, second)]);
+    result.parts.splice(position..position + 2, [joined(first, second)]);
     lower_orders(&mut result, orders_fall_above(&unit, first, second));
     // "17: the result breaks rule 7."
     if rule_7(&result).is_some() {
@@ -43,15 +41,9 @@ fn orders_fall_above(unit: &Unit, first: &Part, second: &Part) -> u16 {
     if let (Some(one), Some(_)) = (&first.target, &second.target) {
         return one.order;
     }
-    let used: Vec<u16> = unit
-        .parts
-        .iter()
-        .filter_map(|p| p.target.as_ref())
-        .map(|t| t.order)
-        .collect();
-    let unused = (1..=unit.parts.len() as u16)
-        .rev()
-        .find(|value| !used.contains(value));
+    let used: Vec<u16> =
+        unit.parts.iter().filter_map(|p| p.target.as_ref()).map(|t| t.order).collect();
+    let unused = (1..=unit.parts.len() as u16).rev().find(|value| !used.contains(value));
     unused.expect("a part without target leaves a value unused")
 }
 
@@ -71,13 +63,7 @@ fn joined(first: &Part, second: &Part) -> Part {
         }),
         (one, two) => one.clone().or(two.clone()),
     };
-    Part {
-        offset: 0,
-        id,
-        kind,
-        source: joined_content(&first.source, &second.source),
-        target,
-    }
+    Part { offset: 0, id, kind, source: joined_content(&first.source, &second.source), target }
 }
 
 /// "Contents are joined, touching texts become one."
@@ -95,32 +81,13 @@ fn joined_fields(first: &Part, second: &Part) -> (u16, PartKind) {
         (PartKind::Ignorable, kind) => (second.id, open_kind(kind)),
         (kind, PartKind::Ignorable) => (first.id, open_kind(kind)),
         (
-            PartKind::Segment {
-                can_resegment: one,
-                state: first_state,
-            },
-            PartKind::Segment {
-                can_resegment: two,
-                state: second_state,
-            },
+            PartKind::Segment { can_resegment: one, state: first_state },
+            PartKind::Segment { can_resegment: two, state: second_state },
         ) => {
-            let can_resegment = if (one, two) == (b'-', b'-') {
-                b'-'
-            } else {
-                b'Y'
-            };
-            let state = if rank(second_state) < rank(first_state) {
-                second_state
-            } else {
-                first_state
-            };
-            (
-                first.id,
-                PartKind::Segment {
-                    can_resegment,
-                    state,
-                },
-            )
+            let can_resegment = if (one, two) == (b'-', b'-') { b'-' } else { b'Y' };
+            let state =
+                if rank(second_state) < rank(first_state) { second_state } else { first_state };
+            (first.id, PartKind::Segment { can_resegment, state })
         }
     }
 }
@@ -128,15 +95,9 @@ fn joined_fields(first: &Part, second: &Part) -> (u16, PartKind) {
 /// A lone segment's canResegment: - stays, all else is Y.
 fn open_kind(kind: PartKind) -> PartKind {
     match kind {
-        PartKind::Segment {
-            can_resegment,
-            state,
-        } => {
+        PartKind::Segment { can_resegment, state } => {
             let can_resegment = if can_resegment == b'-' { b'-' } else { b'Y' };
-            PartKind::Segment {
-                can_resegment,
-                state,
-            }
+            PartKind::Segment { can_resegment, state }
         }
         PartKind::Ignorable => kind,
     }

@@ -51,9 +51,7 @@ impl Operation {
     }
 
     pub fn of_mark(mark: &[u8]) -> Option<Operation> {
-        Operation::ALL
-            .into_iter()
-            .find(|operation| operation.mark() == mark)
+        Operation::ALL.into_iter().find(|operation| operation.mark() == mark)
     }
 }
 

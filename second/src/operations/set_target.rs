@@ -19,10 +19,7 @@ pub fn set_target(table: &[u8], part: u16, state: u8, content: &[u8], room: usiz
     // "Then 4, 2, 3, place in the content."
     let new = read_content(content)?;
     // "of the old target, or of the part's source if there was none".
-    let before = old
-        .target
-        .as_ref()
-        .map_or(&old.source, |target| &target.content);
+    let before = old.target.as_ref().map_or(&old.source, |target| &target.content);
     if !keeps_non_removable(before, &new) {
         return refuse(18);
     }
@@ -34,15 +31,8 @@ pub fn set_target(table: &[u8], part: u16, state: u8, content: &[u8], room: usiz
     let order = new_order(&unit, part);
     let mut result = unit.clone();
     let set = &mut result.parts[part as usize - 1];
-    set.target = Some(Target {
-        offset: 0,
-        order,
-        content: new,
-    });
-    if let PartKind::Segment {
-        state: old_state, ..
-    } = &mut set.kind
-    {
+    set.target = Some(Target { offset: 0, order, content: new });
+    if let PartKind::Segment { state: old_state, .. } = &mut set.kind {
         *old_state = state;
     }
     // "15. Then 6 to 10 of the result."
@@ -81,19 +71,13 @@ fn flattened(code: &Code) -> Code {
         b"PC" => *b"EC",
         _ => code.mark,
     };
-    Code {
-        mark,
-        ..code.clone()
-    }
+    Code { mark, ..code.clone() }
 }
 
 /// The ids and halves with canReorder F or N, in their order.
 fn fixed_order(content: &[Placed]) -> Vec<(u16, Option<Half>)> {
     let fixed = |code: &&Code| code.can_reorder != b'Y';
-    codes(content)
-        .filter(fixed)
-        .map(|code| (code.id, Inline::Code(code.clone()).half()))
-        .collect()
+    codes(content).filter(fixed).map(|code| (code.id, Inline::Code(code.clone()).half())).collect()
 }
 
 /// "Order: the old one, else the part's position if unused, else the lowest unused."
@@ -101,12 +85,8 @@ fn new_order(unit: &Unit, part: u16) -> u16 {
     if let Some(target) = unit.part(part).and_then(|old| old.target.as_ref()) {
         return target.order;
     }
-    let used: Vec<u16> = unit
-        .parts
-        .iter()
-        .filter_map(|p| p.target.as_ref())
-        .map(|t| t.order)
-        .collect();
+    let used: Vec<u16> =
+        unit.parts.iter().filter_map(|p| p.target.as_ref()).map(|t| t.order).collect();
     let mut wanted = std::iter::once(part).chain(1..=unit.parts.len() as u16);
     let order = wanted.find(|value| !used.contains(value));
     order.expect("a part without target leaves a value unused")

@@ -51,10 +51,7 @@ pub fn split(
 /// "13: source cut not in 1 to items - 1, or target cut above the target's items (without
 /// target it must be 0)."
 fn cuts_fit(part: &Part, source_cut: usize, target_cut: usize) -> bool {
-    let target_items = part
-        .target
-        .as_ref()
-        .map_or(0, |target| items(&target.content).len());
+    let target_items = part.target.as_ref().map_or(0, |target| items(&target.content).len());
     source_cut >= 1 && source_cut < items(&part.source).len() && target_cut <= target_items
 }
 
@@ -64,10 +61,7 @@ fn has_id(unit: &Unit, id: u16) -> bool {
     unit.parts.iter().any(|part| {
         part.id == id
             || in_content(&part.source)
-            || part
-                .target
-                .as_ref()
-                .is_some_and(|target| in_content(&target.content))
+            || part.target.as_ref().is_some_and(|target| in_content(&target.content))
     })
 }
 
@@ -78,16 +72,8 @@ fn halves(old: &Part, source_cut: usize, target_cut: usize, new_id: u16) -> (Par
     (first.source, second.source) = cut(&old.source, source_cut);
     if let Some(target) = &old.target {
         let (before, after) = cut(&target.content, target_cut);
-        first.target = Some(Target {
-            offset: 0,
-            order: target.order,
-            content: before,
-        });
-        second.target = Some(Target {
-            offset: 0,
-            order: target.order + 1,
-            content: after,
-        });
+        first.target = Some(Target { offset: 0, order: target.order, content: before });
+        second.target = Some(Target { offset: 0, order: target.order + 1, content: after });
     }
     (first, second)
 }

@@ -27,12 +27,7 @@ fn partner_faults(sequence: &[Standing]) -> Vec<usize> {
             continue;
         };
         let end = &sequence[*partner];
-        if position < *partner
-            && end
-                .inline
-                .code()
-                .is_some_and(|end| partners_differ(start, end))
-        {
+        if position < *partner && end.inline.code().is_some_and(|end| partners_differ(start, end)) {
             faults.push(end.offset);
         }
     }
@@ -42,14 +37,7 @@ fn partner_faults(sequence: &[Standing]) -> Vec<usize> {
 /// "partners differ in copyOf, canCopy, canDelete or canOverlap; an end whose start has F is
 /// not N; a `PC` letter is not N for F and else equal to `PO`'s".
 fn partners_differ(start: &Code, end: &Code) -> bool {
-    let fields = |code: &Code| {
-        (
-            code.copy_of,
-            code.can_copy,
-            code.can_delete,
-            code.can_overlap,
-        )
-    };
+    let fields = |code: &Code| (code.copy_of, code.can_copy, code.can_delete, code.can_overlap);
     fields(start) != fields(end)
         || (start.can_reorder == b'F' && end.can_reorder != b'N')
         || (&end.mark == b"PC" && end.can_reorder != close_letter(start))
@@ -69,9 +57,7 @@ fn letter_faults(sequence: &[Standing]) -> Vec<usize> {
     let at_fault = |code: &Code| {
         code.can_reorder != b'Y' && (code.can_copy == b'Y' || code.can_delete == b'Y')
     };
-    let faults = sequence
-        .iter()
-        .filter(|s| s.inline.code().is_some_and(at_fault));
+    let faults = sequence.iter().filter(|s| s.inline.code().is_some_and(at_fault));
     faults.map(|s| s.offset).collect()
 }
 
@@ -79,18 +65,12 @@ fn letter_faults(sequence: &[Standing]) -> Vec<usize> {
 fn firstless(source: &[Standing]) -> Vec<usize> {
     let reorder = |s: &Standing| s.inline.code().map(|code| code.can_reorder);
     let before_first = source.iter().take_while(|s| reorder(s) != Some(b'F'));
-    before_first
-        .filter(|s| reorder(s) == Some(b'N'))
-        .map(|s| s.offset)
-        .collect()
+    before_first.filter(|s| reorder(s) == Some(b'N')).map(|s| s.offset).collect()
 }
 
 /// Rule 9, in both sequences.
 pub fn rule_9(unit: &Unit) -> Option<usize> {
-    let faults = [
-        overlap_faults(&source_sequence(unit)),
-        overlap_faults(&target_sequence(unit)),
-    ];
+    let faults = [overlap_faults(&source_sequence(unit)), overlap_faults(&target_sequence(unit))];
     faults.into_iter().flatten().min()
 }
 
@@ -145,22 +125,13 @@ fn differs_from_source(record: &Inline, source: &[Standing]) -> bool {
         return false;
     };
     let same_half = |s: &&Standing| s.inline.half() == record.half();
-    let counterpart = source
-        .iter()
-        .filter(of_id)
-        .find(same_half)
-        .and_then(|s| s.inline.code());
+    let counterpart = source.iter().filter(of_id).find(same_half).and_then(|s| s.inline.code());
     code.copy_of != 0
         || !counterpart.is_some_and(|c| (c.data_ref, letters(c)) == (code.data_ref, letters(code)))
 }
 
 fn letters(code: &Code) -> [u8; 4] {
-    [
-        code.can_copy,
-        code.can_delete,
-        code.can_overlap,
-        code.can_reorder,
-    ]
+    [code.can_copy, code.can_delete, code.can_overlap, code.can_reorder]
 }
 
 /// "or is not 0 and names no source code of that class with canCopy Y".
@@ -170,8 +141,6 @@ fn names_no_code(record: &Inline, source: &[Standing]) -> bool {
     };
     !source.iter().any(|s| {
         s.inline.class() == record.class()
-            && s.inline
-                .code()
-                .is_some_and(|c| c.id == code.copy_of && c.can_copy == b'Y')
+            && s.inline.code().is_some_and(|c| c.id == code.copy_of && c.can_copy == b'Y')
     })
 }

@@ -10,13 +10,10 @@ use crate::table::{Placed, Unit};
 /// "5: a `TG` order not in 1 to the number of parts, or used earlier."
 pub fn rule_5(unit: &Unit) -> Option<usize> {
     let mut used = HashSet::new();
-    unit.parts
-        .iter()
-        .filter_map(|part| part.target.as_ref())
-        .find_map(|target| {
-            let in_range = (1..=unit.parts.len()).contains(&(target.order as usize));
-            (!in_range || !used.insert(target.order)).then_some(target.offset)
-        })
+    unit.parts.iter().filter_map(|part| part.target.as_ref()).find_map(|target| {
+        let in_range = (1..=unit.parts.len()).contains(&(target.order as usize));
+        (!in_range || !used.insert(target.order)).then_some(target.offset)
+    })
 }
 
 /// "6: an id met earlier. Source starts and part ids all differ; target starts differ from
@@ -45,13 +42,10 @@ fn first_met<'a>(
     parts: &HashSet<u16>,
     side: &mut HashSet<u16>,
 ) -> Option<usize> {
-    content
-        .into_iter()
-        .filter(|placed| placed.inline.is_start())
-        .find_map(|placed| {
-            let id = placed.inline.id()?;
-            (parts.contains(&id) || !side.insert(id)).then_some(placed.offset)
-        })
+    content.into_iter().filter(|placed| placed.inline.is_start()).find_map(|placed| {
+        let id = placed.inline.id()?;
+        (parts.contains(&id) || !side.insert(id)).then_some(placed.offset)
+    })
 }
 
 /// "7: a half without partner."
@@ -79,10 +73,8 @@ fn waits(
     target: &[Standing],
     lone: &Standing,
 ) -> bool {
-    let lone_mark = matches!(
-        lone.inline.mark(),
-        Some(b"SC") | Some(b"EC") | Some(b"SM") | Some(b"EM")
-    );
+    let lone_mark =
+        matches!(lone.inline.mark(), Some(b"SC") | Some(b"EC") | Some(b"SM") | Some(b"EM"));
     let halves_of_id = target
         .iter()
         .filter(|other| other.inline.half().is_some() && other.inline.id() == lone.inline.id());

@@ -9,14 +9,9 @@ pub fn partners(sequence: &[Standing]) -> Vec<Option<usize>> {
     let mut first = 0;
     while first < sequence.len() {
         let part = sequence[first].part;
-        let length = sequence[first..]
-            .iter()
-            .take_while(|s| s.part == part)
-            .count();
-        let content: Vec<&Inline> = sequence[first..first + length]
-            .iter()
-            .map(|s| s.inline)
-            .collect();
+        let length = sequence[first..].iter().take_while(|s| s.part == part).count();
+        let content: Vec<&Inline> =
+            sequence[first..first + length].iter().map(|s| s.inline).collect();
         for (position, partner) in partners_in_content(&content).into_iter().enumerate() {
             found[first + position] = partner.map(|p| first + p);
         }

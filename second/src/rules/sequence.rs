@@ -27,9 +27,7 @@ pub fn sequence(unit: &Unit, side: Side) -> Vec<Standing<'_>> {
 
 pub fn source_sequence(unit: &Unit) -> Vec<Standing<'_>> {
     let contents = unit.parts.iter().enumerate();
-    contents
-        .flat_map(|(part, p)| standings(part, &p.source))
-        .collect()
+    contents.flat_map(|(part, p)| standings(part, &p.source)).collect()
 }
 
 pub fn target_sequence(unit: &Unit) -> Vec<Standing<'_>> {
@@ -38,16 +36,9 @@ pub fn target_sequence(unit: &Unit) -> Vec<Standing<'_>> {
         targets.extend(p.target.as_ref().map(|target| (part, target)));
     }
     targets.sort_by_key(|(_, target)| target.order);
-    targets
-        .iter()
-        .flat_map(|(part, target)| standings(*part, &target.content))
-        .collect()
+    targets.iter().flat_map(|(part, target)| standings(*part, &target.content)).collect()
 }
 
 fn standings(part: usize, content: &[Placed]) -> impl Iterator<Item = Standing<'_>> {
-    content.iter().map(move |p| Standing {
-        offset: p.offset,
-        part,
-        inline: &p.inline,
-    })
+    content.iter().map(move |p| Standing { offset: p.offset, part, inline: &p.inline })
 }

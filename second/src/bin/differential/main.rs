@@ -47,18 +47,11 @@ struct Results {
 }
 
 fn compare_generated(arguments: &Arguments, results: &Results) -> Result<(), String> {
-    let Arguments {
-        seed, operations, ..
-    } = arguments;
+    let Arguments { seed, operations, .. } = arguments;
     let case = |number: usize| {
         let (kind, job) = job(*seed, number as u64, operations);
         let name = format!("job {number} of seed {seed} ({})", kind.name());
-        Case {
-            name,
-            kind: Some(kind),
-            expected: desk(&job, operations),
-            job,
-        }
+        Case { name, kind: Some(kind), expected: desk(&job, operations), job }
     };
     compare(&arguments.program, arguments.jobs, case, |case| {
         let place = Kind::ALL.iter().position(|kind| Some(*kind) == case.kind);

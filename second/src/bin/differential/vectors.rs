@@ -23,12 +23,7 @@ pub fn read(path: &Path, operations: &[Operation]) -> Result<(Vec<Case>, usize),
         if names_missing_operation(&job, operations) {
             passed_over += 1;
         } else {
-            cases.push(Case {
-                name,
-                kind: None,
-                job,
-                expected,
-            });
+            cases.push(Case { name, kind: None, job, expected });
         }
     }
     if cases.is_empty() && passed_over == 0 {
