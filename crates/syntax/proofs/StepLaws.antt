@@ -20,7 +20,7 @@ use Rattle.xliff.proofs.lists.Tests.{or-left}
 use Rattle.xliff.proofs.records.Read.{read-sound}
 use Rattle.xliff.proofs.unit.Table.{stepped-whole, bytes-drop}
 use Rattle.table.specs.Meaning.{item, record-meaning, meaning, width, body}
-use Rattle.table.proofs.TextLaws.{xml-same}
+use Rattle.text.proofs.TextLaws.{xml-same}
 use Rattle.table.specs.declared.Item.{Item}
 use Rattle.table.specs.declared.Item.the-variants.{Character, Standalone, Isolated, Pair, NoteStart, NoteEnd}
 use Rattle.table.specs.declared.Record.{Record}

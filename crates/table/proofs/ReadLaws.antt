@@ -6,7 +6,7 @@ use mathlib.Core.List.{List, [], _∷_}
 use mathlib.Core.Option.{Option}
 use native.Mathlib.Omega.{arith}
 use borrow.Author.Tests.{leb-true, le-leb, lt-leb}
-use lib.ListN.{length, take, drop, getD, length-drop}
+use lib.ListN.{drop-of-length-le, length, take, drop, getD, length-drop}
 use lib.Dec.{leb, eqb}
 use Rattle.xliff.specs.Bytes.{'-', 'C', 'E', 'F', 'G', 'H', 'I', 'M', 'N', 'O', 'P', 'R', 'S', 'T', 'U', 'X', 'Y', two, four, two-at, four-at, enough, among}
 use Rattle.xliff.specs.Text as text
@@ -19,7 +19,7 @@ use Rattle.xliff.specs.Parse.{Mark, UN, UE, SG, IG, TG, TX, CP, PH, PO, PC, SC,
 use Rattle.xliff.proofs.text.Utf8.{text-of-some}
 use Rattle.table.specs.Number.{numberAt}
 use Rattle.table.specs.Letters.{yesNo, reorderLetter, overlapLetter, fieldsOk}
-use Rattle.table.specs.Utf8.{textOk}
+use Rattle.text.specs.Utf8.{textOk}
 use Rattle.table.specs.Records.{sized, sizedPart, unitOf, segmentOf, ignorableOf, targetOf, fieldsOf, standaloneOf, isolatedOf, pairOf, noteStartOf, noteEndOf, textOf, characterOf, codeAt, markedOf, inlineOf, pairMarkOf, noteMarkOf, recordOf}
 use Rattle.table.specs.Meaning.{half, form, fields, record-meaning, meaning, width, points, body}
 use Rattle.table.specs.declared.Fields.{Fields}
@@ -32,7 +32,7 @@ use Rattle.table.specs.declared.Half.{Half}
 use Rattle.table.specs.declared.Half.the-variants.{Start, End}
 use Rattle.table.specs.declared.Form.{Form}
 use Rattle.table.specs.declared.Form.the-variants.{P as FormP, S as FormS}
-use Rattle.table.proofs.TextLaws.{text-good, text-bad-is}
+use Rattle.text.proofs.TextLaws.{text-good, text-bad-is}
 
 -- an answer is that of a record of the specification
 pub data Tied (t : List ℕ) : Read → encode.Record → Type 0 where
@@ -302,3 +302,8 @@ record-is t r e = by (subst (λ (z : Read). Tied t z (read t)) (sym e) (record-t
   where
     by : {x : encode.Record} → Tied t r x → (meaning (body t) r ≡ x) × (width r ≡ length (record-bytes x))
     by (tied p q) = (p, q)
+
+-- beyond the end there is no record
+pub nothing-there : (s : List ℕ) (at : ℕ) → length s ≤ at → (meaning (body (drop at s)) (Broken false) ≡ read (drop at s)) × (width (Broken false) ≡ length (record-bytes (read (drop at s))))
+unfolding read read-as mark-at record-bytes
+nothing-there s at h = rw (drop-of-length-le s h) (refl, refl)

@@ -1,10 +1,10 @@
 -- The view of what was read is that of the specification's item.
-use Prim.Native.Nat.{ℕ, _-_, _≤_}
+use Prim.Native.Nat.{ℕ, _-_}
 use mathlib.Core.Path.{_≡_, refl, _∙_, ap}
 use mathlib.Core.List.{List}
-use lib.ListN.{length, drop, drop-of-length-le}
+use lib.ListN.{drop}
 use Rattle.xliff.specs.Item.{class, half, is-form-P, id-of, fields}
-use Rattle.xliff.specs.Parse.{read, read-as, mark-at}
+use Rattle.xliff.specs.Parse.{read}
 use Rattle.places.specs.Markers.{item-in, item-at}
 use Rattle.table.specs.Meaning.{item, meaning}
 use Rattle.table.specs.declared.Form.the-variants.{P, S}
@@ -14,7 +14,7 @@ use Rattle.table.specs.declared.Item.the-variants.{Character, Standalone, Isola
 use Rattle.table.specs.declared.Record.the-variants.{Unit as UnitStart, UnitEnd, Segment, Ignorable, Target, Text, Inline}
 use Rattle.table.specs.declared.Read.{Read}
 use Rattle.table.specs.declared.Read.the-variants.{Good, Ill, Broken}
-use Rattle.views.specs.Views.{viewOf, itemView, readView, nothing}
+use Rattle.views.specs.Views.{viewOf, itemView, readView}
 
 item-view : (i : Item) → itemView i ≡ viewOf (item i)
 unfolding viewOf class half is-form-P id-of fields
@@ -46,7 +46,3 @@ read-view cs (Broken b) = refl
 pub view-is : (t : List ℕ) (at : ℕ) (cs : List ℕ) (r : Read) → meaning cs r ≡ read (drop at t) → readView r ≡ viewOf (item-at t at)
 unfolding item-at
 view-is t at cs r e = read-view cs r ∙ ap (λ x. viewOf (item-in x)) e
-
-pub view-out : (t : List ℕ) (at : ℕ) → length t ≤ at → nothing ≡ viewOf (item-at t at)
-unfolding item-at item-in read read-as mark-at viewOf class half is-form-P id-of fields
-view-out t at h = rw (drop-of-length-le t h)

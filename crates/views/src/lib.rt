@@ -145,10 +145,7 @@ fn read_view(r: Read) -> View
 pub fn view_at(t: &[u8], at: usize) -> View
     ensures { λ r. ⌜ r ≡ viewOf (item-at (now (t .entry)) at) ⌝ }
 {
-    if t.len() < at {
-        return nothing();
-    }
-    read_view(table::record_of(&t[at..]))
+    read_view(table::record_at(t, at))
 }
 
 // An offset that an array holds.

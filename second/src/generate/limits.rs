@@ -73,7 +73,7 @@ fn many_bytes(random: &mut Random) -> Vec<u8> {
     let room = wanted.saturating_sub(table.len() + 6);
     table.extend(b"TX");
     table.extend((room as u16).to_be_bytes());
-    table.extend(std::iter::repeat(b'a').take(room));
+    table.extend(std::iter::repeat_n(b'a', room));
     table.extend(b"UE");
     table
 }

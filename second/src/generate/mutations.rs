@@ -1,9 +1,8 @@
 //! Small changes to the records of a valid table, and tables that break a chosen rule by them.
 
-use super::inline::{annotation, character, code, text};
+use super::changes::*;
 use super::random::Random;
 use super::unit::{raw_records, valid_table, RawRecords};
-use crate::record::Mark;
 use crate::rules::check;
 
 /// A table that the check refuses by this number (or, after many tries, any changed table).
@@ -17,12 +16,29 @@ pub fn table_refused_by(random: &mut Random, number: u16) -> Vec<u8> {
                 mutate(random, &mut records);
             }
             changed = records.concat();
-            if check(&changed).is_err_and(|refusal| refusal.number == number) {
-                return changed;
+            if refused_by(&changed, number) {
+                return with_more_faults(random, records, number);
             }
         }
     }
     changed
+}
+
+fn refused_by(table: &[u8], number: u16) -> bool {
+    check(table).is_err_and(|refusal| refusal.number == number)
+}
+
+/// Often more changes that leave the number as it is: several records at fault, of which one
+/// is the first.
+fn with_more_faults(random: &mut Random, mut records: RawRecords, number: u16) -> Vec<u8> {
+    for _ in 0..*random.pick(&[0, 0, 4, 12]) {
+        let mut more = records.clone();
+        mutate(random, &mut more);
+        if refused_by(&more.concat(), number) {
+            records = more;
+        }
+    }
+    records.concat()
 }
 
 /// A table with several changes at once.
@@ -39,7 +55,7 @@ pub fn mutate(random: &mut Random, records: &mut RawRecords) {
         return;
     }
     let at = random.below(records.len());
-    match random.below(14) {
+    match random.below(15) {
         0 | 1 => change_letter(random, &mut records[at]),
         2 | 3 => change_number(random, records, at),
         4 => drop(records.remove(at)),
@@ -60,170 +76,7 @@ pub fn mutate(random: &mut Random, records: &mut RawRecords) {
         9 => insert_record(random, records, at),
         10 => spoil_text(random, records, at),
         11 | 12 => change_letter_of_id(random, records, at),
-        _ => change_class_of_id(records, at),
-    }
-}
-
-fn is_code(record: &[u8]) -> bool {
-    record.len() == 12
-        && matches!(&record[..2], b"PH" | b"PO" | b"PC" | b"SC" | b"EC" | b"IS" | b"IE")
-}
-
-/// Where the letters of a record stand, with letters that fit there or nearly.
-fn letters(record: &[u8]) -> Vec<(usize, &'static [u8])> {
-    match &record[..2] {
-        b"UN" => vec![(2, b"YN-")],
-        b"SG" => vec![(4, b"YN-"), (5, b"ITRF-")],
-        b"MO" | b"SM" => vec![(4, b"YN-F")],
-        _ if is_code(record) => {
-            vec![(8, b"YN"), (9, b"YN"), (10, b"YN-"), (11, b"YFN"), (11, b"YFN-")]
-        }
-        _ => vec![],
-    }
-}
-
-fn change_letter(random: &mut Random, record: &mut [u8]) {
-    let letters = letters(record);
-    if letters.is_empty() {
-        return;
-    }
-    let &(place, choices) = random.pick(&letters);
-    record[place] = match random.below(20) {
-        0 => random.below(256) as u8,
-        _ => random.letter(choices),
-    };
-}
-
-/// Changes an id, an order or a reference: to another record's number, one more, 0 or any.
-fn change_number(random: &mut Random, records: &mut RawRecords, at: usize) {
-    let number_at = |record: &Vec<u8>| [record[2], record[3]];
-    let others: Vec<[u8; 2]> = records
-        .iter()
-        .filter(|record| record.len() >= 4 && !matches!(&record[..2], b"TX" | b"CP"))
-        .map(number_at)
-        .collect();
-    let record = &mut records[at];
-    if record.len() < 4 || &record[..2] == b"CP" || others.is_empty() {
-        return;
-    }
-    let place = if is_code(record) { *random.pick(&[2, 2, 4, 6]) } else { 2 };
-    let old = u16::from_be_bytes([record[place], record[place + 1]]);
-    let new = match random.below(8) {
-        0 => [0, 0],
-        1 => [random.below(256) as u8, random.below(256) as u8],
-        2 => old.wrapping_add(1).to_be_bytes(),
-        _ => *random.pick(&others),
-    };
-    record[place..place + 2].copy_from_slice(&new);
-}
-
-/// `PO` to `SC` and the like, and back.
-fn twin_mark(record: &mut [u8]) {
-    let twins: [(&Mark, &Mark); 7] = [
-        (b"PO", b"SC"),
-        (b"PC", b"EC"),
-        (b"MO", b"SM"),
-        (b"MC", b"EM"),
-        (b"IS", b"IE"),
-        (b"SG", b"CP"),
-        (b"IG", b"TG"),
-    ];
-    for (one, two) in twins {
-        if &record[..2] == one {
-            record[..2].copy_from_slice(two);
-        } else if &record[..2] == two {
-            record[..2].copy_from_slice(one);
-        }
-    }
-}
-
-fn insert_record(random: &mut Random, records: &mut RawRecords, at: usize) {
-    let id = 1 + random.below(40) as u16;
-    let marks: [&Mark; 7] = [b"PH", b"PO", b"PC", b"SC", b"EC", b"IS", b"IE"];
-    let annotations: [&Mark; 4] = [b"MO", b"MC", b"SM", b"EM"];
-    let inline = match random.below(6) {
-        0 => text(random),
-        1 => character(random),
-        2 => {
-            let mark = *random.pick(&annotations);
-            annotation(mark, id, random)
-        }
-        _ => {
-            let mark = *random.pick(&marks);
-            code(mark, id, random)
-        }
-    };
-    let mut bytes = Vec::new();
-    inline.write(&mut bytes);
-    let other: [&[u8]; 5] = [b"TG\0\x01", b"SG\0\0-I", b"IG\0\0", b"UE", b"UNY"];
-    if random.chance(20) {
-        bytes = random.pick(&other).to_vec();
-    }
-    records.insert(at, bytes);
-}
-
-/// Text of length 0, no UTF-8, a forbidden code point, a length that is wrong; a `CP` that is
-/// allowed or too high. Another record takes a text before it.
-fn spoil_text(random: &mut Random, records: &mut RawRecords, at: usize) {
-    let spoiled: [&[u8]; 12] = [
-        b"TX\0\0",
-        b"TX\0\x01\xFF",
-        b"TX\0\x02\xC0\x80",
-        b"TX\0\x01\x0B",
-        b"TX\0\x03\xED\xA0\x80",
-        b"TX\0\x03\xEF\xBF\xBE",
-        b"TX\0\x05a",
-        b"TX\0\x02\xC3\xA9",
-        b"CP\0\0\0A",
-        b"CP\0\x11\0\0",
-        b"CP\0\x10\xFF\xFF",
-        b"CP\0\0\0\x7F",
-    ];
-    let wrong = random.pick(&spoiled).to_vec();
-    let record = &mut records[at];
-    match &record[..2] {
-        b"TX" if record.len() > 4 && random.chance(40) => {
-            let place = 4 + random.below(record.len() - 4);
-            record[place] = random.below(256) as u8;
-        }
-        b"TX" | b"CP" => *record = wrong,
-        _ => records.insert(at, wrong),
-    }
-}
-
-/// The same letter in every code of one id, so that partners and sides stay equal.
-fn change_letter_of_id(random: &mut Random, records: &mut RawRecords, at: usize) {
-    if !is_code(&records[at]) {
-        return;
-    }
-    let id = records[at][2..4].to_vec();
-    let &(place, choices) = random.pick(&[(8, b"YN"), (9, b"YN"), (10, b"NN"), (11, b"FN")]);
-    let letter = random.letter(choices);
-    for record in records.iter_mut().filter(|r| is_code(r) && r[2..4] == id) {
-        if place != 10 || &record[..2] != b"PH" {
-            record[place] = letter;
-        }
-    }
-}
-
-/// A pair becomes an annotation from this record on, an isolated start an isolated end.
-fn change_class_of_id(records: &mut RawRecords, at: usize) {
-    let id = match records[at].get(2..4) {
-        Some(id) if is_code(&records[at]) => id.to_vec(),
-        _ => return,
-    };
-    for record in records[at..].iter_mut().filter(|r| is_code(r) && r[2..4] == id) {
-        let mark: &[u8] = match &record[..2] {
-            b"PO" => b"MO",
-            b"SC" => b"SM",
-            b"PC" => b"MC",
-            b"EC" => b"EM",
-            _ => {
-                twin_mark(record);
-                continue;
-            }
-        };
-        let translate: &[u8] = if mark[1] == b'O' || mark[0] == b'S' { b"Y" } else { b"" };
-        *record = [mark, &id, translate].concat();
+        13 => insert_half_of_id(random, records, at),
+        _ => change_class_of_id(random, records, at),
     }
 }

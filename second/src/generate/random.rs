@@ -14,11 +14,11 @@ impl Random {
     /// The numbers of one job: any job can be made again from the seed and its number.
     pub fn of_job(seed: u64, number: u64) -> Random {
         let mut random = Random::new(seed);
-        let mixed = random.next() ^ number.wrapping_mul(0xD134_2543_DE82_EF95);
+        let mixed = random.draw() ^ number.wrapping_mul(0xD134_2543_DE82_EF95);
         Random::new(mixed)
     }
 
-    pub fn next(&mut self) -> u64 {
+    pub fn draw(&mut self) -> u64 {
         self.state = self.state.wrapping_add(0x9E37_79B9_7F4A_7C15);
         let mut z = self.state;
         z = (z ^ (z >> 30)).wrapping_mul(0xBF58_476D_1CE4_E5B9);
@@ -28,7 +28,7 @@ impl Random {
 
     /// A number below `limit`; 0 if the limit is 0.
     pub fn below(&mut self, limit: usize) -> usize {
-        (self.next() % limit.max(1) as u64) as usize
+        (self.draw() % limit.max(1) as u64) as usize
     }
 
     pub fn chance(&mut self, percent: usize) -> bool {

@@ -111,8 +111,8 @@ fn new_id(random: &mut Random, unit: &Unit) -> u16 {
     let used: Vec<u16> = unit.parts.iter().map(|part| part.id).chain(inline_ids).collect();
     match random.below(10) {
         0..=1 => 0,
-        2 => *random.pick(&used),
-        3 => random.number(20),
+        2 | 3 => *random.pick(&used),
+        4 => random.number(20),
         _ => 1000 + random.below(9000) as u16,
     }
 }

@@ -127,7 +127,7 @@ fn differs_from_source(record: &Inline, source: &[Standing]) -> bool {
     let same_half = |s: &&Standing| s.inline.half() == record.half();
     let counterpart = source.iter().filter(of_id).find(same_half).and_then(|s| s.inline.code());
     code.copy_of != 0
-        || !counterpart.is_some_and(|c| (c.data_ref, letters(c)) == (code.data_ref, letters(code)))
+        || counterpart.is_none_or(|c| (c.data_ref, letters(c)) != (code.data_ref, letters(code)))
 }
 
 fn letters(code: &Code) -> [u8; 4] {

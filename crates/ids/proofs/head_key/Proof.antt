@@ -3,17 +3,10 @@ use borrow.Author.Needs.{needs}
 use Rattle.ids.proofs.head_key.Statement.{statement}
 use Rattle.ids.proofs.head_key.Tie as tie
 
--- src/lib.rt:62:29
-key-requires : tie.Need-key-requires
-key-requires c κs = search needs
-
--- src/lib.rt:59:1
-returns : tie.Need-returns
-returns c = λ at. head-none _ at (c .if1 .taken)
-
--- src/lib.rt:59:1
-returns-2 : tie.Need-returns-2
-returns-2 c = λ at. head-named _ (c .key .result) at (c .before .if1 .left) (c .key .ensures)
-
 pub head-key-spec : {M : Type 1} → statement M
-head-key-spec = tie.close (tie.spec key-requires returns returns-2)
+head-key-spec =
+    tie.close
+    (tie.spec
+    (λ c κs. search needs)
+    (λ c. λ at. head-none _ at (c .if1 .taken))
+    (λ c. λ at. head-named _ (c .key .result) at (c .before .if1 .left) (c .key .ensures)))

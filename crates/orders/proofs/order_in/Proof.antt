@@ -2,77 +2,21 @@ use borrow.Author.Needs.{needs}
 use Rattle.orders.proofs.order_in.Statement.{statement}
 use Rattle.orders.proofs.order_in.Tie as tie
 
--- src/lib.rt:51:28
-enum-told : tie.Need-enum-told
-enum-told c = search needs
-
--- src/lib.rt:52:28
-enum-told-2 : tie.Need-enum-told-2
-enum-told-2 c = search needs
-
--- src/lib.rt:53:37
-enum-told-3 : tie.Need-enum-told-3
-enum-told-3 c = search needs
-
--- src/lib.rt:54:33
-enum-told-4 : tie.Need-enum-told-4
-enum-told-4 c = search needs
-
--- src/lib.rt:55:24
-enum-known-x : tie.Need-enum-known-x
-enum-known-x c = search needs
-
--- src/lib.rt:56:25
-enum-told-5 : tie.Need-enum-told-5
-enum-told-5 c = search needs
-
--- src/lib.rt:57:30
-enum-told-6 : tie.Need-enum-told-6
-enum-told-6 c = search needs
-
--- src/lib.rt:47:1
-returns : tie.Need-returns
-returns c = search needs
-
--- src/lib.rt:47:1
-returns-2 : tie.Need-returns-2
-returns-2 c = search needs
-
--- src/lib.rt:47:1
-returns-3 : tie.Need-returns-3
-returns-3 c = search needs
-
--- src/lib.rt:47:1
-returns-4 : tie.Need-returns-4
-returns-4 c = search needs
-
--- src/lib.rt:47:1
-returns-5 : tie.Need-returns-5
-returns-5 c = simp (c .before .x .given .1)
-
--- src/lib.rt:47:1
-returns-6 : tie.Need-returns-6
-returns-6 c = search needs
-
--- src/lib.rt:47:1
-returns-7 : tie.Need-returns-7
-returns-7 c = search needs
-
 pub order-in-spec : {M : Type 1} → statement M
 order-in-spec =
     tie.close
     (tie.spec
-    enum-told
-    enum-told-2
-    enum-told-3
-    enum-told-4
-    enum-known-x
-    enum-told-5
-    enum-told-6
-    returns
-    returns-2
-    returns-3
-    returns-4
-    returns-5
-    returns-6
-    returns-7)
+    (λ c. search needs)
+    (λ c. search needs)
+    (λ c. search needs)
+    (λ c. search needs)
+    (λ c. search needs)
+    (λ c. search needs)
+    (λ c. search needs)
+    (λ c. search needs)
+    (λ c. search needs)
+    (λ c. search needs)
+    (λ c. search needs)
+    (λ c. simp (c .before .x .given .1))
+    (λ c. search needs)
+    (λ c. search needs))

@@ -6,17 +6,10 @@ use borrow.Author.Needs.{needs}
 use Rattle.sequences.proofs.sources.Statement.{statement}
 use Rattle.sequences.proofs.sources.Tie as tie
 
--- src/lib.rt:112:5
-collect-requires : tie.Need-collect-requires
-collect-requires c κs = (c .before .before .before .pre .0, c .before .before .before .pre .1, omega (arith, source-room (c .before .before .before .args .t .now) (c .before .before .before .pre .0), c .before .before .before .pre .2), omega (arith, c .before .before .before .pre .2))
-
--- src/lib.rt:108:1
-same-length : tie.Need-same-length
-same-length c = search needs
-
--- src/lib.rt:108:1
-returns : tie.Need-returns
-returns c = (c .before .before .collect .ensures .0, omega (arith, c .before .before .collect .ensures .1, source-room (c .before .before .before .before .before .before .args .t .now) (c .before .before .before .before .before .before .pre .0)), c .before .before .collect .ensures .2 ∙ c .before .before .before .before .before .before .pre .2)
-
 pub sources-spec : {M : Type 1} → statement M
-sources-spec = tie.close (tie.spec collect-requires same-length returns)
+sources-spec =
+    tie.close
+    (tie.spec
+    (λ c κs. (c .before .before .before .pre .0, c .before .before .before .pre .1, omega (arith, source-room (c .before .before .before .args .t .now) (c .before .before .before .pre .0), c .before .before .before .pre .2), omega (arith, c .before .before .before .pre .2)))
+    (λ c. search needs)
+    (λ c. (c .before .before .collect .ensures .0, omega (arith, c .before .before .collect .ensures .1, source-room (c .before .before .before .before .before .before .args .t .now) (c .before .before .before .before .before .before .pre .0)), c .before .before .collect .ensures .2 ∙ c .before .before .before .before .before .before .pre .2)))

@@ -18,49 +18,17 @@ Inv-loop t parts out₀ q₀ n₀ out q n = (q ≤ parts) × (length out ≡ 102
 abbrev μ-loop : tie.MeasureT-loop
 μ-loop t parts out₀ q₀ n₀ out q n = parts - q
 
--- src/lib.rt:122:5
-loop-holds : tie.Need-loop-holds Inv-loop μ-loop
-loop-holds c = (search needs, c .before .before .pre .2, order-start (c .before .before .args .t .now) (c .before .before .args .parts), omega (arith, ap length (order-start (c .before .before .args .t .now) (c .before .before .args .parts))))
-
--- src/lib.rt:123:31
-add-collect : tie.Need-add-collect Inv-loop μ-loop
-add-collect c = search needs
-
--- src/lib.rt:123:9
-collect-requires : tie.Need-collect-requires Inv-loop μ-loop
-collect-requires c κs = (c .before .before .before .before .before .pre .0, c .before .before .before .before .before .pre .1, omega (arith, c .before .before .loop .inv .1, c .before .before .loop .inv .3, few-targets (c .before .before .before .before .before .args .t .now) (c .before .before .before .before .before .pre .0) (c .before .before .before .before .before .args .parts), ap length (order-on (c .before .before .before .before .before .args .t .now) (c .before .before .loop .q) (c .before .before .before .before .before .args .parts) (c .before .loop-test .taken)), length-append (offsets false (c .before .before .loop .q + 1) (c .before .before .before .before .before .args .t .now)) (target-offsets (c .before .before .before .before .before .args .t .now) (c .before .before .loop .q + 1) (c .before .before .before .before .before .args .parts - (c .before .before .loop .q + 1)))), omega (arith, c .before .before .loop .inv .1))
-
--- src/lib.rt:124:9
-add-q : tie.Need-add-q Inv-loop μ-loop
-add-q c = search needs
-
--- src/lib.rt:122:5
-loop-less : tie.Need-loop-less Inv-loop μ-loop
-loop-less c = search needs
-
--- src/lib.rt:122:5
-loop-again : tie.Need-loop-again Inv-loop μ-loop
-loop-again c = (search needs, c .before .before .collect .ensures .2 ∙ c .before .before .before .before .before .loop .inv .1, collected (offsets false (c .before .before .before .before .before .loop .q + 1) (c .before .before .before .before .before .before .before .before .args .t .now)) _ _ (take (c .before .before .before .before .before .loop .n) (c .before .before .before .before .before .loop .out)) _ _ (order-on (c .before .before .before .before .before .before .before .before .args .t .now) (c .before .before .before .before .before .loop .q) (c .before .before .before .before .before .before .before .before .args .parts) (c .before .before .before .before .loop-test .taken)) (c .before .before .collect .ensures .0) (c .before .before .before .before .before .loop .inv .2), counted (offsets false (c .before .before .before .before .before .loop .q + 1) (c .before .before .before .before .before .before .before .before .args .t .now)) _ _ (c .before .before .before .before .before .loop .n) _ _ (order-on (c .before .before .before .before .before .before .before .before .args .t .now) (c .before .before .before .before .before .loop .q) (c .before .before .before .before .before .before .before .before .args .parts) (c .before .before .before .before .loop-test .taken)) (c .before .before .collect .ensures .1) (c .before .before .before .before .before .loop .inv .3))
-
--- src/lib.rt:116:1
-same-length : tie.Need-same-length Inv-loop μ-loop
-same-length c = search needs
-
--- src/lib.rt:116:1
-returns : tie.Need-returns Inv-loop μ-loop
-returns c = let z = order-end (c .before .before .before .before .args .t .now) (c .before .loop .q) (c .before .before .before .before .args .parts) (c .loop-test .left) in (sym (append-nil (take (c .before .loop .n) (c .before .loop .out))) ∙ ap (λ (l : List ℕ). take (c .before .loop .n) (c .before .loop .out) ++ l) (sym z) ∙ c .before .loop .inv .2, omega (arith, ap length z, c .before .loop .inv .3, few-targets (c .before .before .before .before .args .t .now) (c .before .before .before .before .pre .0) (c .before .before .before .before .args .parts)), c .before .loop .inv .1)
-
 pub targets-spec : {M : Type 1} → statement M
 targets-spec =
     tie.close
     (tie.spec
     Inv-loop
     μ-loop
-    loop-holds
-    add-collect
-    collect-requires
-    add-q
-    loop-less
-    loop-again
-    same-length
-    returns)
+    (λ c. (search needs, c .before .before .pre .2, order-start (c .before .before .args .t .now) (c .before .before .args .parts), omega (arith, ap length (order-start (c .before .before .args .t .now) (c .before .before .args .parts)))))
+    (λ c. search needs)
+    (λ c κs. (c .before .before .before .before .before .pre .0, c .before .before .before .before .before .pre .1, omega (arith, c .before .before .loop .inv .1, c .before .before .loop .inv .3, few-targets (c .before .before .before .before .before .args .t .now) (c .before .before .before .before .before .pre .0) (c .before .before .before .before .before .args .parts), ap length (order-on (c .before .before .before .before .before .args .t .now) (c .before .before .loop .q) (c .before .before .before .before .before .args .parts) (c .before .loop-test .taken)), length-append (offsets false (c .before .before .loop .q + 1) (c .before .before .before .before .before .args .t .now)) (target-offsets (c .before .before .before .before .before .args .t .now) (c .before .before .loop .q + 1) (c .before .before .before .before .before .args .parts - (c .before .before .loop .q + 1)))), omega (arith, c .before .before .loop .inv .1)))
+    (λ c. search needs)
+    (λ c. search needs)
+    (λ c. (search needs, c .before .before .collect .ensures .2 ∙ c .before .before .before .before .before .loop .inv .1, collected (offsets false (c .before .before .before .before .before .loop .q + 1) (c .before .before .before .before .before .before .before .before .args .t .now)) _ _ (take (c .before .before .before .before .before .loop .n) (c .before .before .before .before .before .loop .out)) _ _ (order-on (c .before .before .before .before .before .before .before .before .args .t .now) (c .before .before .before .before .before .loop .q) (c .before .before .before .before .before .before .before .before .args .parts) (c .before .before .before .before .loop-test .taken)) (c .before .before .collect .ensures .0) (c .before .before .before .before .before .loop .inv .2), counted (offsets false (c .before .before .before .before .before .loop .q + 1) (c .before .before .before .before .before .before .before .before .args .t .now)) _ _ (c .before .before .before .before .before .loop .n) _ _ (order-on (c .before .before .before .before .before .before .before .before .args .t .now) (c .before .before .before .before .before .loop .q) (c .before .before .before .before .before .before .before .before .args .parts) (c .before .before .before .before .loop-test .taken)) (c .before .before .collect .ensures .1) (c .before .before .before .before .before .loop .inv .3)))
+    (λ c. search needs)
+    (λ c. let z = order-end (c .before .before .before .before .args .t .now) (c .before .loop .q) (c .before .before .before .before .args .parts) (c .loop-test .left) in (sym (append-nil (take (c .before .loop .n) (c .before .loop .out))) ∙ ap (λ (l : List ℕ). take (c .before .loop .n) (c .before .loop .out) ++ l) (sym z) ∙ c .before .loop .inv .2, omega (arith, ap length z, c .before .loop .inv .3, few-targets (c .before .before .before .before .args .t .now) (c .before .before .before .before .pre .0) (c .before .before .before .before .args .parts)), c .before .loop .inv .1)))

@@ -23,64 +23,20 @@ Inv-loop t os best₀ i₀ best i = (i ≤ length os) × (before : Content) × (
 abbrev μ-loop : tie.MeasureT-loop
 μ-loop t os best₀ i₀ best i = length os - i
 
--- src/lib.rt:241:5
-loop-holds : tie.Need-loop-holds Inv-loop μ-loop
-loop-holds c = (search needs, [], toward-none 10 _)
-
--- src/lib.rt:242:23
-mul-wide : tie.Need-mul-wide Inv-loop μ-loop
-mul-wide c = search needs
-
--- src/lib.rt:242:23
-shared-slice-read-wide : tie.Need-shared-slice-read-wide Inv-loop μ-loop
-shared-slice-read-wide c = search needs
-
--- src/lib.rt:242:13
-wide-requires : tie.Need-wide-requires Inv-loop μ-loop
-wide-requires c κs = search needs
-
--- src/lib.rt:243:44
-view-at-requires : tie.Need-view-at-requires Inv-loop μ-loop
-view-at-requires c κs = search needs
-
--- src/lib.rt:243:25
-bad-copy-in-source-requires : tie.Need-bad-copy-in-source-requires Inv-loop μ-loop
-bad-copy-in-source-requires c κs = search needs
-
--- src/lib.rt:243:9
-lower-if-requires : tie.Need-lower-if-requires Inv-loop μ-loop
-lower-if-requires c κs = search needs
-
--- src/lib.rt:244:9
-add-i : tie.Need-add-i Inv-loop μ-loop
-add-i c = search needs
-
--- src/lib.rt:241:5
-loop-less : tie.Need-loop-less Inv-loop μ-loop
-loop-less c = search needs
-
--- src/lib.rt:241:5
-loop-again : tie.Need-loop-again Inv-loop μ-loop
-loop-again c = (search needs, (item-at (c .before .before .before .before .before .before .before .before .before .args .t .now) (getD (c .before .before .before .before .before .before .before .before .before .args .os .now) (c .before .before .before .before .before .before .loop .i) 0)) ∷ c .before .before .before .before .before .before .loop .inv .1, c .before .before .before .before .before .before .loop .inv .2 ∙ blamed-on bad-10-source (c .before .before .before .before .before .before .before .before .before .args .t .now) (c .before .before .before .before .before .before .before .before .before .args .os .now) (c .before .before .before .before .before .before .loop .inv .1) (c .before .before .before .before .before .before .loop .i) (c .before .before .before .before .before .before .loop .best) 10 (c .before .bad-copy-in-source .result) (c .before .before .before .before .before .loop-test .taken) (c .before .bad-copy-in-source .ensures ∙ ap badTenSource (c .before .before .view-at .ensures ∙ ap (λ (k : ℕ). viewOf (item-at (c .before .before .before .before .before .before .before .before .before .args .t .now) k)) (c .before .before .before .wide .ensures .0)) ∙ ten-source-is (c .before .before .before .before .before .before .loop .inv .1) (item-at (c .before .before .before .before .before .before .before .before .before .args .t .now) (getD (c .before .before .before .before .before .before .before .before .before .args .os .now) (c .before .before .before .before .before .before .loop .i) 0)) (items (placed-at (c .before .before .before .before .before .before .before .before .before .args .t .now) (drop (suc (c .before .before .before .before .before .before .loop .i)) (c .before .before .before .before .before .before .before .before .before .args .os .now))))) ∙ ap (λ (p : Place). toward 10 p (blamed bad-10-source ((item-at (c .before .before .before .before .before .before .before .before .before .args .t .now) (getD (c .before .before .before .before .before .before .before .before .before .args .os .now) (c .before .before .before .before .before .before .loop .i) 0)) ∷ c .before .before .before .before .before .before .loop .inv .1) (placed-at (c .before .before .before .before .before .before .before .before .before .args .t .now) (drop (c .before .before .before .before .before .before .loop .i + 1) (c .before .before .before .before .before .before .before .before .before .args .os .now))))) (sym (c .lower-if .ensures ∙ ap (λ (k : ℕ). cond (c .before .bad-copy-in-source .result) (lower (c .before .before .before .before .before .before .loop .best) k) (c .before .before .before .before .before .before .loop .best)) (c .before .before .before .wide .ensures .0))))
-
--- src/lib.rt:236:1
-returns : tie.Need-returns Inv-loop μ-loop
-returns c = sym (c .before .loop .inv .2 ∙ blamed-end bad-10-source (c .before .before .before .before .args .t .now) (c .before .before .before .before .args .os .now) (c .before .loop .inv .1) (c .before .loop .i) (c .before .loop .best) 10 (c .loop-test .left))
-
 pub ten-source-spec : {M : Type 1} → statement M
 ten-source-spec =
     tie.close
     (tie.spec
     Inv-loop
     μ-loop
-    loop-holds
-    mul-wide
-    shared-slice-read-wide
-    wide-requires
-    view-at-requires
-    bad-copy-in-source-requires
-    lower-if-requires
-    add-i
-    loop-less
-    loop-again
-    returns)
+    (λ c. (search needs, [], toward-none 10 _))
+    (λ c. search needs)
+    (λ c. search needs)
+    (λ c κs. search needs)
+    (λ c κs. search needs)
+    (λ c κs. search needs)
+    (λ c κs. search needs)
+    (λ c. search needs)
+    (λ c. search needs)
+    (λ c. (search needs, (item-at (c .before .before .before .before .before .before .before .before .before .args .t .now) (getD (c .before .before .before .before .before .before .before .before .before .args .os .now) (c .before .before .before .before .before .before .loop .i) 0)) ∷ c .before .before .before .before .before .before .loop .inv .1, c .before .before .before .before .before .before .loop .inv .2 ∙ blamed-on bad-10-source (c .before .before .before .before .before .before .before .before .before .args .t .now) (c .before .before .before .before .before .before .before .before .before .args .os .now) (c .before .before .before .before .before .before .loop .inv .1) (c .before .before .before .before .before .before .loop .i) (c .before .before .before .before .before .before .loop .best) 10 (c .before .bad-copy-in-source .result) (c .before .before .before .before .before .loop-test .taken) (c .before .bad-copy-in-source .ensures ∙ ap badTenSource (c .before .before .view-at .ensures ∙ ap (λ (k : ℕ). viewOf (item-at (c .before .before .before .before .before .before .before .before .before .args .t .now) k)) (c .before .before .before .wide .ensures .0)) ∙ ten-source-is (c .before .before .before .before .before .before .loop .inv .1) (item-at (c .before .before .before .before .before .before .before .before .before .args .t .now) (getD (c .before .before .before .before .before .before .before .before .before .args .os .now) (c .before .before .before .before .before .before .loop .i) 0)) (items (placed-at (c .before .before .before .before .before .before .before .before .before .args .t .now) (drop (suc (c .before .before .before .before .before .before .loop .i)) (c .before .before .before .before .before .before .before .before .before .args .os .now))))) ∙ ap (λ (p : Place). toward 10 p (blamed bad-10-source ((item-at (c .before .before .before .before .before .before .before .before .before .args .t .now) (getD (c .before .before .before .before .before .before .before .before .before .args .os .now) (c .before .before .before .before .before .before .loop .i) 0)) ∷ c .before .before .before .before .before .before .loop .inv .1) (placed-at (c .before .before .before .before .before .before .before .before .before .args .t .now) (drop (c .before .before .before .before .before .before .loop .i + 1) (c .before .before .before .before .before .before .before .before .before .args .os .now))))) (sym (c .lower-if .ensures ∙ ap (λ (k : ℕ). cond (c .before .bad-copy-in-source .result) (lower (c .before .before .before .before .before .before .loop .best) k) (c .before .before .before .before .before .before .loop .best)) (c .before .before .before .wide .ensures .0)))))
+    (λ c. sym (c .before .loop .inv .2 ∙ blamed-end bad-10-source (c .before .before .before .before .args .t .now) (c .before .before .before .before .args .os .now) (c .before .loop .inv .1) (c .before .loop .i) (c .before .loop .best) 10 (c .loop-test .left))))

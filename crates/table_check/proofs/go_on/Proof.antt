@@ -13,26 +13,13 @@ use borrow.Author.Needs.{needs}
 use Rattle.table_check.proofs.go_on.Statement.{statement}
 use Rattle.table_check.proofs.go_on.Tie as tie
 
--- src/lib.rt:61:26
-enum-known-a : tie.Need-enum-known-a
-enum-known-a c = search needs
-
--- src/lib.rt:61:34
-by-rules-requires : tie.Need-by-rules-requires
-by-rules-requires c κs = let s = so-far (c .before .before .before .before .args .t .now) (c .before .a .given .0 .0) (bytes-from (c .before .before .before .before .args .t .now) (λ i p. omega (arith, (c .before .before .before .shared-slice-known .given) i))) (ap answer-meaning (sym (c .before .a .given .1)) ∙ (c .before .before .before .before .pre)) in (s .0, s .1, s .2)
-
--- src/lib.rt:62:25
-enum-known-a-2 : tie.Need-enum-known-a-2
-enum-known-a-2 c = search needs
-
--- src/lib.rt:56:1
-returns : tie.Need-returns
-returns c = let s = so-far (c .before .before .before .before .before .args .t .now) (c .before .before .a .given .0 .0) (bytes-from (c .before .before .before .before .before .args .t .now) (λ i p. omega (arith, (c .before .before .before .before .shared-slice-known .given) i))) (ap answer-meaning (sym (c .before .before .a .given .1)) ∙ (c .before .before .before .before .before .pre)) in c .by-rules .ensures ∙ ap (λ (o : Option Refusal). answer (unless o (c .before .before .before .before .before .args .t .now))) (sym (s .3))
-
--- src/lib.rt:56:1
-returns-2 : tie.Need-returns-2
-unfolding table-so-far
-returns-2 c = refused-same (c .before .before .before .before .args .t .now) (c .before .a2 .given .0 .0) (c .before .a2 .given .0 .1 .0) (applies 1 (ltb most-bytes (length (c .before .before .before .before .args .t .now)))) (table-fault (c .before .before .before .before .args .t .now)) (rules-so-far (c .before .before .before .before .args .t .now)) (ap answer-meaning (sym (c .before .a2 .given .1)) ∙ (c .before .before .before .before .pre))
-
 pub go-on-spec : {M : Type 1} → statement M
-go-on-spec = tie.close (tie.spec enum-known-a by-rules-requires enum-known-a-2 returns returns-2)
+unfolding table-so-far
+go-on-spec =
+    tie.close
+    (tie.spec
+    (λ c. search needs)
+    (λ c κs. let s = so-far (c .before .before .before .before .args .t .now) (c .before .a .given .0 .0) (bytes-from (c .before .before .before .before .args .t .now) (λ i p. omega (arith, (c .before .before .before .shared-slice-known .given) i))) (ap answer-meaning (sym (c .before .a .given .1)) ∙ (c .before .before .before .before .pre)) in (s .0, s .1, s .2))
+    (λ c. search needs)
+    (λ c. let s = so-far (c .before .before .before .before .before .args .t .now) (c .before .before .a .given .0 .0) (bytes-from (c .before .before .before .before .before .args .t .now) (λ i p. omega (arith, (c .before .before .before .before .shared-slice-known .given) i))) (ap answer-meaning (sym (c .before .before .a .given .1)) ∙ (c .before .before .before .before .before .pre)) in c .by-rules .ensures ∙ ap (λ (o : Option Refusal). answer (unless o (c .before .before .before .before .before .args .t .now))) (sym (s .3)))
+    (λ c. refused-same (c .before .before .before .before .args .t .now) (c .before .a2 .given .0 .0) (c .before .a2 .given .0 .1 .0) (applies 1 (ltb most-bytes (length (c .before .before .before .before .args .t .now)))) (table-fault (c .before .before .before .before .args .t .now)) (rules-so-far (c .before .before .before .before .args .t .now)) (ap answer-meaning (sym (c .before .a2 .given .1)) ∙ (c .before .before .before .before .pre))))

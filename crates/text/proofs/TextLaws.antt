@@ -11,9 +11,9 @@ use Rattle.xliff.specs.Bytes.{gather}
 use Rattle.xliff.specs.Text as spec
 use Rattle.xliff.specs.Text.{between, xml-allows, text-of}
 use Rattle.xliff.proofs.text.Utf8.{Allowed, no-text, one-point, allowed-bound, text-of-utf8s, text-of-some}
-use Rattle.table.specs.Utf8.{utf8, utf8s, scalar, within, xmlChar, codes, allXml, someXml, textOk, allScalar}
-use Rattle.table.proofs.Laws.{split, both-left, both-right}
-use Rattle.table.proofs.Coding.{codes-of-bytes, bytes-of-codes}
+use Rattle.text.specs.Utf8.{utf8, utf8s, scalar, within, xmlChar, codes, allXml, someXml, textOk, allScalar}
+use Rattle.text.proofs.Laws.{split, both-left, both-right}
+use Rattle.text.proofs.Coding.{codes-of-bytes, bytes-of-codes}
 
 or-apart : (x p q r : Bool) → x || (p || q || r) ≡ x || p || q || r
 or-apart true p q r = refl
