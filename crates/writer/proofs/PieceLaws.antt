@@ -1,0 +1,52 @@
+-- Laws of pieces in an output.
+use Prim.Native.Nat.{ℕ, zero, suc, _+_, _-_, _≤_, _<_}
+use mathlib.Core.Path.{_≡_, refl, sym, _∙_, ap}
+use mathlib.Core.List.{List, [], _∷_, _++_, append-assoc, append-nil}
+use native.Mathlib.Nat.{le-refl}
+use native.Mathlib.Numerals.{add-one}
+use native.Mathlib.Omega.{arith}
+use lib.ListN.{length, take, drop, getD, set, length-drop, length-append, drop-of-length-le}
+use lib.Seq.{take-all, take-length, take-suc, drop-cons, set-at, length-take-le, append-snoc, drop-drop, take-append-seam, drop-append-seam, drop-append-add, set-split}
+use Rattle.writer.specs.Pieces.{lead, overlay}
+
+-- `&s[n..]` is the rest
+pub tail-is : (n : ℕ) (s : List ℕ) → take (length s - n) (drop n s) ≡ drop n s
+tail-is n s = take-all (length s - n) (drop n s) (omega (arith, length-drop n s))
+
+-- and nothing is behind it
+pub tail-ends : (n : ℕ) (s : List ℕ) → drop (length s - n) (drop n s) ≡ []
+tail-ends n s = drop-of-length-le (drop n s) {i = length s - n} (omega (arith, length-drop n s))
+
+-- one byte more of a copy
+pub lead-suc : (s out : List ℕ) (i : ℕ) → i < length s → i < length out → set (take i s ++ drop i out) i (getD s i 0) ≡ take (i + 1) s ++ drop (i + 1) out
+lead-suc s out i h k =
+    rw (add-one, take-suc s i 0, append-snoc, drop-cons out i 0)
+    (set-at (take i s) (getD out i 0) (drop (suc i) out) (getD s i 0) i (length-take-le i s (omega arith)))
+
+pub lead-full : (s out : List ℕ) (i : ℕ) → i ≡ length s → take i s ++ drop i out ≡ lead s out
+lead-full s out i e = rw (e, take-length)
+
+-- a tail that was lent and came back with a piece at its head
+pub tail-back : (out p ys : List ℕ) (n : ℕ) → ys ≡ lead p (take (length out - n) (drop n out))
+    → take n out ++ (ys ++ drop (length out - n) (drop n out)) ≡ take n out ++ lead p (drop n out)
+tail-back out p ys n e = rw (e, tail-is, tail-ends, append-nil)
+
+pub range-back : (out p ys : List ℕ) (n : ℕ) → ys ≡ lead p (take (length out - n) (drop n out))
+    → take n out ++ (ys ++ drop (length out - n) (drop n out)) ≡ overlay out n p
+range-back out p ys n e = tail-back out p ys n e ∙ rw (drop-drop, append-assoc)
+
+-- the second piece behind the first
+pub two-back : (out a b xs ys : List ℕ) (n : ℕ) → n ≡ length a → xs ≡ lead a out → ys ≡ lead b (take (length xs - n) (drop n xs))
+    → take n xs ++ (ys ++ drop (length xs - n) (drop n xs)) ≡ lead (a ++ b) out
+two-back out a b xs ys n e f g =
+    tail-back xs b ys n g
+    ∙ rw (e, f, take-append-seam, drop-append-seam, drop-drop, length-append, append-assoc)
+
+-- a piece written directly behind what stands at the head
+pub over-lead : (out p q l : List ℕ) (at : ℕ) → l ≡ lead p out → at ≡ length p → overlay l at q ≡ lead (p ++ q) out
+over-lead out p q l at e f =
+    rw (e, f, take-append-seam, drop-append-add, drop-drop, length-append)
+
+-- one store
+pub one-byte : (out : List ℕ) (at b : ℕ) → at < length out → set out at b ≡ overlay out at (b ∷ [])
+one-byte out at b h = set-split out at b h ∙ rw (add-one, append-snoc)
