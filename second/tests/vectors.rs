@@ -1,4 +1,4 @@
-//! Every line of `shared/vectors/jobs.txt`, where that file is present: a third opinion.
+//! Every line of `vectors/jobs.txt`: a third opinion.
 
 use second::desk::{desk, from_hexadecimal};
 use second::notation::job_in_notation;
@@ -6,11 +6,8 @@ use second::operations::Operation;
 
 #[test]
 fn desk_prints_what_the_vectors_expect() {
-    let path = concat!(env!("CARGO_MANIFEST_DIR"), "/../../shared/vectors/jobs.txt");
-    let Ok(file) = std::fs::read_to_string(path) else {
-        println!("no vectors at {path}: nothing compared");
-        return;
-    };
+    let path = concat!(env!("CARGO_MANIFEST_DIR"), "/../vectors/jobs.txt");
+    let file = std::fs::read_to_string(path).expect("the file of vectors");
     let mut passed = 0;
     for (number, line) in file.lines().enumerate() {
         // The empty job leaves its word empty.

@@ -1,2 +1,3 @@
 pub mod Contents
 pub mod Nesting
+pub mod Heads

@@ -1,4 +1,114 @@
-// The contents of a table, each by itself.
-pub fn tg_key() -> u32 {
-    1
+// The contents of a table, each by itself: the offsets of heads and markers in table order, and their keys.
+use table::Read;
+use table::Record;
+ghost use mathlib.Core.Path.{_≡_};
+ghost use mathlib.Core.Bool.{false, cond};
+ghost use mathlib.Core.List.{[], _∷_, _++_};
+ghost use Prim.Native.Nat.{_+_, _-_, _<_, _≤_};
+ghost use lib.ListN.{length, take, drop};
+ghost use lib.Dec.{eqb};
+ghost use Rattle.xliff.specs.Item.{class};
+ghost use Rattle.xliff.specs.Parse.{read};
+ghost use Rattle.places.specs.Passes.{Passes};
+ghost use Rattle.places.specs.Markers.{item-at};
+ghost use Rattle.contents.specs.Heads.{headIn, headOf, insideAfter, isFound};
+ghost use Rattle.contents.specs.Contents.{barred, bar-key, barKeys};
+
+fn head_in(x: Record) -> u8
+    ensures { λ r. ⌜ r ≡ headIn x ⌝ }
+{
+    match x {
+        Record::Unit(_) => 2,
+        Record::UnitEnd => 2,
+        Record::Segment(_, _, _) => 0,
+        Record::Ignorable(_) => 0,
+        Record::Target(_) => 1,
+        Record::Text => 2,
+        Record::Inline(_) => 2,
+    }
+}
+
+// 0 for SG and IG, 1 for TG, 2 for all else.
+fn head_of(r: Read) -> u8
+    ensures { λ x. ⌜ x ≡ headOf r ⌝ }
+{
+    match r {
+        Read::Good(x, _) => head_in(x),
+        Read::Ill => 2,
+        Read::Broken(_) => 2,
+    }
+}
+
+// Whether what follows a record is of a content that is asked for.
+fn inside_after(targets: bool, head: u8, inside: bool) -> bool
+    ensures { λ r. ⌜ r ≡ insideAfter targets head inside ⌝ }
+{
+    (head == 0) | (((head == 1) & targets) | ((head == 2) & inside))
+}
+
+// Whether a record is a head, or a marker of a content that is asked for.
+fn is_found(t: &[u8], at: usize, head: u8, inside: bool) -> bool
+    ensures { λ r. ⌜ r ≡ isFound head inside (class (item-at (now (t .entry)) at)) ⌝ }
+{
+    let v = views::view_at(t, at);
+    !(head == 2) | (inside & !(v.class == 0))
+}
+
+// `at` behind the first `m` of `out`, if asked for; how many there are then.
+fn put_if(b: bool, out: &mut [u16], m: usize, at: u16) -> usize
+    requires { ⌜ (length (cond b (at ∷ []) []) + m ≤ length (now out)) × (length (now out) ≤ 1024) ⌝ }
+    ensures { λ r. ⌜ (take r (now (out .exit)) ≡ take m (now (out .entry)) ++ cond b (at ∷ []) []) × (r ≡ length (cond b (at ∷ []) []) + m) × (length (now (out .exit)) ≡ length (now (out .entry))) ⌝ }
+{
+    if b {
+        out[m] = at;
+        return 1 + m;
+    }
+    m
+}
+
+// The offsets of the heads (SG, IG, TG) and of the markers of source contents and, where `targets`, of target contents, in table order.
+pub fn contents(t: &[u8], targets: bool, out: &mut [u16]) -> usize
+    requires { ⌜ Passes (now t) × (length (now t) ≤ 8192) × (length (now out) ≡ 1024) ⌝ }
+    ensures { λ r. ⌜ (take r (now (out .exit)) ≡ barred targets (now (t .entry))) × (r ≤ 1024) × (length (now (out .exit)) ≡ 1024) ⌝ }
+{
+    let mut at: usize = 0;
+    let mut inside = false;
+    let mut m: usize = 0;
+    while at < t.len() {
+        let r = table::record_of(&t[at..]);
+        let head = head_of(r);
+        m = put_if(is_found(t, at, head, inside), out, m, at as u16);
+        inside = inside_after(targets, head, inside);
+        at += syntax::width_of(r);
+    }
+    m
+}
+
+// The key of a head or marker; 1 for TG.
+fn key_by(head: u8, key: u32) -> u32
+    ensures { λ r. ⌜ r ≡ cond (eqb head 1) 1 key ⌝ }
+{
+    if head == 1 { 1 } else { key }
+}
+
+// The key of the record at an offset: 1 for TG, 0 for all but TG and markers, also where no record is.
+fn bar_key(t: &[u8], at: usize) -> u32
+    ensures { λ r. ⌜ r ≡ bar-key (read (drop at (now (t .entry)))) ⌝ }
+{
+    if t.len() < at {
+        return 0;
+    }
+    key_by(head_of(table::record_of(&t[at..])), keys::key_at(t, at))
+}
+
+// The keys of the heads and markers at some offsets, at the front of `out`.
+pub fn bar_keys(t: &[u8], os: &[u16], out: &mut [u32])
+    requires { ⌜ length (now os) ≤ length (now out) ⌝ }
+    ensures { λ r. ⌜ (take (length (now (os .entry))) (now (out .exit)) ≡ barKeys (now (t .entry)) (now (os .entry))) × (length (now (out .exit)) ≡ length (now (out .entry))) ⌝ }
+{
+    let mut i: usize = 0;
+    while i < os.len() {
+        out[i] = bar_key(t, views::wide(os[i]));
+        i += 1;
+    }
 }

@@ -148,7 +148,7 @@ fn count_if(k: u32, n: usize) -> usize
 }
 
 // Rule 6.
-pub fn first_name(t: &[u8]) -> Place
+pub fn rule_6(t: &[u8]) -> Place
     requires { ⌜ Passes (now t) ⌝ }
     ensures { λ r. ⌜ refusal-at 6 r ≡ fault-6 (unit (now (t .entry)) .parts) ⌝ }
 {

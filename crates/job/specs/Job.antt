@@ -1,14 +1,22 @@
 -- Stepping stones of the job runner: the size of a record by its mark.
 use Prim.Native.Nat.{ℕ, _+_}
 use mathlib.Core.Bool.{Bool, false, cond}
-use mathlib.Core.List.{List, [], _∷_}
+use mathlib.Core.List.{List, [], _∷_, _++_}
+use lib.ListN.{length, take}
+use lib.Dec.{ltb}
 use Rattle.xliff.specs.Bytes.{two-at, enough}
+use Rattle.xliff.specs.Answer.{refused}
 use Rattle.xliff.specs.Calls.{Call}
+use Rattle.xliff.specs.Desk.{line, table-line}
 use Rattle.table.specs.Number.{marked}
 
 -- no operation runs yet
 abbrev pub none-yet : Call → Bool
 none-yet c = false
+
+-- what an accepted table of n bytes prints while no operation runs
+unfoldable pub requestLines : ℕ → List ℕ → List ℕ
+requestLines n job = cond (ltb n (length job)) (line (refused 2 n) ++ table-line (take n job)) (table-line (take n job))
 
 -- n, if there are so many bytes, else 0
 unfoldable pub wholeOf : ℕ → List ℕ → ℕ

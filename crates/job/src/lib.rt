@@ -9,7 +9,7 @@ ghost use Rattle.xliff.specs.Check.{check};
 ghost use Rattle.xliff.specs.Desk.{whole-size, is-UE, table-length, answer-requests, desk-job, desk-with};
 ghost use Rattle.answers.specs.Answers.{answer-meaning};
 ghost use Rattle.writer.specs.Pieces.{lead};
-ghost use Rattle.job.specs.Job.{none-yet, wholeOf, annotationSize, pairSize, inlineSize, markedSize};
+ghost use Rattle.job.specs.Job.{none-yet, requestLines, wholeOf, annotationSize, pairSize, inlineSize, markedSize};
 
 // `n`, if there are so many bytes, else 0.
 fn whole(t: &[u8], n: usize) -> usize
@@ -148,4 +148,44 @@ fn table_length(job: &[u8]) -> usize
         at += n;
     }
     job.len()
+}
+
+// What is printed behind an accepted table's place in the job: its requests' lines and the table. No operation runs yet, so that the first request is unreadable.
+fn put_requests(job: &[u8], n: usize, out: &mut [u8]) -> usize
+    requires { ⌜ (n ≤ length (now job)) × (length (now job) ≤ 65535) × (length (now out) ≡ 262144) ⌝ }
+    ensures { λ r. ⌜ (r ≡ length (requestLines n (now (job .entry)))) × (now (out .exit) ≡ lead (requestLines n (now (job .entry))) (now (out .entry))) ⌝ }
+{
+    if n < job.len() {
+        let k = lines::put_line(out, Answer::Refused(2, n));
+        return k + lines::put_table(&mut out[k..], &job[..n]);
+    }
+    lines::put_table(out, &job[..n])
+}
+
+fn put_answers(job: &[u8], n: usize, a: Answer, out: &mut [u8]) -> usize
+    requires { ⌜ (n ≡ table-length (now job)) × (n ≤ length (now job)) × (length (now job) ≤ 65535) × (length (now out) ≡ 262144) × (answer-meaning a ≡ check (take n (now job))) ⌝ }
+    ensures { λ r. ⌜ (r ≡ length (desk-job none-yet (now (job .entry)))) × (now (out .exit) ≡ lead (desk-job none-yet (now (job .entry))) (now (out .entry))) ⌝ }
+{
+    match a {
+        Answer::Accepted(_) => put_requests(job, n, out),
+        Answer::Refused(k, at) => lines::put_line(out, Answer::Refused(k, at)),
+    }
+}
+
+fn run_job(job: &[u8], out: &mut [u8]) -> usize
+    requires { ⌜ (length (now job) ≤ 65535) × (length (now out) ≡ 262144) ⌝ }
+    ensures { λ r. ⌜ (r ≡ length (desk-job none-yet (now (job .entry)))) × (now (out .exit) ≡ lead (desk-job none-yet (now (job .entry))) (now (out .entry))) ⌝ }
+{
+    let n = table_length(job);
+    put_answers(job, n, table_check::check(&job[..n]), out)
+}
+
+// What the desk program prints for a job, at the head of `out`; its length. No job prints more than `out` holds.
+pub fn run(job: &[u8], out: &mut [u8; 262144]) -> usize
+    ensures { λ r. ⌜ (r ≡ length (desk-with none-yet (now (job .entry)))) × (now (out .exit) ≡ lead (desk-with none-yet (now (job .entry))) (now (out .entry))) ⌝ }
+{
+    if 65535 < job.len() {
+        return run_job(&job[..65535], out);
+    }
+    run_job(job, out)
 }

@@ -75,7 +75,7 @@ fn bad_order(n: usize, used: &[u8; 65], k: usize) -> bool
 }
 
 // Rule 5 of a table with `n` parts.
-pub fn first_order(t: &[u8], n: usize) -> Place
+pub fn rule_5(t: &[u8], n: usize) -> Place
     requires { ⌜ Passes (now t) × (n ≡ length (unit (now t) .parts)) ⌝ }
     ensures { λ r. ⌜ refusal-at 5 r ≡ fault-5 (unit (now (t .entry)) .parts) ⌝ }
 {

@@ -1,27 +1,69 @@
-// The check as far as it is proved: 1 to 6, and 10. Rules 7 to 9 go between 6 and 10 in the same way.
-use answers::Place;
+// The check of a table: the numbers 1 to 10. A rule is tried only where all before it are met.
 use answers::Answer;
+use answers::Place;
 ghost use mathlib.Core.Path.{_≡_};
-ghost use Prim.Native.Nat.{_-_, _≤_};
+ghost use Prim.Native.Nat.{_≤_};
 ghost use lib.ListN.{length};
 ghost use lib.Dec.{ltb};
-ghost use Rattle.answers.specs.Answers.{answer-meaning, refusal-at};
 ghost use Rattle.xliff.specs.Answer.{applies, _then_, unless, answer};
 ghost use Rattle.xliff.specs.Parse.{most-bytes, table-fault, unit};
-ghost use Rattle.xliff.specs.Rules.{fault-10};
+ghost use Rattle.xliff.specs.Rules.{fault-5, fault-6, fault-7, fault-8, fault-9, fault-10, fault-6-to-10};
+ghost use Rattle.xliff.specs.Check.{check};
 ghost use Rattle.places.specs.Passes.{Passes};
-ghost use Rattle.table_check.specs.Desk.{rules-so-far, table-so-far};
+ghost use Rattle.answers.specs.Answers.{answer-meaning, refusal-at};
+ghost use Rattle.table_check.specs.Markers.{Markers};
 
-// Rule 10, with the markers of both sequences.
-fn tenth(t: &[u8], parts: u16) -> Place
-    requires { ⌜ Passes (now t) × (length (now t) ≤ 8192) × (parts ≡ length (unit (now t) .parts)) × (parts ≤ 64) ⌝ }
-    ensures { λ r. ⌜ refusal-at 10 r ≡ fault-10 (unit (now (t .entry)) .parts) ⌝ }
+fn from_9(t: &[u8], len: usize, src: &[u16], skeys: &[u32], tgt: &[u16], tkeys: &[u32], nine: Place) -> Answer
+    requires { ⌜ Markers (now t) (now src) (now skeys) (now tgt) (now tkeys) × (len ≡ length (now t)) × (refusal-at 9 nine ≡ fault-9 (unit (now t) .parts)) ⌝ }
+    ensures { λ r. ⌜ answer-meaning r ≡ answer (unless (fault-9 (unit (now (t .entry)) .parts) then fault-10 (unit (now (t .entry)) .parts)) (now (t .entry))) ⌝ }
+{
+    match nine {
+        Place::At(at) => Answer::Refused(9, at),
+        Place::Nowhere => answers::refused_by(10, source_match::rule_10(t, src, tgt), Answer::Accepted(len)),
+    }
+}
+
+fn from_8(t: &[u8], len: usize, src: &[u16], skeys: &[u32], tgt: &[u16], tkeys: &[u32], eight: Place) -> Answer
+    requires { ⌜ Markers (now t) (now src) (now skeys) (now tgt) (now tkeys) × (len ≡ length (now t)) × (refusal-at 8 eight ≡ fault-8 (unit (now t) .parts)) ⌝ }
+    ensures { λ r. ⌜ answer-meaning r ≡ answer (unless (fault-8 (unit (now (t .entry)) .parts) then fault-9 (unit (now (t .entry)) .parts) then fault-10 (unit (now (t .entry)) .parts)) (now (t .entry))) ⌝ }
+{
+    match eight {
+        Place::At(at) => Answer::Refused(8, at),
+        Place::Nowhere => from_9(t, len, src, skeys, tgt, tkeys, overlap::rule_9(t, src, skeys, tgt, tkeys)),
+    }
+}
+
+fn from_7(t: &[u8], len: usize, src: &[u16], skeys: &[u32], tgt: &[u16], tkeys: &[u32], seven: Place) -> Answer
+    requires { ⌜ Markers (now t) (now src) (now skeys) (now tgt) (now tkeys) × (len ≡ length (now t)) × (refusal-at 7 seven ≡ fault-7 (unit (now t) .parts)) ⌝ }
+    ensures { λ r. ⌜ answer-meaning r ≡ answer (unless (fault-7 (unit (now (t .entry)) .parts) then fault-8 (unit (now (t .entry)) .parts) then fault-9 (unit (now (t .entry)) .parts) then fault-10 (unit (now (t .entry)) .parts)) (now (t .entry))) ⌝ }
+{
+    match seven {
+        Place::At(at) => Answer::Refused(7, at),
+        Place::Nowhere => from_8(t, len, src, skeys, tgt, tkeys, letters::rule_8(t, src, skeys, tgt, tkeys)),
+    }
+}
+
+fn by_markers(t: &[u8], len: usize, src: &[u16], skeys: &[u32], tgt: &[u16], tkeys: &[u32]) -> Answer
+    requires { ⌜ Markers (now t) (now src) (now skeys) (now tgt) (now tkeys) × (len ≡ length (now t)) ⌝ }
+    ensures { λ r. ⌜ answer-meaning r ≡ answer (unless (fault-7 (unit (now (t .entry)) .parts) then fault-8 (unit (now (t .entry)) .parts) then fault-9 (unit (now (t .entry)) .parts) then fault-10 (unit (now (t .entry)) .parts)) (now (t .entry))) ⌝ }
+{
+    from_7(t, len, src, skeys, tgt, tkeys, partners::rule_7(t, src, skeys, tgt, tkeys))
+}
+
+// Rules 7 to 10, with the markers of both sequences.
+fn by_sequences(t: &[u8], parts: u16, len: usize) -> Answer
+    requires { ⌜ Passes (now t) × (length (now t) ≤ 8192) × (parts ≡ length (unit (now t) .parts)) × (parts ≤ 64) × (len ≡ length (now t)) ⌝ }
+    ensures { λ r. ⌜ answer-meaning r ≡ answer (unless (fault-7 (unit (now (t .entry)) .parts) then fault-8 (unit (now (t .entry)) .parts) then fault-9 (unit (now (t .entry)) .parts) then fault-10 (unit (now (t .entry)) .parts)) (now (t .entry))) ⌝ }
 {
     let mut src = [0u16; 1024];
     let mut tgt = [0u16; 1024];
+    let mut skeys = [0u32; 1024];
+    let mut tkeys = [0u32; 1024];
     let k = sequences::sources(t, &mut src);
     let m = sequences::targets(t, parts, &mut tgt);
-    source_match::rule_10(t, &src[..k], &tgt[..m])
+    keys::keys_at(t, &src[..k], &mut skeys);
+    keys::keys_at(t, &tgt[..m], &mut tkeys);
+    by_markers(t, len, &src[..k], &skeys[..k], &tgt[..m], &tkeys[..m])
 }
 
 fn narrow(n: usize) -> u16
@@ -31,20 +73,37 @@ fn narrow(n: usize) -> u16
     n as u16
 }
 
-fn by_rules(t: &[u8], len: usize) -> Answer
-    requires { ⌜ Passes (now t) × (length (now t) ≤ 8192) × (len ≡ length (now t)) ⌝ }
-    ensures { λ r. ⌜ answer-meaning r ≡ answer (unless (rules-so-far (now (t .entry))) (now (t .entry))) ⌝ }
+fn from_6(t: &[u8], parts: usize, len: usize, six: Place) -> Answer
+    requires { ⌜ Passes (now t) × (length (now t) ≤ 8192) × (parts ≡ length (unit (now t) .parts)) × (len ≡ length (now t)) × (refusal-at 6 six ≡ fault-6 (unit (now t) .parts)) ⌝ }
+    ensures { λ r. ⌜ answer-meaning r ≡ answer (unless (fault-6-to-10 (unit (now (t .entry)) .parts)) (now (t .entry))) ⌝ }
 {
-    let n = orders::count_parts(t);
-    let five = orders::first_order(t, n);
-    let six = ids::first_name(t);
-    let ten = tenth(t, narrow(n));
-    answers::refused_by(5, five, answers::refused_by(6, six, answers::refused_by(10, ten, Answer::Accepted(len))))
+    match six {
+        Place::At(at) => Answer::Refused(6, at),
+        Place::Nowhere => by_sequences(t, narrow(parts), len),
+    }
 }
 
-fn go_on(t: &[u8], a: Answer) -> Answer
+fn from_5(t: &[u8], parts: usize, len: usize, five: Place) -> Answer
+    requires { ⌜ Passes (now t) × (length (now t) ≤ 8192) × (parts ≡ length (unit (now t) .parts)) × (len ≡ length (now t)) × (refusal-at 5 five ≡ fault-5 (unit (now t) .parts)) ⌝ }
+    ensures { λ r. ⌜ answer-meaning r ≡ answer (unless (fault-5 (unit (now (t .entry)) .parts) then fault-6-to-10 (unit (now (t .entry)) .parts)) (now (t .entry))) ⌝ }
+{
+    match five {
+        Place::At(at) => Answer::Refused(5, at),
+        Place::Nowhere => from_6(t, parts, len, ids::rule_6(t)),
+    }
+}
+
+fn by_rules(t: &[u8], len: usize) -> Answer
+    requires { ⌜ Passes (now t) × (length (now t) ≤ 8192) × (len ≡ length (now t)) ⌝ }
+    ensures { λ r. ⌜ answer-meaning r ≡ answer (unless (fault-5 (unit (now (t .entry)) .parts) then fault-6-to-10 (unit (now (t .entry)) .parts)) (now (t .entry))) ⌝ }
+{
+    let parts = orders::count_parts(t);
+    from_5(t, parts, len, orders::rule_5(t, parts))
+}
+
+fn after_syntax(t: &[u8], a: Answer) -> Answer
     requires { ⌜ answer-meaning a ≡ answer (unless (applies 1 (ltb most-bytes (length (now t))) then table-fault (now t)) (now t)) ⌝ }
-    ensures { λ r. ⌜ answer-meaning r ≡ answer (unless (table-so-far (now (t .entry))) (now (t .entry))) ⌝ }
+    ensures { λ r. ⌜ answer-meaning r ≡ check (now (t .entry)) ⌝ }
 {
     match a {
         Answer::Accepted(len) => by_rules(t, len),
@@ -52,9 +111,9 @@ fn go_on(t: &[u8], a: Answer) -> Answer
     }
 }
 
-// The numbers 1 to 6 and 10 of the check.
-pub fn check_so_far(t: &[u8]) -> Answer
-    ensures { λ r. ⌜ answer-meaning r ≡ answer (unless (table-so-far (now (t .entry))) (now (t .entry))) ⌝ }
+// Document 01, "Check". Any bytes of any length get an answer. Quadratic in the markers at most (rules 6 to 10).
+pub fn check(table: &[u8]) -> Answer
+    ensures { λ r. ⌜ answer-meaning r ≡ check (now (table .entry)) ⌝ }
 {
-    go_on(t, syntax::syntax(t))
+    after_syntax(table, syntax::syntax(table))
 }

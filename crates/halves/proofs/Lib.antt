@@ -1,0 +1,4 @@
+pub mod Scans
+pub mod Runs
+pub mod Others
+pub mod TwoSequences

@@ -1,0 +1,71 @@
+-- The nearest other half by the keys is that by the items; texts and characters are no halves.
+use Prim.Native.Nat.{ℕ, zero, suc, _-_, _<_}
+use mathlib.Core.Path.{_≡_, refl, ap, ap₂, _∙_}
+use mathlib.Core.Bool.{false, true≢false}
+use mathlib.Core.List.{List, [], _∷_}
+use native.Mathlib.Omega.{arith}
+use lib.ListN.{length, getD, length-map}
+use borrow.Author.Tests.{eqb-true, not-false}
+use Rattle.xliff.specs.Item.{Item, start, end, text, character, standalone, isolated, pair, annotation-start, annotation-end, class, half, other-half}
+use Rattle.xliff.proofs.lists.Tests.{and-false}
+use Rattle.places.specs.Markers.{item-at, is-marked}
+use Rattle.views.specs.Views.{itemsAt}
+use Rattle.keys.specs.Keys.{key, keysAt, otherKey}
+use Rattle.keys.proofs.KeyLaws.{other-key}
+use Rattle.halves.specs.Nearest.{next, previous, others, half-before, half-after, marker-at}
+use Rattle.halves.proofs.Scans.{next-same, previous-same}
+
+pub length-keys : (t os : List ℕ) → length (keysAt t os) ≡ length os
+unfolding keysAt itemsAt
+length-keys t os = length-map (itemsAt t os) key ∙ length-map os (item-at t)
+
+pub key-at : (t os : List ℕ) (k : ℕ) → k < length os → getD (keysAt t os) k 0 ≡ key (marker-at t os k)
+unfolding keysAt itemsAt
+key-at t [] k h = absurd (omega arith)
+key-at t (o ∷ os) zero h = refl
+key-at t (o ∷ os) (suc k) h = key-at t os k (omega arith)
+
+module _ (t os : List ℕ) (i : ℕ) (h : i < length os) where
+  others-are : (k : ℕ) → k < length os → others (keysAt t os) i k ≡ other-half (marker-at t os i) (marker-at t os k)
+  others-are k l = ap₂ otherKey (key-at t os i h) (key-at t os k l) ∙ other-key (marker-at t os i) (marker-at t os k)
+
+  pub before-is : half-before (keysAt t os) i ≡ previous (λ k. other-half (marker-at t os i) (marker-at t os k)) i
+  unfolding half-before
+  before-is = previous-same _ _ i (λ k l. others-are k (omega arith))
+
+  pub after-is : half-after (keysAt t os) i ≡ next (λ k. other-half (marker-at t os i) (marker-at t os k)) (suc i) (length os - suc i)
+  unfolding half-after
+  after-is =
+      ap (λ (n : ℕ). next (others (keysAt t os) i) (suc i) (n - suc i)) (length-keys t os)
+      ∙ next-same _ _ (suc i) (length os - suc i) (λ k g l. others-are k (omega arith))
+
+pub no-class : (x : Item) → is-marked x ≡ false → class x ≡ 0
+unfolding is-marked
+no-class x e = eqb-true (class x) 0 (not-false _ e)
+
+no-half : (y : Item) → is-marked y ≡ false → half y ≡ 0
+unfolding is-marked class half
+no-half (text c) e = refl
+no-half (character c) e = refl
+no-half (standalone f) e = refl
+no-half (isolated start f) e = refl
+no-half (isolated end f) e = refl
+no-half (pair h w f) e = absurd (true≢false e)
+no-half (annotation-start w i l) e = absurd (true≢false e)
+no-half (annotation-end w i) e = absurd (true≢false e)
+
+pub other-unmarked : (x y : Item) → is-marked y ≡ false → other-half x y ≡ false
+unfolding other-half
+other-unmarked x y e = simp (no-half y e, and-false)
+
+-- no marker is its own other half
+pub not-own : (x : Item) → other-half x x ≡ false
+unfolding other-half half
+not-own (text c) = simp and-false
+not-own (character c) = simp and-false
+not-own (standalone f) = simp and-false
+not-own (isolated h f) = simp and-false
+not-own (pair start w f) = simp and-false
+not-own (pair end w f) = simp and-false
+not-own (annotation-start w i l) = simp and-false
+not-own (annotation-end w i) = simp and-false

@@ -1,0 +1,37 @@
+// The nearest other half of a marker, before and after it in its sequence.
+ghost use mathlib.Core.Path.{_≡_};
+ghost use Prim.Native.Nat.{_<_, _≤_};
+ghost use lib.ListN.{length};
+ghost use Rattle.halves.specs.Nearest.{half-before, half-after};
+
+// The index of the nearest other half before that at `i`, plus one; 0 where there is none.
+// Linear in the markers before `i`: a scan of their keys.
+pub fn half_before(keys: &[u32], i: usize) -> usize
+    requires { ⌜ i < length (now keys) ⌝ }
+    ensures { λ r. ⌜ (r ≡ half-before (now (keys .entry)) i) × (r ≤ i) ⌝ }
+{
+    let mut j = i;
+    while 0 < j {
+        if keys::is_other(keys[i], keys[j - 1]) {
+            return j;
+        }
+        j -= 1;
+    }
+    0
+}
+
+// The index of the nearest other half after that at `i`; the number of markers where there is none.
+// Linear in the markers after `i`: a scan of their keys.
+pub fn half_after(keys: &[u32], i: usize) -> usize
+    requires { ⌜ i < length (now keys) ⌝ }
+    ensures { λ r. ⌜ (r ≡ half-after (now (keys .entry)) i) × (i < r) × (r ≤ length (now (keys .entry))) ⌝ }
+{
+    let mut j = i + 1;
+    while j < keys.len() {
+        if keys::is_other(keys[i], keys[j]) {
+            return j;
+        }
+        j += 1;
+    }
+    j
+}

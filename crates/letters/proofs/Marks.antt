@@ -1,0 +1,41 @@
+-- Rule 8 on markers: texts and characters do not bear on it.
+use mathlib.Core.Path.{_≡_, refl, ap}
+use mathlib.Core.Bool.{Bool, true, false, cond}
+use mathlib.Core.List.{[], _∷_}
+use mathlib.Core.Option.{some}
+use Rattle.xliff.specs.Bytes.{among, keep}
+use Rattle.xliff.specs.Item.{Item, Content, other-half, is-fixed}
+use Rattle.xliff.specs.Rules.{nearest, bad-8-target, bad-8-source, fixed-but-free, is-F, unled}
+use Rattle.places.specs.Markers.{is-marked, marked, OnMarks}
+use Rattle.places.proofs.Tests.{any-marked}
+use Rattle.halves.proofs.Others.{no-class, other-unmarked}
+
+nearest-marked : (p : Item → Bool) → ((x : Item) → is-marked x ≡ false → p x ≡ false) → (xs : Content) → nearest p xs ≡ nearest p (marked xs)
+unfolding nearest marked keep
+nearest-marked p h [] = refl
+nearest-marked p h (x ∷ xs) = by (is-marked x) refl (nearest-marked p h xs)
+  where
+    by : (b : Bool) → is-marked x ≡ b → nearest p xs ≡ nearest p (keep is-marked xs)
+        → cond (p x) (some x) (nearest p xs) ≡ nearest p (cond b (x ∷ keep is-marked xs) (keep is-marked xs))
+    by true e ih = ap (cond (p x) (some x)) ih
+    by false e ih = rw (h x e) ih
+
+led-unmarked : (x : Item) → is-marked x ≡ false → is-F x ≡ false
+unfolding is-F among
+led-unmarked x e = rw (no-class x e)
+
+pub on-8-target : OnMarks bad-8-target bad-8-target
+unfolding bad-8-target fixed-but-free is-fixed among
+on-8-target =
+    record {
+      unmarked = λ before x after e. rw (no-class x e);
+      alone = λ before x after e. rw (nearest-marked (other-half x) (other-unmarked x) before);
+    }
+
+pub on-8-source : OnMarks bad-8-source bad-8-source
+unfolding bad-8-source bad-8-target fixed-but-free is-fixed among unled
+on-8-source =
+    record {
+      unmarked = λ before x after e. rw (no-class x e);
+      alone = λ before x after e. rw (nearest-marked (other-half x) (other-unmarked x) before, any-marked is-F led-unmarked before);
+    }

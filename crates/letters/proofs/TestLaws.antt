@@ -1,0 +1,85 @@
+-- The tests of rule 8 on views are the specification's.
+use Prim.Native.Nat.{ℕ, _+_, _-_, _<_}
+use mathlib.Core.Path.{_≡_, refl, sym, ap, ap₂, _∙_}
+use mathlib.Core.Bool.{Bool, true, false, not, _&&_, _||_}
+use mathlib.Core.List.{List}
+use mathlib.Core.Option.{Option, some}
+use lib.Dec.{eqb}
+use lib.ListN.{length}
+use Rattle.xliff.specs.Bytes.{any, among}
+use Rattle.xliff.specs.Item.{Item, Content, class, half, is-code, is-fixed, fields, other-half}
+use Rattle.xliff.specs.Rules.{nearest, end-letter, ill-matched, ill-ended, fixed-but-free, is-F, unled, bad-8-target, bad-8-source}
+use Rattle.xliff.proofs.lists.Tests.{or-none, and-false}
+use Rattle.views.specs.declared.View.{View}
+use Rattle.views.specs.Views.{viewOf, isCode}
+use Rattle.keys.specs.Keys.{keysAt}
+use Rattle.halves.specs.Nearest.{half-before, earlier, marker-at}
+use Rattle.halves.proofs.Others.{before-is}
+use Rattle.halves.proofs.Runs.{earlier-on, found-at, found-some, nearest-previous}
+use Rattle.letters.specs.Eight.{bad-8, ill-end, illMatched, isLeading, fixedFree, unledView, badAlone}
+
+code-same : (x : Item) → isCode (viewOf x) ≡ is-code x
+unfolding viewOf among
+code-same x = by (eqb (class x) 1) (eqb (class x) 2) (eqb (class x) 3) (eqb (class x) 4)
+  where
+    by : (a b c d : Bool) → a || (b || (c || d)) ≡ a || (b || (c || (d || false)))
+    by a b c d = ap (λ (e : Bool). a || (b || (c || e))) (sym (or-none d))
+
+-- an F that was met
+leading-is : (x : Item) → isLeading (viewOf x) ≡ is-F x
+unfolding is-F viewOf
+leading-is x = ap (λ (b : Bool). b && eqb (fields x .canReorder) 70) (code-same x)
+
+pub led-on : (t os : List ℕ) (i : ℕ) (v : View) (led : Bool) → v ≡ viewOf (marker-at t os i) → led ≡ any is-F (earlier (marker-at t os) i)
+    → isLeading v || led ≡ any is-F (earlier (marker-at t os) (i + 1))
+unfolding any
+led-on t os i v led e f =
+    ap₂ _||_ (ap isLeading e ∙ leading-is (marker-at t os i)) f ∙ ap (any is-F) (earlier-on (marker-at t os) i)
+
+-- what is wrong with a code by itself
+fixed-is : (x : Item) → fixedFree (viewOf x) ≡ fixed-but-free x
+unfolding fixed-but-free is-fixed among viewOf
+fixed-is x =
+    ap₂ (λ (b c : Bool). b && (eqb (fields x .canReorder) 70 || c) && (eqb (fields x .canCopy) 89 || eqb (fields x .canDelete) 89)) (code-same x)
+    (sym (or-none (eqb (fields x .canReorder) 78)))
+
+unled-is : (x : Item) (before : Content) (led : Bool) → led ≡ any is-F before → unledView led (viewOf x) ≡ unled before x
+unfolding unled viewOf
+unled-is x before led e = ap₂ (λ (b c : Bool). b && (eqb (fields x .canReorder) 78 && not c)) (code-same x) e
+
+or-group : (a b c : Bool) → a || (b || c) ≡ a || b || c
+or-group true b c = refl
+or-group false b c = refl
+
+pub eight-is : (source : Bool) (before : Content) (x : Item) (after : Content) (led : Bool) → led ≡ any is-F before
+    → ill-end before x || badAlone source led (viewOf x) ≡ bad-8 source before x after
+unfolding bad-8-source bad-8-target
+eight-is true before x after led e = or-group (ill-end before x) (fixedFree (viewOf x)) (unledView led (viewOf x)) ∙ ap₂ (λ (f u : Bool). ill-end before x || f || u) (fixed-is x) (unled-is x before led e)
+eight-is false before x after led e = ap (λ (f : Bool). ill-end before x || f) (or-none (fixedFree (viewOf x)) ∙ fixed-is x)
+
+-- an end and its start
+matched-is : (x y : Item) → illMatched (viewOf y) (viewOf x) ≡ ill-ended x (some y)
+unfolding ill-ended ill-matched end-letter viewOf
+matched-is x y = refl
+
+module _ (t os : List ℕ) (i : ℕ) (v : View) (e : v ≡ viewOf (marker-at t os i)) where
+  pub no-end : eqb (v .class) 2 && eqb (v .half) 2 ≡ false → false ≡ ill-end (earlier (marker-at t os) i) (marker-at t os i)
+  unfolding viewOf
+  no-end h = let k : eqb (class (marker-at t os i)) 2 && eqb (half (marker-at t os i)) 2 ≡ false = rw e at h in rw k
+
+  module _ (h : i < length os) (r : ℕ) (f : r ≡ half-before (keysAt t os) i) where
+    start-is : nearest (other-half (marker-at t os i)) (earlier (marker-at t os) i) ≡ found-at (marker-at t os) r
+    start-is = nearest-previous (other-half (marker-at t os i)) (marker-at t os) i ∙ ap (found-at (marker-at t os)) (sym (before-is t os i h) ∙ sym f)
+
+    pub no-start : r ≡ 0 → false ≡ ill-end (earlier (marker-at t os) i) (marker-at t os i)
+    unfolding ill-ended found-at
+    no-start z = rw (start-is, z, and-false)
+
+    pub with-start : 0 < r → eqb (v .class) 2 && eqb (v .half) 2 ≡ true
+        → illMatched (viewOf (marker-at t os (r - 1))) v ≡ ill-end (earlier (marker-at t os) i) (marker-at t os i)
+    unfolding viewOf
+    with-start z h =
+        let k : eqb (class (marker-at t os i)) 2 && eqb (half (marker-at t os i)) 2 ≡ true = rw e at h in
+        ap (illMatched (viewOf (marker-at t os (r - 1)))) e
+        ∙ matched-is (marker-at t os i) (marker-at t os (r - 1))
+        ∙ ap₂ (λ (b : Bool) (o : Option Item). b && ill-ended (marker-at t os i) o) (sym k) (sym (start-is ∙ found-some (marker-at t os) r z))

@@ -1,0 +1,99 @@
+// Rule 8: the letters of partners agree, and a fixed code is neither copied nor deleted.
+use answers::Place;
+use views::View;
+ghost use mathlib.Core.Path.{_≡_};
+ghost use mathlib.Core.Bool.{true, false};
+ghost use mathlib.Core.List.{[]};
+ghost use Prim.Native.Nat.{_+_, _-_, _<_, _≤_};
+ghost use lib.ListN.{length};
+ghost use Rattle.answers.specs.Answers.{refusal-at, toward};
+ghost use Rattle.views.specs.Views.{viewOf};
+ghost use Rattle.keys.specs.Keys.{keysAt};
+ghost use Rattle.halves.specs.Nearest.{marker-at, earlier};
+ghost use Rattle.letters.specs.Eight.{bad-8, ill-end, endLetter, illMatched, isLeading, badAlone};
+ghost use Rattle.xliff.specs.Sequences.{blamed};
+ghost use Rattle.xliff.specs.Rules.{fault-8};
+ghost use Rattle.xliff.specs.Parse.{unit};
+ghost use Rattle.places.specs.Passes.{Passes};
+ghost use Rattle.sequences.specs.Marks.{offsets};
+ghost use Rattle.places.specs.Markers.{placed-at, target-offsets};
+
+// canReorder of the end whose start has `c`: "N for F and else equal".
+fn end_letter(c: u8) -> u8
+    ensures { λ r. ⌜ r ≡ endLetter c ⌝ }
+{
+    if c == b'F' { b'N' } else { c }
+}
+
+// Whether an end does not match its start.
+fn ill_matched(start: View, end: View) -> bool
+    ensures { λ r. ⌜ r ≡ illMatched start end ⌝ }
+{
+    let letter = end_letter(start.reorder);
+    let reorder = ((start.reorder == b'F') | end.pform) & !(end.reorder == letter);
+    !(start.of == end.of)
+        | (!(start.copy == end.copy)
+            | (!(start.delete == end.delete) | (!(start.overlap == end.overlap) | reorder)))
+}
+
+// canReorder F.
+fn is_leading(x: View) -> bool
+    ensures { λ r. ⌜ r ≡ isLeading x ⌝ }
+{
+    views::is_code(x) & (x.reorder == b'F')
+}
+
+// What is wrong with a code by itself; `led`: an F stands before it.
+fn bad_alone(source: bool, led: bool, x: View) -> bool
+    ensures { λ r. ⌜ r ≡ badAlone source led x ⌝ }
+{
+    let code = views::is_code(x);
+    let fixed = code & ((x.reorder == b'F') | (x.reorder == b'N'));
+    (fixed & ((x.copy == b'Y') | (x.delete == b'Y')))
+        | (source & (code & ((x.reorder == b'N') & !led)))
+}
+
+// Whether the marker at `i` is the end of a pair and does not match its start, the nearest other half before it.
+// Linear in the markers before `i`.
+fn ill_ended(t: &[u8], os: &[u16], keys: &[u32], i: usize, x: View) -> bool
+    requires { ⌜ (now keys ≡ keysAt (now t) (now os)) × (i < length (now os)) × (x ≡ viewOf (marker-at (now t) (now os) i)) ⌝ }
+    ensures { λ r. ⌜ r ≡ ill-end (earlier (marker-at (now (t .entry)) (now (os .entry))) i) (marker-at (now (t .entry)) (now (os .entry)) i) ⌝ }
+{
+    if !((x.class == 2) & (x.half == 2)) {
+        return false;
+    }
+    let start = halves::half_before(keys, i);
+    if start == 0 {
+        return false;
+    }
+    ill_matched(views::view_at(t, views::wide(os[start - 1])), x)
+}
+
+// Rule 8 over the markers of a sequence, below `start`.
+// Quadratic in the markers: each end looks for its start among the keys before it.
+pub fn eight_in(t: &[u8], source: bool, os: &[u16], keys: &[u32], start: Place) -> Place
+    requires { ⌜ now keys ≡ keysAt (now t) (now os) ⌝ }
+    ensures { λ r. ⌜ refusal-at 8 r ≡ toward 8 start (blamed (bad-8 source) [] (placed-at (now (t .entry)) (now (os .entry)))) ⌝ }
+{
+    let mut best = start;
+    let mut led = false;
+    let mut i = 0;
+    while i < os.len() {
+        let at = views::wide(os[i]);
+        let x = views::view_at(t, at);
+        let bad = ill_ended(t, os, keys, i, x) | bad_alone(source, led, x);
+        best = answers::lower_if(bad, best, at);
+        led = is_leading(x) | led;
+        i += 1;
+    }
+    best
+}
+
+// Rule 8, by the offsets and the keys of the markers of both sequences.
+pub fn rule_8(t: &[u8], src: &[u16], skeys: &[u32], tgt: &[u16], tkeys: &[u32]) -> Place
+    requires { ⌜ Passes (now t) × (now src ≡ offsets true 0 (now t)) × (now skeys ≡ keysAt (now t) (now src)) × (now tgt ≡ target-offsets (now t) 0 (length (unit (now t) .parts))) × (now tkeys ≡ keysAt (now t) (now tgt)) × (length (now src) ≤ 1024) × (length (now tgt) ≤ 1024) ⌝ }
+    ensures { λ r. ⌜ refusal-at 8 r ≡ fault-8 (unit (now (t .entry)) .parts) ⌝ }
+{
+    let source = eight_in(t, true, src, skeys, Place::Nowhere);
+    eight_in(t, false, tgt, tkeys, source)
+}

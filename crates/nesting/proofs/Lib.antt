@@ -1,0 +1,4 @@
+pub mod NestingLaws
+pub mod ScanLaws
+pub mod ContentLaws
+pub mod BarLaws

@@ -1,0 +1,26 @@
+-- Rule 9 on keys.
+use Prim.Native.Nat.{ℕ, _-_, _<_}
+use mathlib.Core.Path.{_≡_}
+use mathlib.Core.Bool.{Bool, not, _&&_, _||_}
+use mathlib.Core.List.{List}
+use lib.Dec.{eqb, ltb}
+use lib.ListN.{length, getD}
+use Rattle.views.specs.declared.View.{View}
+use Rattle.keys.specs.Keys.{classKey}
+use Rattle.halves.specs.Nearest.{half-before, half-after}
+
+-- arrays that hold the nearest other halves of the markers
+abbrev pub Halves : List ℕ → List ℕ → List ℕ → Type 0
+Halves keys starts ends = (k : ℕ) → k < length keys → (getD starts k 0 ≡ half-before keys k) × (getD ends k 0 ≡ half-after keys k)
+
+-- a marker between the indices `first` and `end`, by its nearest other halves: isolated, or of a pair whose other half is not there too
+abbrev pub strayKey : ℕ → ℕ → ℕ → ℕ → ℕ → Bool
+strayKey key first end before after =
+    eqb (classKey key) 3 || eqb (classKey key) 4 || eqb (classKey key) 2 && not (ltb first before || ltb after end)
+
+abbrev pub strayAt : List ℕ → ℕ → ℕ → ℕ → Bool
+strayAt keys first end k = strayKey (getD keys k 0) first end (half-before keys k) (half-after keys k)
+
+-- the start of a pair with canOverlap N
+abbrev pub closedStart : View → Bool
+closedStart x = eqb (x .class) 2 && (eqb (x .half) 1 && eqb (x .overlap) 78)

@@ -1,0 +1,135 @@
+// Rule 9: a pair with canOverlap N encloses neither an isolated code nor one half alone of another pair.
+use answers::Place;
+use views::View;
+ghost use mathlib.Core.Path.{_≡_};
+ghost use mathlib.Core.Bool.{true};
+ghost use mathlib.Core.List.{[]};
+ghost use Prim.Native.Nat.{suc, _+_, _-_, _<_, _≤_};
+ghost use lib.ListN.{length, drop};
+ghost use Rattle.answers.specs.Answers.{refusal-at, toward};
+ghost use Rattle.keys.specs.Keys.{keysAt};
+ghost use Rattle.halves.specs.Nearest.{next, marker-at, earlier};
+ghost use Rattle.overlap.specs.Nine.{Halves, strayKey, strayAt, closedStart};
+ghost use Rattle.xliff.specs.Sequences.{blamed, items};
+ghost use Rattle.xliff.specs.Rules.{bad-9, fault-9};
+ghost use Rattle.xliff.specs.Parse.{unit};
+ghost use Rattle.places.specs.Passes.{Passes};
+ghost use Rattle.sequences.specs.Marks.{offsets};
+ghost use Rattle.places.specs.Markers.{placed-at, target-offsets};
+
+// The nearest other halves of all markers.
+// Quadratic in the markers: two scans of the keys for each.
+fn fill(keys: &[u32], starts: &mut [u16], ends: &mut [u16])
+    requires { ⌜ (length (now keys) ≤ 1024) × (length (now starts) ≡ 1024) × (length (now ends) ≡ 1024) ⌝ }
+    ensures { λ r. ⌜ (length (now (starts .exit)) ≡ 1024) × (length (now (ends .exit)) ≡ 1024) × Halves (now (keys .entry)) (now (starts .exit)) (now (ends .exit)) ⌝ }
+{
+    let mut i = 0;
+    while i < keys.len() {
+        starts[i] = halves::half_before(keys, i) as u16;
+        ends[i] = halves::half_after(keys, i) as u16;
+        i += 1;
+    }
+}
+
+// Whether a marker between `first` and `end`, with these nearest other halves, is isolated or has its other half elsewhere.
+fn is_stray(key: u32, first: usize, end: usize, before: usize, after: usize) -> bool
+    ensures { λ r. ⌜ r ≡ strayKey key first end before after ⌝ }
+{
+    let class = keys::class_of(key);
+    ((class == 3) | (class == 4)) | ((class == 2) & !((first < before) | (after < end)))
+}
+
+// The index of the first stray marker from `first` up to `end`, or the end.
+// Linear in the markers between them.
+fn first_stray(keys: &[u32], starts: &[u16], ends: &[u16], first: usize, end: usize) -> usize
+    requires { ⌜ Halves (now keys) (now starts) (now ends) × (length (now starts) ≡ 1024) × (length (now ends) ≡ 1024) × (end ≤ length (now keys)) × (length (now keys) ≤ 1024) ⌝ }
+    ensures { λ r. ⌜ r ≡ next (strayAt (now (keys .entry)) first end) first (end - first) ⌝ }
+{
+    let mut j = first;
+    while j < end {
+        if is_stray(
+            keys[j],
+            first,
+            end,
+            views::wide(starts[j]),
+            views::wide(ends[j]),
+        ) {
+            return j;
+        }
+        j += 1;
+    }
+    j
+}
+
+// The start of a pair with canOverlap N.
+fn is_closed_start(x: View) -> bool
+    ensures { λ r. ⌜ r ≡ closedStart x ⌝ }
+{
+    (x.class == 2) & ((x.half == 1) & (x.overlap == b'N'))
+}
+
+// Rule 9 of the marker at `i`.
+// Linear in the markers that it encloses.
+fn encloses_stray(
+    t: &[u8],
+    os: &[u16],
+    keys: &[u32],
+    starts: &[u16],
+    ends: &[u16],
+    i: usize,
+) -> bool
+    requires { ⌜ (now keys ≡ keysAt (now t) (now os)) × (length (now os) ≤ 1024) × Halves (now keys) (now starts) (now ends) × (length (now starts) ≡ 1024) × (length (now ends) ≡ 1024) × (i < length (now os)) ⌝ }
+    ensures { λ r. ⌜ r ≡ bad-9 (earlier (marker-at (now (t .entry)) (now (os .entry))) i) (marker-at (now (t .entry)) (now (os .entry)) i) (items (placed-at (now (t .entry)) (drop (suc i) (now (os .entry))))) ⌝ }
+{
+    if !is_closed_start(views::view_at(t, views::wide(os[i]))) {
+        return false;
+    }
+    let end = views::wide(ends[i]);
+    if os.len() <= end {
+        return false;
+    }
+    first_stray(keys, starts, ends, i + 1, end) < end
+}
+
+// Rule 9 over the markers of a sequence with these nearest other halves, below `start`.
+// Quadratic in the markers: each start looks at those that it encloses.
+fn overlapping(
+    t: &[u8],
+    os: &[u16],
+    keys: &[u32],
+    starts: &[u16],
+    ends: &[u16],
+    start: Place,
+) -> Place
+    requires { ⌜ (now keys ≡ keysAt (now t) (now os)) × (length (now os) ≤ 1024) × Halves (now keys) (now starts) (now ends) × (length (now starts) ≡ 1024) × (length (now ends) ≡ 1024) ⌝ }
+    ensures { λ r. ⌜ refusal-at 9 r ≡ toward 9 start (blamed bad-9 [] (placed-at (now (t .entry)) (now (os .entry)))) ⌝ }
+{
+    let mut best = start;
+    let mut i = 0;
+    while i < os.len() {
+        let bad = encloses_stray(t, os, keys, starts, ends, i);
+        best = answers::lower_if(bad, best, views::wide(os[i]));
+        i += 1;
+    }
+    best
+}
+
+// Rule 9 over the markers of a sequence, below `start`.
+// Quadratic in the markers: `fill` and `overlapping`.
+pub fn nine_in(t: &[u8], os: &[u16], keys: &[u32], start: Place) -> Place
+    requires { ⌜ (now keys ≡ keysAt (now t) (now os)) × (length (now os) ≤ 1024) ⌝ }
+    ensures { λ r. ⌜ refusal-at 9 r ≡ toward 9 start (blamed bad-9 [] (placed-at (now (t .entry)) (now (os .entry)))) ⌝ }
+{
+    let mut starts = [0u16; 1024];
+    let mut ends = [0u16; 1024];
+    fill(keys, &mut starts, &mut ends);
+    overlapping(t, os, keys, &starts, &ends, start)
+}
+
+// Rule 9, by the offsets and the keys of the markers of both sequences.
+pub fn rule_9(t: &[u8], src: &[u16], skeys: &[u32], tgt: &[u16], tkeys: &[u32]) -> Place
+    requires { ⌜ Passes (now t) × (now src ≡ offsets true 0 (now t)) × (now skeys ≡ keysAt (now t) (now src)) × (now tgt ≡ target-offsets (now t) 0 (length (unit (now t) .parts))) × (now tkeys ≡ keysAt (now t) (now tgt)) × (length (now src) ≤ 1024) × (length (now tgt) ≤ 1024) ⌝ }
+    ensures { λ r. ⌜ refusal-at 9 r ≡ fault-9 (unit (now (t .entry)) .parts) ⌝ }
+{
+    nine_in(t, tgt, tkeys, nine_in(t, src, skeys, Place::Nowhere))
+}

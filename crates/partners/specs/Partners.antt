@@ -1,0 +1,56 @@
+-- Rule 7 for the marks of start and end (SC EC SM EM), on keys: the specification's definitions with keys in place of items.
+use Prim.Native.Nat.{ℕ}
+use mathlib.Core.Bool.{Bool, false, not, _&&_, _||_, cond}
+use mathlib.Core.List.{List, [], _∷_, _++_, map}
+use lib.Dec.{eqb}
+use Rattle.xliff.specs.Bytes.{any}
+use Rattle.xliff.specs.Unit.{Target, no-target, target, Part}
+use Rattle.keys.specs.Keys.{key, idKey, halfKey, formKey, alikeKeys, otherKey}
+use Rattle.places.specs.Markers.{marked}
+use Rattle.contents.specs.Contents.{run, targeted}
+use Rattle.contents.specs.Nesting.{lonePKey}
+
+-- of the marks of start and end of its class and id, the nearest is the other half
+unfoldable pub partnerSKey : ℕ → List ℕ → Bool
+partnerSKey k [] = false
+partnerSKey k (y ∷ ys) = cond (alikeKeys k y && not (formKey y)) (otherKey k y) (partnerSKey k ys)
+
+-- a half with the mark of a start or an end without partner; what stands before it in its sequence, the nearest first, and after it
+unfoldable pub loneSKey : List ℕ → ℕ → List ℕ → Bool
+loneSKey before k after = not (eqb (halfKey k) 0) && (not (formKey k) && not (partnerSKey k (cond (eqb (halfKey k) 1) after before)))
+
+-- the only half of its id in its sequence
+unfoldable pub halfOfId : ℕ → ℕ → Bool
+halfOfId i k = not (eqb (halfKey k) 0) && eqb (idKey k) i
+
+unfoldable pub onlyHalf : List ℕ → ℕ → List ℕ → Bool
+onlyHalf before k after = not (any (halfOfId (idKey k)) before) && not (any (halfOfId (idKey k)) after)
+
+-- Of the keys of the source contents with bars between them: k is the other half of x, has its partner, and is in a part without target
+unfoldable pub waits : ℕ → List ℕ → ℕ → List ℕ → Bool
+waits x before k after =
+    otherKey x k && (not (lonePKey (run before) k (run after)) && (not (loneSKey before k after) && not (targeted after)))
+
+unfoldable pub waitsFor : ℕ → List ℕ → List ℕ → Bool
+waitsFor x before [] = false
+waitsFor x before (k ∷ ks) = waits x before k ks || waitsFor x (k ∷ before) ks
+
+-- a half of the target sequence at fault; `bars` are the keys of the source contents with bars between them
+unfoldable pub loneInTarget : List ℕ → List ℕ → ℕ → List ℕ → Bool
+loneInTarget bars before k after = loneSKey before k after && not (onlyHalf before k after && waitsFor k [] bars)
+
+-- the offsets at which a test of keys fails
+unfoldable pub blamedKeys : (List ℕ → ℕ → List ℕ → Bool) → List ℕ → List ℕ → List ℕ → List ℕ
+blamedKeys bad before [] ks = []
+blamedKeys bad before (o ∷ os) [] = []
+blamedKeys bad before (o ∷ os) (k ∷ ks) =
+    let rest = blamedKeys bad (k ∷ before) os ks in
+    cond (bad before k ks) (o ∷ rest) rest
+
+-- The keys of a part's contents with their bars: its source and, where `targets`, its target
+unfoldable pub goal-bars : Bool → Target → List ℕ
+goal-bars targets no-target = []
+goal-bars targets (target q xs) = 1 ∷ cond targets (map key (marked xs)) []
+
+unfoldable pub part-bars : Bool → Part → List ℕ
+part-bars targets p = 0 ∷ (map key (marked (p .source)) ++ goal-bars targets (p .goal))
