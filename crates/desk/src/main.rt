@@ -1,11 +1,8 @@
-// The desk program: a job from standard input, its answers to standard output.
-
+// The desk program: a job from standard input, its answers to standard output. At most 65,535 bytes are read.
 fn main() {
     let mut input = [0u8; 65535];
     let mut output = [0u8; 262144];
     let n = io::read_full(libc::STDIN_FILENO, &mut input);
     let k = job::run(&input[..n], &mut output);
-    if k <= 262144 {
-        io::write_all(libc::STDOUT_FILENO, &output[..k]);
-    }
+    io::write_all(libc::STDOUT_FILENO, &output[..k]);
 }

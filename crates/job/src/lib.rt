@@ -1,12 +1,11 @@
 // The job runner: what the desk program prints for a job.
 use answers::Answer;
 ghost use mathlib.Core.Path.{_≡_};
-ghost use mathlib.Core.Bool.{cond};
 ghost use Prim.Native.Nat.{_+_, _≤_};
-ghost use lib.ListN.{length, take, drop};
+ghost use lib.ListN.{length, take};
 ghost use Rattle.xliff.specs.Bytes.{two-at};
 ghost use Rattle.xliff.specs.Check.{check};
-ghost use Rattle.xliff.specs.Desk.{whole-size, is-UE, table-length, answer-requests, desk-job, desk-with};
+ghost use Rattle.xliff.specs.Desk.{whole-size, is-UE, table-length, desk-job, desk-with};
 ghost use Rattle.answers.specs.Answers.{answer-meaning};
 ghost use Rattle.writer.specs.Pieces.{lead};
 ghost use Rattle.job.specs.Job.{none-yet, requestLines, wholeOf, annotationSize, pairSize, inlineSize, markedSize};
@@ -183,6 +182,7 @@ fn run_job(job: &[u8], out: &mut [u8]) -> usize
 // What the desk program prints for a job, at the head of `out`; its length. No job prints more than `out` holds.
 pub fn run(job: &[u8], out: &mut [u8; 262144]) -> usize
     ensures { λ r. ⌜ (r ≡ length (desk-with none-yet (now (job .entry)))) × (now (out .exit) ≡ lead (desk-with none-yet (now (job .entry))) (now (out .entry))) ⌝ }
+    ensures within { λ r. ⌜ (r ≤ length (now (out .exit))) × (r ≡ length (take r (now (out .exit)))) ⌝ }
 {
     if 65535 < job.len() {
         return run_job(&job[..65535], out);

@@ -1,12 +1,12 @@
 -- The digits of a number, by its size, and the lines of pieces.
 use Prim.Native.Nat.{ℕ, zero, suc, _+_, _*_, _/_, _%_, _-_, _≤_, _<_}
 use mathlib.Core.Path.{_≡_, refl, sym, ap, ap₂, _∙_}
-use mathlib.Core.List.{List, [], _∷_, _++_, append-assoc, append-nil}
+use mathlib.Core.List.{List, [], _∷_, _++_, append-assoc}
 use native.Mathlib.Omega.{arith}
 use lib.ListN.{length, take, drop, getD, set, length-append}
-use lib.Seq.{take-suc, take-all}
+use lib.Seq.{take-suc}
 use borrow.Author.Tests.{lt-ltb, le-ltb}
-use Rattle.xliff.specs.Answer.{accepted, refused}
+use Rattle.xliff.specs.Answer.{refused}
 use Rattle.xliff.specs.Bytes.{gather}
 use Rattle.xliff.specs.Desk.{digits, decimal, hex-digit, hex-byte, line, table-line}
 use Rattle.xliff.proofs.lists.Tests.{gather-append}
@@ -82,3 +82,7 @@ refused-returns out n at last c d r e f g h k =
     let w : (78 ∷ 79 ∷ 32 ∷ []) ++ decimal n ++ (32 ∷ []) ++ decimal at ++ (10 ∷ []) ≡ 78 ∷ 79 ∷ 32 ∷ (decimal n ++ (32 ∷ (decimal at ++ (10 ∷ []))))
         = ap (λ (l : List ℕ). 78 ∷ 79 ∷ 32 ∷ l) (append-assoc (decimal n ++ (32 ∷ [])) (decimal at) (10 ∷ []) ∙ append-assoc (decimal n) (32 ∷ []) (decimal at ++ (10 ∷ []))) in
     (omega (arith, e, f, g, ap length w, length-append ((78 ∷ 79 ∷ 32 ∷ []) ++ decimal n ++ (32 ∷ []) ++ decimal at) (10 ∷ []), length-append ((78 ∷ 79 ∷ 32 ∷ []) ++ decimal n ++ (32 ∷ [])) (decimal at)), h ∙ ap (λ (l : List ℕ). lead l out) w, k)
+
+pub table-line-length : (t : List ℕ) → length (table-line t) ≡ 2 * length t + 1
+unfolding table-line hex
+table-line-length t = omega (arith, length-append (hex t) (10 ∷ []), hex-length t)

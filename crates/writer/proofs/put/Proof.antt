@@ -1,10 +1,9 @@
 use Rattle.writer.proofs.PieceLaws.{lead-suc, lead-full}
-use lib.Seq.{take-all}
-use lib.ListN.{length, take, drop, getD, set, length-set, length-take, length-drop, length-append}
+use lib.ListN.{length, take, drop, getD, set, length-set}
 use native.Mathlib.Omega.{arith}
-use mathlib.Core.List.{List, [], _∷_, _++_}
-use mathlib.Core.Path.{_≡_, refl, sym, _∙_, ap}
-use Prim.Native.Nat.{ℕ, _≤_, _<_, _-_, _+_}
+use mathlib.Core.List.{List, _++_}
+use mathlib.Core.Path.{_≡_, refl, _∙_, ap}
+use Prim.Native.Nat.{ℕ, _≤_, _-_, _+_}
 use borrow.Author.Needs.{needs}
 use Rattle.writer.proofs.put.Statement.{statement}
 use Rattle.writer.proofs.put.Tie as tie

@@ -1,9 +1,6 @@
 use Rattle.writer.proofs.PieceLaws.{one-byte}
-use lib.ListN.{length, take, drop, length-set, length-append}
-use native.Mathlib.Omega.{arith}
-use mathlib.Core.List.{List, [], _∷_, _++_}
-use mathlib.Core.Path.{_≡_, refl, sym, _∙_, ap}
-use Prim.Native.Nat.{ℕ, _≤_, _<_, _-_, _+_, _/_, _%_}
+use mathlib.Core.Path.{refl}
+use Prim.Native.Nat.{_-_}
 use borrow.Author.Needs.{needs}
 use Rattle.writer.proofs.put_byte.Statement.{statement}
 use Rattle.writer.proofs.put_byte.Tie as tie
