@@ -18,7 +18,7 @@ use Rattle.answers.specs.declared.Place.{Place}
 use Rattle.answers.specs.declared.Place.the-variants.{Nowhere, At}
 
 -- one place further
-toward-if : (n : ℕ) (b : Bool) (best : Place) (at : ℕ) (rest : List ℕ) → toward n best (cond b (at ∷ rest) rest) ≡ toward n (cond b (lower best at) best) rest
+pub toward-if : (n : ℕ) (b : Bool) (best : Place) (at : ℕ) (rest : List ℕ) → toward n best (cond b (at ∷ rest) rest) ≡ toward n (cond b (lower best at) best) rest
 unfolding toward first-of least
 toward-if n true Nowhere at rest = refl
 toward-if n true (At a) at rest = refl

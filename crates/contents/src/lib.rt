@@ -3,7 +3,7 @@ use table::Read;
 use table::Record;
 ghost use mathlib.Core.Path.{_≡_};
 ghost use mathlib.Core.Bool.{false, cond};
-ghost use mathlib.Core.List.{[], _∷_, _++_};
+ghost use mathlib.Core.List.{[]};
 ghost use Prim.Native.Nat.{_+_, _-_, _<_, _≤_};
 ghost use lib.ListN.{length, take, drop};
 ghost use lib.Dec.{eqb};
@@ -54,18 +54,6 @@ fn is_found(t: &[u8], at: usize, head: u8, inside: bool) -> bool
     !(head == 2) | (inside & !(v.class == 0))
 }
 
-// `at` behind the first `m` of `out`, if asked for; how many there are then.
-fn put_if(b: bool, out: &mut [u16], m: usize, at: u16) -> usize
-    requires { ⌜ (length (cond b (at ∷ []) []) + m ≤ length (now out)) × (length (now out) ≤ 1024) ⌝ }
-    ensures { λ r. ⌜ (take r (now (out .exit)) ≡ take m (now (out .entry)) ++ cond b (at ∷ []) []) × (r ≡ length (cond b (at ∷ []) []) + m) × (length (now (out .exit)) ≡ length (now (out .entry))) ⌝ }
-{
-    if b {
-        out[m] = at;
-        return 1 + m;
-    }
-    m
-}
-
 // The offsets of the heads (SG, IG, TG) and of the markers of source contents and, where `targets`, of target contents, in table order.
 pub fn contents(t: &[u8], targets: bool, out: &mut [u16]) -> usize
     requires { ⌜ Passes (now t) × (length (now t) ≤ 8192) × (length (now out) ≡ 1024) ⌝ }
@@ -77,7 +65,7 @@ pub fn contents(t: &[u8], targets: bool, out: &mut [u16]) -> usize
     while at < t.len() {
         let r = table::record_of(&t[at..]);
         let head = head_of(r);
-        m = put_if(is_found(t, at, head, inside), out, m, at as u16);
+        m = sequences::put_if(is_found(t, at, head, inside), out, m, at as u16);
         inside = inside_after(targets, head, inside);
         at += syntax::width_of(r);
     }

@@ -5,7 +5,6 @@ use mathlib.Core.Bool.{false, true≢false}
 use mathlib.Core.List.{List, [], _∷_}
 use native.Mathlib.Omega.{arith}
 use lib.ListN.{length, getD, length-map}
-use borrow.Author.Tests.{eqb-true, not-false}
 use Rattle.xliff.specs.Item.{Item, start, end, text, character, standalone, isolated, pair, annotation-start, annotation-end, class, half, other-half}
 use Rattle.xliff.proofs.lists.Tests.{and-false}
 use Rattle.places.specs.Markers.{item-at, is-marked}
@@ -38,10 +37,6 @@ module _ (t os : List ℕ) (i : ℕ) (h : i < length os) where
   after-is =
       ap (λ (n : ℕ). next (others (keysAt t os) i) (suc i) (n - suc i)) (length-keys t os)
       ∙ next-same _ _ (suc i) (length os - suc i) (λ k g l. others-are k (omega arith))
-
-pub no-class : (x : Item) → is-marked x ≡ false → class x ≡ 0
-unfolding is-marked
-no-class x e = eqb-true (class x) 0 (not-false _ e)
 
 no-half : (y : Item) → is-marked y ≡ false → half y ≡ 0
 unfolding is-marked class half

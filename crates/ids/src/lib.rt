@@ -48,8 +48,8 @@ fn item_key(o: u32, i: Item) -> u32
         Item::Standalone(f) => key(o, f.id),
         Item::Isolated(_, f) => key(o, f.id),
         Item::Pair(_, h, f) => pair_key(o, h, f),
-        Item::NoteStart(_, id, _) => key(o, id),
-        Item::NoteEnd(_, _) => 0,
+        Item::AnnotationStart(_, id, _) => key(o, id),
+        Item::AnnotationEnd(_, _) => 0,
     }
 }
 

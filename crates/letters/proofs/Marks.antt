@@ -8,7 +8,8 @@ use Rattle.xliff.specs.Item.{Item, Content, other-half, is-fixed}
 use Rattle.xliff.specs.Rules.{nearest, bad-8-target, bad-8-source, fixed-but-free, is-F, unled}
 use Rattle.places.specs.Markers.{is-marked, marked, OnMarks}
 use Rattle.places.proofs.Tests.{any-marked}
-use Rattle.halves.proofs.Others.{no-class, other-unmarked}
+use Rattle.places.proofs.Ten.{no-class}
+use Rattle.halves.proofs.Others.{other-unmarked}
 
 nearest-marked : (p : Item → Bool) → ((x : Item) → is-marked x ≡ false → p x ≡ false) → (xs : Content) → nearest p xs ≡ nearest p (marked xs)
 unfolding nearest marked keep

@@ -7,23 +7,17 @@ use mathlib.Core.Option.{Option, some}
 use lib.Dec.{eqb}
 use lib.ListN.{length}
 use Rattle.xliff.specs.Bytes.{any, among}
-use Rattle.xliff.specs.Item.{Item, Content, class, half, is-code, is-fixed, fields, other-half}
+use Rattle.xliff.specs.Item.{Item, Content, class, half, is-fixed, fields, other-half}
 use Rattle.xliff.specs.Rules.{nearest, end-letter, ill-matched, ill-ended, fixed-but-free, is-F, unled, bad-8-target, bad-8-source}
 use Rattle.xliff.proofs.lists.Tests.{or-none, and-false}
 use Rattle.views.specs.declared.View.{View}
-use Rattle.views.specs.Views.{viewOf, isCode}
+use Rattle.views.specs.Views.{viewOf}
 use Rattle.keys.specs.Keys.{keysAt}
 use Rattle.halves.specs.Nearest.{half-before, earlier, marker-at}
 use Rattle.halves.proofs.Others.{before-is}
 use Rattle.halves.proofs.Runs.{earlier-on, found-at, found-some, nearest-previous}
 use Rattle.letters.specs.Eight.{bad-8, ill-end, illMatched, isLeading, fixedFree, unledView, badAlone}
-
-code-same : (x : Item) → isCode (viewOf x) ≡ is-code x
-unfolding viewOf among
-code-same x = by (eqb (class x) 1) (eqb (class x) 2) (eqb (class x) 3) (eqb (class x) 4)
-  where
-    by : (a b c d : Bool) → a || (b || (c || d)) ≡ a || (b || (c || (d || false)))
-    by a b c d = ap (λ (e : Bool). a || (b || (c || e))) (sym (or-none d))
+use Rattle.views.proofs.ViewLaws.{code-same}
 
 -- an F that was met
 leading-is : (x : Item) → isLeading (viewOf x) ≡ is-F x

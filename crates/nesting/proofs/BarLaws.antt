@@ -27,11 +27,7 @@ use Rattle.contents.specs.Nesting.{lonePKey}
 use Rattle.nesting.specs.Bars.{run-items, lone-bar}
 use Rattle.nesting.proofs.NestingLaws.{lone-keys}
 use Rattle.nesting.proofs.ContentLaws.{contents-blamed}
-
-items-at : (t os : List ℕ) → items (placed-at t os) ≡ itemsAt t os
-unfolding items placed-at itemsAt
-items-at t [] = refl
-items-at t (o ∷ os) = ap {B = Content} (λ l. item-at t o ∷ l) (items-at t os)
+use Rattle.views.proofs.ViewLaws.{items-at}
 
 -- one key further
 run-key : (r : Record) (ks : List ℕ) (xs : Content) → ks ≡ map key xs

@@ -79,9 +79,9 @@ bar-first (l ∷ ls) = refl
 abbrev of-the-goal : ℕ → Target → List Placed
 of-the-goal at g = of-goal true (λ q. true) (λ h at. bar at) (λ q at. bar at) marker no-marker at g
 
-part-is : (l : Located) (qs : List Placed) → of-part l ++ qs ≡ bar (l .at) ++ (markers (placed-source l) ++ (of-the-goal (order-at l) (l .part .goal) ++ qs))
+part-is : (l : Located) (qs : List Placed) → of-part l ++ qs ≡ bar (l .at) ++ (markers (placed-source l) ++ (of-the-goal (order-at l) (l .part .target) ++ qs))
 unfolding from-part markers
-part-is l qs = ap {B = List Placed} (λ r. record { item = text 0; at = l .at } ∷ r) (append-assoc (gather (marker true) (placed-source l)) (of-the-goal (order-at l) (l .part .goal)) qs)
+part-is l qs = ap {B = List Placed} (λ r. record { item = text 0; at = l .at } ∷ r) (append-assoc (gather (marker true) (placed-source l)) (of-the-goal (order-at l) (l .part .target)) qs)
 
 -- a target, or none, before a bar
 goal-blamed : (before : Content) (at : ℕ) (g : Target) (qs : List Placed) (os : List ℕ) → run-items (items qs) ≡ []
@@ -107,9 +107,9 @@ parts-blamed before [] = none-blamed before
 parts-blamed before (l ∷ ls) =
     let qs = gather of-part ls in
     ap (blamed lone-bar before) (part-is l qs)
-    ∙ content-blamed before (l .at) (placed-source l) (of-the-goal (order-at l) (l .part .goal) ++ qs) (goal-bar (order-at l) (l .part .goal) qs (bar-first ls))
+    ∙ content-blamed before (l .at) (placed-source l) (of-the-goal (order-at l) (l .part .target) ++ qs) (goal-bar (order-at l) (l .part .target) qs (bar-first ls))
     ∙ ap (λ (r : List ℕ). blamed lone-P [] (placed-source l) ++ r)
-    (goal-blamed (reverseAux (items (markers (placed-source l))) (text 0 ∷ before)) (order-at l) (l .part .goal) qs (gather (blamed lone-P []) (placed-contents ls)) (bar-first ls) (λ b. parts-blamed b ls))
+    (goal-blamed (reverseAux (items (markers (placed-source l))) (text 0 ∷ before)) (order-at l) (l .part .target) qs (gather (blamed lone-P []) (placed-contents ls)) (bar-first ls) (λ b. parts-blamed b ls))
 
 -- The list is what is read at the offsets of heads and markers
 module _ (t : List ℕ) where

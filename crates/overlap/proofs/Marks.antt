@@ -8,7 +8,8 @@ use Rattle.xliff.specs.Item.{Item, Content, is-pair, is-isolated, other-half}
 use Rattle.xliff.specs.Rules.{behind-item, enclosed, stray, any-stray, bad-9}
 use Rattle.places.specs.Markers.{is-marked, marked, OnMarks}
 use Rattle.places.proofs.Tests.{any-marked}
-use Rattle.halves.proofs.Others.{no-class, other-unmarked}
+use Rattle.places.proofs.Ten.{no-class}
+use Rattle.halves.proofs.Others.{other-unmarked}
 
 marked-in : Option Content → Option Content
 marked-in none = none

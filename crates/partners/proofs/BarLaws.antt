@@ -83,7 +83,7 @@ goal-keys targets at (target q xs) = ap (λ (l : List ℕ). 1 ∷ l) (content-ke
 part-keys : (targets : Bool) (l : Located) → from-part true (λ q. targets) (λ h at. 0 ∷ []) (λ q at. 1 ∷ []) marker-key no-key l ≡ part-bars targets (l .part)
 unfolding from-part part-bars placed-source
 part-keys targets l =
-    ap₂ (λ (a b : List ℕ). 0 ∷ (a ++ b)) (content-keys true (source-at l) [] (l .part .source)) (goal-keys targets (order-at l) (l .part .goal))
+    ap₂ (λ (a b : List ℕ). 0 ∷ (a ++ b)) (content-keys true (source-at l) [] (l .part .source)) (goal-keys targets (order-at l) (l .part .target))
 
 -- over the parts
 located-bars : (targets : Bool) (at : ℕ) (ps : List Part) → gather (λ l. part-bars targets (l .part)) (located-from at ps) ≡ gather (part-bars targets) ps

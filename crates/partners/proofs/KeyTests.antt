@@ -15,6 +15,7 @@ use Rattle.views.specs.Views.{itemsAt}
 use Rattle.keys.specs.Keys.{key, keysAt, halfKey, otherKey}
 use Rattle.keys.proofs.KeyLaws.{id-key, half-key, form-key, alike-key, other-key}
 use Rattle.partners.specs.Partners.{partnerSKey, loneSKey, halfOfId, onlyHalf, waitsFor, loneInTarget, blamedKeys}
+use Rattle.views.proofs.ViewLaws.{items-at}
 
 -- on keys
 pub partner-keys : (x : Item) (ys : Content) → partnerSKey (key x) (map key ys) ≡ partner-S x ys
@@ -123,11 +124,6 @@ on-marks-target wait =
     }
 
 -- what such a test blames among the markers at some offsets
-items-at : (t os : List ℕ) → items (placed-at t os) ≡ itemsAt t os
-unfolding items placed-at itemsAt
-items-at t [] = refl
-items-at t (o ∷ os) = ap {B = Content} (λ l. item-at t o ∷ l) (items-at t os)
-
 module _ (bad : Content → Item → Content → Bool) (bad-key : List ℕ → ℕ → List ℕ → Bool)
     (same : (before : Content) (x : Item) (after : Content) → bad before x after ≡ bad-key (map key before) (key x) (map key after)) where
   pub blamed-keys : (t os : List ℕ) (before : Content) → blamed bad before (placed-at t os) ≡ blamedKeys bad-key (map key before) os (keysAt t os)

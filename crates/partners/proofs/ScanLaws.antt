@@ -16,6 +16,7 @@ use Rattle.answers.specs.declared.Place.the-variants.{Nowhere, At}
 use Rattle.keys.specs.Keys.{halfKey, formKey, alikeKeys, otherKey}
 use Rattle.contents.specs.Contents.{isBar, targeted}
 use Rattle.partners.specs.Partners.{partnerSKey, loneSKey, waits, waitsFor, blamedKeys}
+use Rattle.answers.proofs.Places.{toward-if}
 
 -- a slice from an index on is what is left of the list
 pub tail-is : (n : ℕ) (s : List ℕ) → take (length s - n) (drop n s) ≡ drop n s
@@ -153,12 +154,6 @@ module _ (x : ℕ) (ks : List ℕ) (i : ℕ) where
   waits-end h = ap (waitsFor x (reverse (take i ks))) (drop-of-length-le ks h)
 
 -- what a test of keys blames, one key further
-toward-if : (n : ℕ) (b : Bool) (best : Place) (at : ℕ) (rest : List ℕ) → toward n best (cond b (at ∷ rest) rest) ≡ toward n (cond b (lower best at) best) rest
-unfolding toward first-of least
-toward-if n true Nowhere at rest = refl
-toward-if n true (At a) at rest = refl
-toward-if n false best at rest = refl
-
 blamed-first : (bad : List ℕ → ℕ → List ℕ → Bool) (before : List ℕ) (o : ℕ) (os : List ℕ) (k : ℕ) (ks : List ℕ)
     → blamedKeys bad before (o ∷ os) (k ∷ ks) ≡ cond (bad before k ks) (o ∷ blamedKeys bad (k ∷ before) os ks) (blamedKeys bad (k ∷ before) os ks)
 unfolding blamedKeys

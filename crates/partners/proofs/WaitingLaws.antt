@@ -248,9 +248,9 @@ module _ (x : Item) where
   abbrev behind : Target → List Part → List ℕ
   behind g ps = goal-bars false g ++ bars ps
 
-  part-behind : (p : Part) (ps : List Part) → bars (p ∷ ps) ≡ 0 ∷ (map key (marked (p .source)) ++ behind (p .goal) ps)
+  part-behind : (p : Part) (ps : List Part) → bars (p ∷ ps) ≡ 0 ∷ (map key (marked (p .source)) ++ behind (p .target) ps)
   unfolding gather part-bars
-  part-behind p ps = ap (λ (l : List ℕ). 0 ∷ l) (append-assoc (map key (marked (p .source))) (goal-bars false (p .goal)) (bars ps))
+  part-behind p ps = ap (λ (l : List ℕ). 0 ∷ l) (append-assoc (map key (marked (p .source))) (goal-bars false (p .target)) (bars ps))
 
   holds-behind : (g : Target) (ps : List Part) → Holds (bars ps) (source-sequence ps) → Holds (behind g ps) (source-sequence ps)
   unfolding goal-bars clean keep
@@ -260,7 +260,7 @@ module _ (x : Item) where
   holds-bars : (ps : List Part) → Holds (bars ps) (source-sequence ps)
   unfolding clean keep gather source-sequence marked
   holds-bars [] = refl
-  holds-bars (p ∷ ps) = ap clean (part-behind p ps) ∙ holds-more (p .source) (source-sequence ps) (behind (p .goal) ps) (holds-behind (p .goal) ps (holds-bars ps))
+  holds-bars (p ∷ ps) = ap clean (part-behind p ps) ∙ holds-more (p .source) (source-sequence ps) (behind (p .target) ps) (holds-behind (p .target) ps (holds-bars ps))
 
   run-behind : (g : Target) (ps : List Part) → run (behind g ps) ≡ []
   unfolding goal-bars part-bars gather run
@@ -291,13 +291,13 @@ module _ (x : Item) where
   parts-wait (p ∷ ps) earlier before e =
       let w : List Item = with-partner earlier (source-sequence ps) [] (p .source) in
       let d : List ℕ = map key (marked (reverseAux (p .source) [])) ++ (0 ∷ before) in
-      any-append (other-half x) (cond (has-target (p .goal)) [] w) (waiting (reverseAux (p .source) earlier) ps)
-      ∙ ap₂ _||_ (any-cond (other-half x) (has-target (p .goal)) w ∙ ap (λ (t : Bool). cond t false (any (other-half x) w)) (sym (targeted-behind (p .goal) ps)))
-      (goal-passed (p .goal) d ps (reverseAux (p .source) earlier) (holds-turned (p .source) earlier before e) (λ ks h. parts-wait ps (reverseAux (p .source) earlier) ks h))
+      any-append (other-half x) (cond (has-target (p .target)) [] w) (waiting (reverseAux (p .source) earlier) ps)
+      ∙ ap₂ _||_ (any-cond (other-half x) (has-target (p .target)) w ∙ ap (λ (t : Bool). cond t false (any (other-half x) w)) (sym (targeted-behind (p .target) ps)))
+      (goal-passed (p .target) d ps (reverseAux (p .source) earlier) (holds-turned (p .source) earlier before e) (λ ks h. parts-wait ps (reverseAux (p .source) earlier) ks h))
       ∙ sym
       (ap (waitsFor (key x) before) (part-behind p ps)
-      ∙ bar-passed before 0 (map key (marked (p .source)) ++ behind (p .goal) ps) refl
-      ∙ content-waits earlier (source-sequence ps) (0 ∷ before) (behind (p .goal) ps) e (holds-behind (p .goal) ps (holds-bars ps)) refl (run-behind (p .goal) ps) [] (p .source))
+      ∙ bar-passed before 0 (map key (marked (p .source)) ++ behind (p .target) ps) refl
+      ∙ content-waits earlier (source-sequence ps) (0 ∷ before) (behind (p .target) ps) e (holds-behind (p .target) ps (holds-bars ps)) refl (run-behind (p .target) ps) [] (p .source))
 
   -- the other half of x waits in the source
   pub waiting-keys : (ps : List Part) → any (other-half x) (waiting [] ps) ≡ waitsFor (key x) [] (gather (part-bars false) ps)

@@ -53,4 +53,4 @@ goal-bars targets no-target = []
 goal-bars targets (target q xs) = 1 ∷ cond targets (map key (marked xs)) []
 
 unfoldable pub part-bars : Bool → Part → List ℕ
-part-bars targets p = 0 ∷ (map key (marked (p .source)) ++ goal-bars targets (p .goal))
+part-bars targets p = 0 ∷ (map key (marked (p .source)) ++ goal-bars targets (p .target))

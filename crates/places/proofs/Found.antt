@@ -9,7 +9,7 @@ use lib.Dec.{eqb}
 use Rattle.xliff.specs.Bytes.{gather, two}
 use Rattle.xliff.specs.Answer.{refusal}
 use Rattle.xliff.specs.Item.{Content, text}
-use Rattle.xliff.specs.Unit.{Head, Target, no-target, target, Part, TheUnit}
+use Rattle.xliff.specs.Unit.{Head, Target, no-target, target, Part, XliffUnit}
 use Rattle.xliff.specs.Encode.{Record, closing, part-head, target-head, text-run, inline, record-bytes, head-bytes, content-records, target-records, part-records, unit-records, spell, content-bytes}
 use Rattle.xliff.specs.Sequences.{Placed, placed-from, Located, located, located-from, part-size, source-at, order-at, target-at, placed-source, placed-target, placed-source-sequence, placed-of-order}
 use Rattle.xliff.specs.Rules.{bad-order, first-bad-order, fault-5, of-source, of-target, Named, start-name, part-name, names, first-clash, fault-6}
@@ -20,14 +20,14 @@ use Rattle.places.specs.Found.{state-after, found-at, found, Ordered, or
 
 -- the sizes of a part
 module _ (p : Part) where
-  part-length : part-size p ≡ length (head-bytes (p .head)) + length (content-bytes (p .source)) + length (spell (target-records (p .goal)))
+  part-length : part-size p ≡ length (head-bytes (p .head)) + length (content-bytes (p .source)) + length (spell (target-records (p .target)))
   unfolding part-size part-records spell gather record-bytes content-bytes
   part-length =
       omega (
         arith,
-        length-append (head-bytes (p .head)) (spell (content-records (p .source) ++ target-records (p .goal))),
-        ap length (spell-append (content-records (p .source)) (target-records (p .goal))),
-        length-append (spell (content-records (p .source))) (spell (target-records (p .goal))),
+        length-append (head-bytes (p .head)) (spell (content-records (p .source) ++ target-records (p .target))),
+        ap length (spell-append (content-records (p .source)) (target-records (p .target))),
+        length-append (spell (content-records (p .source))) (spell (target-records (p .target))),
       )
 
 goal-length : (q : ℕ) (xs : Content) → length (spell (target-records (target q xs))) ≡ 4 + length (content-bytes xs)
@@ -72,7 +72,7 @@ module _ {S B : Type 0} (part-state : S) (target-state : ℕ → S) (on-head : H
   of-goal at (target q xs) = on-target q at ++ gather (on-item (target-state q)) (placed-from (at + 4) [] xs)
 
   unfoldable pub from-part : Located → List B
-  from-part l = on-head (l .part .head) (l .at) ++ (gather (on-item part-state) (placed-source l) ++ of-goal (order-at l) (l .part .goal))
+  from-part l = on-head (l .part .head) (l .at) ++ (gather (on-item part-state) (placed-source l) ++ of-goal (order-at l) (l .part .target))
 
   -- what is found from some records on does not depend on the state, as before a part and before the end
   Anew : List Record → Type 0
@@ -106,15 +106,15 @@ module _ {S B : Type 0} (part-state : S) (target-state : ℕ → S) (on-head : H
       let at1 = at + length (head-bytes (p .head)) in
       let at2 = at1 + length (content-bytes (p .source)) in
       let C = gather (on-item part-state) (placed-from at1 [] (p .source)) in
-      let G = of-goal at2 (p .goal) in
+      let G = of-goal at2 (p .target) in
       let F = walk part-state (at + part-size p) qs in
-      found-head s at (p .head) (content-records (p .source) ++ target-records (p .goal) ++ qs)
+      found-head s at (p .head) (content-records (p .source) ++ target-records (p .target) ++ qs)
       ∙ ap (λ (l : List B). on-head (p .head) at ++ l)
-      (ap (walk part-state at1) (append-assoc (content-records (p .source)) (target-records (p .goal)) qs)
-      ∙ found-content part-state at1 (p .source) (target-records (p .goal) ++ qs)
+      (ap (walk part-state at1) (append-assoc (content-records (p .source)) (target-records (p .target)) qs)
+      ∙ found-content part-state at1 (p .source) (target-records (p .target) ++ qs)
       ∙ ap (λ (l : List B). C ++ l)
-      (found-goal at2 (p .goal) qs a
-      ∙ ap (λ (k : ℕ). G ++ walk part-state k qs) (let z : at2 + length (spell (target-records (p .goal))) ≡ at + part-size p = omega (arith, part-length p) in z))
+      (found-goal at2 (p .target) qs a
+      ∙ ap (λ (k : ℕ). G ++ walk part-state k qs) (let z : at2 + length (spell (target-records (p .target))) ≡ at + part-size p = omega (arith, part-length p) in z))
       ∙ sym (append-assoc C G F))
       ∙ sym (append-assoc (on-head (p .head) at) (C ++ G) F)
 
@@ -137,7 +137,7 @@ module _ {S B : Type 0} (part-state : S) (target-state : ℕ → S) (on-head : H
       ∙ ap (λ (l : List B). from-part (record { part = p; at = at }) ++ l) (found-parts part-state (at + part-size p) ps)
 
   -- over the unit
-  pub found-unit : (s : S) (u : TheUnit) → walk s 0 (unit-records u) ≡ gather from-part (located (u .parts))
+  pub found-unit : (s : S) (u : XliffUnit) → walk s 0 (unit-records u) ≡ gather from-part (located (u .parts))
   unfolding unit-records located found found-at state-after record-bytes
   found-unit s u = found-parts s 3 (u .parts)
 
@@ -164,24 +164,24 @@ unfolding of-goal goal-order
 goal-order-is at no-target = refl
 goal-order-is at (target q xs) = ap {B = List Ordered} (λ l. record { order = q; at = at } ∷ l) (gather-none (placed-from (at + 4) [] xs))
 
-part-order-is : (l : Located) → from-part {S = Unit {0}} tt (λ q. tt) (λ h at. []) one-order (λ s p. []) (λ s c at. refl) l ≡ goal-order (order-at l) (l .part .goal)
+part-order-is : (l : Located) → from-part {S = Unit {0}} tt (λ q. tt) (λ h at. []) one-order (λ s p. []) (λ s c at. refl) l ≡ goal-order (order-at l) (l .part .target)
 unfolding from-part
-part-order-is l = ap₂ _++_ (gather-none (placed-source l)) (goal-order-is (order-at l) (l .part .goal))
+part-order-is l = ap₂ _++_ (gather-none (placed-source l)) (goal-order-is (order-at l) (l .part .target))
 
-bad-order-is : (n : ℕ) (used : List ℕ) (ls : List Located) → first-bad-in n used (gather (λ l. goal-order (order-at l) (l .part .goal)) ls) ≡ first-bad-order n used ls
+bad-order-is : (n : ℕ) (used : List ℕ) (ls : List Located) → first-bad-in n used (gather (λ l. goal-order (order-at l) (l .part .target)) ls) ≡ first-bad-order n used ls
 unfolding gather first-bad-in first-bad-order goal-order
 bad-order-is n used [] = refl
-bad-order-is n used (l ∷ ls) = by (λ us. bad-order-is n us ls) (l .part .goal) refl
+bad-order-is n used (l ∷ ls) = by (λ us. bad-order-is n us ls) (l .part .target) refl
   where
-    by : ((us : List ℕ) → first-bad-in n us (gather (λ l. goal-order (order-at l) (l .part .goal)) ls) ≡ first-bad-order n us ls)
-        → (g : Target) → l .part .goal ≡ g
-        → first-bad-in n used (goal-order (order-at l) g ++ gather (λ l. goal-order (order-at l) (l .part .goal)) ls)
+    by : ((us : List ℕ) → first-bad-in n us (gather (λ l. goal-order (order-at l) (l .part .target)) ls) ≡ first-bad-order n us ls)
+        → (g : Target) → l .part .target ≡ g
+        → first-bad-in n used (goal-order (order-at l) g ++ gather (λ l. goal-order (order-at l) (l .part .target)) ls)
         ≡ elim g [ no-target ↦ first-bad-order n used ls | target q xs ↦ cond (bad-order n used q) (refusal 5 (order-at l)) (first-bad-order n (q ∷ used) ls) ]
     by ih no-target e = ih used
     by ih (target q xs) e = (ap (cond (bad-order n used q) (refusal 5 (order-at l))) (ih (q ∷ used)))
 
 -- rule 5 by the orders that a walk over the records finds
-pub rule-5-found : (u : TheUnit) → fault-5 (u .parts) ≡ first-bad-in (length (u .parts)) [] (orders-found 0 (unit-records u))
+pub rule-5-found : (u : XliffUnit) → fault-5 (u .parts) ≡ first-bad-in (length (u .parts)) [] (orders-found 0 (unit-records u))
 unfolding fault-5
 rule-5-found u =
     sym (bad-order-is (length (u .parts)) [] (located (u .parts)))
@@ -195,10 +195,10 @@ goal-names at (target q xs) = refl
 part-names : (l : Located) → from-part of-source (λ q. of-target) head-name (λ q at. []) start-name no-name l ≡ names l
 unfolding from-part names part-name target-at
 part-names l =
-    ap (λ (k : List Named). head-name (l .part .head) (l .at) ++ (gather (start-name of-source) (placed-source l) ++ k)) (goal-names (order-at l) (l .part .goal))
-    ∙ sym (append-assoc (head-name (l .part .head) (l .at)) (gather (start-name of-source) (placed-source l)) (gather (start-name of-target) (placed-target (order-at l + 4) (l .part .goal))))
+    ap (λ (k : List Named). head-name (l .part .head) (l .at) ++ (gather (start-name of-source) (placed-source l) ++ k)) (goal-names (order-at l) (l .part .target))
+    ∙ sym (append-assoc (head-name (l .part .head) (l .at)) (gather (start-name of-source) (placed-source l)) (gather (start-name of-target) (placed-target (order-at l + 4) (l .part .target))))
 
-pub rule-6-found : (u : TheUnit) → fault-6 (u .parts) ≡ first-clash [] (names-found of-source 0 (unit-records u))
+pub rule-6-found : (u : XliffUnit) → fault-6 (u .parts) ≡ first-clash [] (names-found of-source 0 (unit-records u))
 unfolding fault-6
 rule-6-found u =
     ap (first-clash [])
@@ -222,9 +222,9 @@ goal-no-marks at (target q xs) = no-markers (placed-from (at + 4) [] xs)
 part-source : (l : Located) → from-part true (λ k. not true && eqb 0 k) (λ h at. []) (λ k at. []) marker no-marker l ≡ gather (marker true) (placed-source l)
 unfolding from-part
 part-source l =
-    ap (λ (k : List Placed). gather (marker true) (placed-source l) ++ k) (goal-no-marks (order-at l) (l .part .goal)) ∙ append-nil (gather (marker true) (placed-source l))
+    ap (λ (k : List Placed). gather (marker true) (placed-source l) ++ k) (goal-no-marks (order-at l) (l .part .target)) ∙ append-nil (gather (marker true) (placed-source l))
 
-pub source-marks : (inside : Bool) (u : TheUnit) → marks-found true 0 inside 0 (unit-records u) ≡ markers (placed-source-sequence (located (u .parts)))
+pub source-marks : (inside : Bool) (u : XliffUnit) → marks-found true 0 inside 0 (unit-records u) ≡ markers (placed-source-sequence (located (u .parts)))
 unfolding markers placed-source-sequence
 source-marks inside u =
     found-unit true (λ k. not true && eqb 0 k) (λ h at. []) (λ k at. []) marker no-marker inside u
@@ -241,15 +241,15 @@ goal-marks q at no-target = refl
 goal-marks q at (target k xs) = cond-marks (eqb q k) (placed-from (at + 4) [] xs)
 
 part-target : (q : ℕ) (l : Located)
-    → from-part false (λ k. not false && eqb q k) (λ h at. []) (λ k at. []) marker no-marker l ≡ gather (marker true) (placed-of-order q (target-at l) (l .part .goal))
+    → from-part false (λ k. not false && eqb q k) (λ h at. []) (λ k at. []) marker no-marker l ≡ gather (marker true) (placed-of-order q (target-at l) (l .part .target))
 unfolding from-part target-at
 part-target q l =
-    ap (λ (k : List Placed). k ++ of-goal false (λ k. not false && eqb q k) (λ h at. []) (λ k at. []) marker no-marker (order-at l) (l .part .goal)) (no-markers (placed-source l))
-    ∙ goal-marks q (order-at l) (l .part .goal)
+    ap (λ (k : List Placed). k ++ of-goal false (λ k. not false && eqb q k) (λ h at. []) (λ k at. []) marker no-marker (order-at l) (l .part .target)) (no-markers (placed-source l))
+    ∙ goal-marks q (order-at l) (l .part .target)
 
-pub order-marks : (q : ℕ) (inside : Bool) (u : TheUnit)
-    → marks-found false q inside 0 (unit-records u) ≡ markers (gather (λ l. placed-of-order q (target-at l) (l .part .goal)) (located (u .parts)))
+pub order-marks : (q : ℕ) (inside : Bool) (u : XliffUnit)
+    → marks-found false q inside 0 (unit-records u) ≡ markers (gather (λ l. placed-of-order q (target-at l) (l .part .target)) (located (u .parts)))
 unfolding markers
 order-marks q inside u =
     found-unit false (λ k. not false && eqb q k) (λ h at. []) (λ k at. []) marker no-marker inside u
-    ∙ gather-same _ _ (part-target q) (located (u .parts)) ∙ sym (gather-gather (λ l. placed-of-order q (target-at l) (l .part .goal)) (marker true) (located (u .parts)))
+    ∙ gather-same _ _ (part-target q) (located (u .parts)) ∙ sym (gather-gather (λ l. placed-of-order q (target-at l) (l .part .target)) (marker true) (located (u .parts)))

@@ -29,7 +29,7 @@ not-false : (b : Bool) → not b ≡ false → b ≡ true
 not-false true e = refl
 not-false false e = sym e
 
-no-class : (x : Item) → is-marked x ≡ false → class x ≡ 0
+pub no-class : (x : Item) → is-marked x ≡ false → class x ≡ 0
 unfolding is-marked
 no-class x e = eqb-true (class x) 0 (not-false _ e)
 

@@ -113,7 +113,7 @@ targets-back t p q zero = refl
 targets-back t p q (suc n) =
     map-append {B = Placed} (λ o. record { item = item-at t o; at = o }) (offs (marks-found false (suc q) false 0 (unit-records (unit t)))) (target-offsets t (suc q) n)
     ∙ ap₂ _++_ (read-back t 0 (unit-records (unit t)) false (suc q) false (at-start t p) ∙ order-marks (suc q) false (unit t)) (targets-back t p (suc q) n)
-    ∙ sym (gather-append (marker true) (gather (λ l. placed-of-order (suc q) (target-at l) (l .part .goal)) (located (unit t .parts))) (placed-targets (located (unit t .parts)) (suc q) n))
+    ∙ sym (gather-append (marker true) (gather (λ l. placed-of-order (suc q) (target-at l) (l .part .target)) (located (unit t .parts))) (placed-targets (located (unit t .parts)) (suc q) n))
 
 -- a test of the target sequence, on the markers at their offsets
 pub target-blamed : (t : List ℕ) → Passes t → (bad bad′ : Content → Item → Content → Bool) → OnMarks bad bad′

@@ -19,8 +19,8 @@ fn is_marker(i: Item) -> bool
         Item::Standalone(_) => true,
         Item::Isolated(_, _) => true,
         Item::Pair(_, _, _) => true,
-        Item::NoteStart(_, _, _) => true,
-        Item::NoteEnd(_, _) => true,
+        Item::AnnotationStart(_, _, _) => true,
+        Item::AnnotationEnd(_, _) => true,
     }
 }
 
@@ -72,7 +72,8 @@ fn inside_of(source: bool, q: u16, inside: bool, r: Read) -> bool
     }
 }
 
-fn put_if(b: bool, out: &mut [u16], m: usize, at: u16) -> usize
+// `at` behind the first `m` of `out`, if asked for; how many there are then.
+pub fn put_if(b: bool, out: &mut [u16], m: usize, at: u16) -> usize
     requires { ⌜ (length (cond b (at ∷ []) []) + m ≤ length (now out)) × (length (now out) ≤ 1024) ⌝ }
     ensures { λ r. ⌜ (take r (now (out .exit)) ≡ take m (now (out .entry)) ++ cond b (at ∷ []) []) × (r ≡ length (cond b (at ∷ []) []) + m) × (length (now (out .exit)) ≡ length (now (out .entry))) ⌝ }
 {

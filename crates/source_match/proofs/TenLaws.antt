@@ -1,27 +1,23 @@
 -- Rule 10, both sequences.
 use Prim.Native.Nat.{ℕ, _+_}
-use mathlib.Core.Path.{_≡_, refl, sym, ap, ap₂, _∙_}
+use mathlib.Core.Path.{_≡_, sym, ap, ap₂, _∙_}
 use mathlib.Core.Bool.{true}
-use mathlib.Core.List.{List, [], _∷_, _++_}
+use mathlib.Core.List.{List, [], _++_}
 use lib.ListN.{length}
 use Rattle.answers.proofs.Places.{first-two}
 use Rattle.answers.specs.Answers.{refusal-at, toward}
 use Rattle.xliff.specs.Item.{Content}
 use Rattle.xliff.specs.Parse.{unit}
-use Rattle.xliff.specs.Sequences.{located, blamed, items, first-of}
+use Rattle.xliff.specs.Sequences.{located, blamed, first-of}
 use Rattle.xliff.specs.Rules.{bad-10-source, bad-10-target, fault-10}
 use Rattle.places.specs.Passes.{Passes}
-use Rattle.places.specs.Markers.{item-at, placed-at, target-offsets}
+use Rattle.places.specs.Markers.{placed-at, target-offsets}
 use Rattle.places.proofs.Tests.{length-located}
 use Rattle.places.proofs.Ten.{rule-10-marks}
 use Rattle.answers.specs.declared.Place.{Place}
 use Rattle.sequences.specs.Marks.{offsets}
 use Rattle.views.specs.Views.{itemsAt}
-
-items-at : (t os : List ℕ) → items (placed-at t os) ≡ itemsAt t os
-unfolding items placed-at itemsAt
-items-at t [] = refl
-items-at t (o ∷ os) = ap {B = Content} (λ l. item-at t o ∷ l) (items-at t os)
+use Rattle.views.proofs.ViewLaws.{items-at}
 
 pub rule-10-is : (t src tgt : List ℕ) (p q : Place) → Passes t → src ≡ offsets true 0 t → tgt ≡ target-offsets t 0 (length (unit t .parts))
     → refusal-at 10 p ≡ first-of 10 (blamed bad-10-source [] (placed-at t src)) → refusal-at 10 q ≡ toward 10 p (blamed (bad-10-target (itemsAt t src)) [] (placed-at t tgt))

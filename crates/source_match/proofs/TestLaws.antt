@@ -6,15 +6,16 @@ use mathlib.Core.List.{List, [], _∷_}
 use lib.ListN.{length, drop, getD, drop-of-length-le}
 use native.Mathlib.Omega.{arith}
 use Rattle.xliff.specs.Bytes.{any, among}
-use Rattle.xliff.specs.Item.{Content, alike, is-code}
+use Rattle.xliff.specs.Item.{Content, alike}
 use Rattle.xliff.specs.Rules.{bad-10-source, bad-10-target, unlike-source, bad-copy, of-other-class, starts-id, agrees, same-half, may-copy}
 use lib.Dec.{eqb}
 use Rattle.xliff.specs.Item as spec
 use Rattle.xliff.specs.Item.{class, id-of, fields}
 use Rattle.places.specs.Markers.{item-at}
 use Rattle.table.specs.declared.Item.{Item}
-use Rattle.views.specs.Views.{viewOf, itemsAt, isCode}
+use Rattle.views.specs.Views.{viewOf, itemsAt}
 use Rattle.source_match.specs.Ten.{testOf, badTenSource, badTenTarget}
+use Rattle.views.proofs.ViewLaws.{code-same}
 
 -- some item from an index on passes
 items-first : (p : spec.Item → Bool) (t os : List ℕ) (i : ℕ) → i < length os → any p (itemsAt t (drop i os)) ≡ p (item-at t (getD os i 0)) || any p (itemsAt t (drop (suc i) os))
@@ -40,17 +41,6 @@ unfolding bad-10-source viewOf among
 ten-source-is before x after = by (eqb (class x) 1) (eqb (class x) 2) (eqb (class x) 3) (eqb (class x) 4)
   where
     by : (a b c d : Bool) → (a || (b || (c || d))) && not (eqb (fields x .copyOf) 0) ≡ (a || (b || (c || (d || false)))) && not (eqb (fields x .copyOf) 0)
-    by true b c d = refl
-    by false true c d = refl
-    by false false true d = refl
-    by false false false true = refl
-    by false false false false = refl
-
-code-same : (x : spec.Item) → isCode (viewOf x) ≡ is-code x
-unfolding viewOf among
-code-same x = by (eqb (class x) 1) (eqb (class x) 2) (eqb (class x) 3) (eqb (class x) 4)
-  where
-    by : (a b c d : Bool) → a || (b || (c || d)) ≡ a || (b || (c || (d || false)))
     by true b c d = refl
     by false true c d = refl
     by false false true d = refl

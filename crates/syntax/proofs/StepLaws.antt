@@ -22,7 +22,7 @@ use Rattle.xliff.proofs.unit.Table.{stepped-whole, bytes-drop}
 use Rattle.table.specs.Meaning.{item, record-meaning, meaning, width, body}
 use Rattle.text.proofs.TextLaws.{xml-same}
 use Rattle.table.specs.declared.Item.{Item}
-use Rattle.table.specs.declared.Item.the-variants.{Character, Standalone, Isolated, Pair, NoteStart, NoteEnd}
+use Rattle.table.specs.declared.Item.the-variants.{Character, Standalone, Isolated, Pair, AnnotationStart, AnnotationEnd}
 use Rattle.table.specs.declared.Record.{Record}
 use Rattle.table.specs.declared.Record.the-variants.{Unit as UnitStart, UnitEnd, Segment, Ignorable, Target, Text, Inline}
 use Rattle.table.specs.declared.Read.{Read}
@@ -41,8 +41,8 @@ item-same (Character c) = ap (λ (b : Bool). ltb 0x10FFFF c || b) (xml-same c)
 item-same (Standalone f) = refl
 item-same (Isolated h f) = refl
 item-same (Pair w h f) = refl
-item-same (NoteStart w i l) = refl
-item-same (NoteEnd w i) = refl
+item-same (AnnotationStart w i l) = refl
+item-same (AnnotationEnd w i) = refl
 
 step-if : (b : Bool) (st : Stage) → step-meaning (stepIf b st) ≡ cond b (fault 3) (on (stage st))
 step-if true st = refl

@@ -20,7 +20,7 @@ use Rattle.xliff.proofs.text.Utf8.{text-of-some}
 use Rattle.table.specs.Number.{numberAt}
 use Rattle.table.specs.Letters.{yesNo, reorderLetter, overlapLetter, fieldsOk}
 use Rattle.text.specs.Utf8.{textOk}
-use Rattle.table.specs.Records.{sized, sizedPart, unitOf, segmentOf, ignorableOf, targetOf, fieldsOf, standaloneOf, isolatedOf, pairOf, noteStartOf, noteEndOf, textOf, characterOf, codeAt, markedOf, inlineOf, pairMarkOf, noteMarkOf, recordOf}
+use Rattle.table.specs.Records.{sized, sizedPart, unitOf, segmentOf, ignorableOf, targetOf, fieldsOf, standaloneOf, isolatedOf, pairOf, annotationStartOf, annotationEndOf, textOf, characterOf, codeAt, markedOf, inlineOf, pairMarkOf, annotationMarkOf, recordOf}
 use Rattle.table.specs.Meaning.{half, form, fields, record-meaning, meaning, width, points, body}
 use Rattle.table.specs.declared.Fields.{Fields}
 use Rattle.table.specs.declared.Record.{Record}
@@ -169,13 +169,13 @@ module _ (t : List ℕ) where
   pair-tied FormS Start = whole-tied t 12 _ _ _ _ (fields-same false (fieldsOf t)) refl refl
   pair-tied FormS End = whole-tied t 12 _ _ _ _ (fields-same false (fieldsOf t)) refl refl
 
-  start-tied : (f : Form) → Tied t (noteStartOf t f) (mark-start t (form f))
-  unfolding noteStartOf mark-start record-bytes mark field-bytes two two-at good-id
+  start-tied : (f : Form) → Tied t (annotationStartOf t f) (mark-start t (form f))
+  unfolding annotationStartOf mark-start record-bytes mark field-bytes two two-at good-id
   start-tied FormP = whole-tied t 5 _ _ _ _ (ap (λ (b : Bool). not (eqb (numberAt t 2) 0) && b) (three-letters (getD t 4 0) 'Y' 'N' '-')) refl refl
   start-tied FormS = whole-tied t 5 _ _ _ _ (ap (λ (b : Bool). not (eqb (numberAt t 2) 0) && b) (three-letters (getD t 4 0) 'Y' 'N' '-')) refl refl
 
-  end-tied : (f : Form) → Tied t (noteEndOf t f) (mark-end t (form f))
-  unfolding noteEndOf mark-end record-bytes mark field-bytes two two-at good-id
+  end-tied : (f : Form) → Tied t (annotationEndOf t f) (mark-end t (form f))
+  unfolding annotationEndOf mark-end record-bytes mark field-bytes two two-at good-id
   end-tied FormP = whole-tied t 4 _ _ _ _ refl refl refl
   end-tied FormS = whole-tied t 4 _ _ _ _ refl refl refl
 
@@ -248,19 +248,19 @@ module _ (t : List ℕ) where
   unfolding read-as
   IE-tied = isolated-tied End
 
-  MO-tied : Tied t (noteStartOf t FormP) (read-as MO t)
+  MO-tied : Tied t (annotationStartOf t FormP) (read-as MO t)
   unfolding read-as
   MO-tied = start-tied FormP
 
-  SM-tied : Tied t (noteStartOf t FormS) (read-as SM t)
+  SM-tied : Tied t (annotationStartOf t FormS) (read-as SM t)
   unfolding read-as
   SM-tied = start-tied FormS
 
-  MC-tied : Tied t (noteEndOf t FormP) (read-as MC t)
+  MC-tied : Tied t (annotationEndOf t FormP) (read-as MC t)
   unfolding read-as
   MC-tied = end-tied FormP
 
-  EM-tied : Tied t (noteEndOf t FormS) (read-as EM t)
+  EM-tied : Tied t (annotationEndOf t FormS) (read-as EM t)
   unfolding read-as
   EM-tied = end-tied FormS
 
@@ -269,7 +269,7 @@ module _ (t : List ℕ) where
   unknown-tied = broken-tied t false
 
   marks-tied : Tied t (markedOf t) (read-as (mark-of (getD t 0 0) (getD t 1 0)) t)
-  unfolding markedOf inlineOf pairMarkOf noteMarkOf mark-of is
+  unfolding markedOf inlineOf pairMarkOf annotationMarkOf mark-of is
   marks-tied =
       mark-tied (is 'U' 'N' (getD t 0 0) (getD t 1 0)) _ _ UN _ unit-tied (
       mark-tied (is 'U' 'E' (getD t 0 0) (getD t 1 0)) _ _ UE _ end-of-unit (

@@ -1,7 +1,8 @@
 -- The view of what was read is that of the specification's item.
 use Prim.Native.Nat.{ℕ, _-_}
+use mathlib.Core.Bool.{Bool, true, false, _||_}
 use mathlib.Core.Path.{_≡_, refl, _∙_, ap}
-use mathlib.Core.List.{List}
+use mathlib.Core.List.{List, [], _∷_}
 use lib.ListN.{drop}
 use Rattle.xliff.specs.Item.{class, half, is-form-P, id-of, fields}
 use Rattle.xliff.specs.Parse.{read}
@@ -10,11 +11,18 @@ use Rattle.table.specs.Meaning.{item, meaning}
 use Rattle.table.specs.declared.Form.the-variants.{P, S}
 use Rattle.table.specs.declared.Half.the-variants.{Start, End}
 use Rattle.table.specs.declared.Item.{Item}
-use Rattle.table.specs.declared.Item.the-variants.{Character, Standalone, Isolated, Pair, NoteStart, NoteEnd}
+use Rattle.table.specs.declared.Item.the-variants.{Character, Standalone, Isolated, Pair, AnnotationStart, AnnotationEnd}
 use Rattle.table.specs.declared.Record.the-variants.{Unit as UnitStart, UnitEnd, Segment, Ignorable, Target, Text, Inline}
 use Rattle.table.specs.declared.Read.{Read}
 use Rattle.table.specs.declared.Read.the-variants.{Good, Ill, Broken}
 use Rattle.views.specs.Views.{viewOf, itemView, readView}
+use lib.Dec.{eqb}
+use Rattle.xliff.specs.Bytes.{among}
+use Rattle.xliff.specs.Item as spec
+use Rattle.xliff.specs.Item.{Content, is-code}
+use Rattle.xliff.specs.Sequences.{items}
+use Rattle.places.specs.Markers.{placed-at}
+use Rattle.views.specs.Views.{itemsAt, isCode}
 
 item-view : (i : Item) → itemView i ≡ viewOf (item i)
 unfolding viewOf class half is-form-P id-of fields
@@ -26,10 +34,10 @@ item-view (Pair P Start f) = refl
 item-view (Pair P End f) = refl
 item-view (Pair S Start f) = refl
 item-view (Pair S End f) = refl
-item-view (NoteStart P i l) = refl
-item-view (NoteStart S i l) = refl
-item-view (NoteEnd P i) = refl
-item-view (NoteEnd S i) = refl
+item-view (AnnotationStart P i l) = refl
+item-view (AnnotationStart S i l) = refl
+item-view (AnnotationEnd P i) = refl
+item-view (AnnotationEnd S i) = refl
 
 read-view : (cs : List ℕ) (r : Read) → readView r ≡ viewOf (item-in (meaning cs r))
 unfolding viewOf class half is-form-P id-of fields item-in
@@ -46,3 +54,21 @@ read-view cs (Broken b) = refl
 pub view-is : (t : List ℕ) (at : ℕ) (cs : List ℕ) (r : Read) → meaning cs r ≡ read (drop at t) → readView r ≡ viewOf (item-at t at)
 unfolding item-at
 view-is t at cs r e = read-view cs r ∙ ap (λ x. viewOf (item-in x)) e
+
+-- the items at some offsets
+pub items-at : (t os : List ℕ) → items (placed-at t os) ≡ itemsAt t os
+unfolding items placed-at itemsAt
+items-at t [] = refl
+items-at t (o ∷ os) = ap {B = Content} (λ l. item-at t o ∷ l) (items-at t os)
+
+-- "a code or half of a pair"
+pub code-same : (x : spec.Item) → isCode (viewOf x) ≡ is-code x
+unfolding viewOf among
+code-same x = by (eqb (class x) 1) (eqb (class x) 2) (eqb (class x) 3) (eqb (class x) 4)
+  where
+    by : (a b c d : Bool) → a || (b || (c || d)) ≡ a || (b || (c || (d || false)))
+    by true b c d = refl
+    by false true c d = refl
+    by false false true d = refl
+    by false false false true = refl
+    by false false false false = refl

@@ -11,7 +11,7 @@ use Rattle.table.specs.declared.Form.the-variants.{P, S}
 use Rattle.table.specs.declared.Half.{Half}
 use Rattle.table.specs.declared.Half.the-variants.{Start, End}
 use Rattle.table.specs.declared.Item.{Item}
-use Rattle.table.specs.declared.Item.the-variants.{Character, Standalone, Isolated, Pair, NoteStart, NoteEnd}
+use Rattle.table.specs.declared.Item.the-variants.{Character, Standalone, Isolated, Pair, AnnotationStart, AnnotationEnd}
 use Rattle.table.specs.declared.Record.{Record}
 use Rattle.table.specs.declared.Record.the-variants.{Unit as UnitStart, UnitEnd, Segment, Ignorable, Target, Text, Inline}
 use Rattle.table.specs.declared.Read.{Read}
@@ -56,8 +56,8 @@ codeView c h p f =
       reorder = f .letters .reorder;
     }
 
-abbrev pub noteView : ℕ → Bool → ℕ → View
-noteView h p i = record { class = 5; half = h; pform = p; id = i; of = 0; refers = 0; copy = 0; delete = 0; overlap = 0; reorder = 0 }
+abbrev pub annotationView : ℕ → Bool → ℕ → View
+annotationView h p i = record { class = 5; half = h; pform = p; id = i; of = 0; refers = 0; copy = 0; delete = 0; overlap = 0; reorder = 0 }
 
 abbrev pub halfNumber : Half → ℕ
 halfNumber Start = 1
@@ -76,8 +76,8 @@ itemView (Character c) = nothing
 itemView (Standalone f) = codeView 1 0 false f
 itemView (Isolated h f) = codeView (isolatedClass h) 0 false f
 itemView (Pair w h f) = codeView 2 (halfNumber h) (formFlag w) f
-itemView (NoteStart w i l) = noteView 1 (formFlag w) i
-itemView (NoteEnd w i) = noteView 2 (formFlag w) i
+itemView (AnnotationStart w i l) = annotationView 1 (formFlag w) i
+itemView (AnnotationEnd w i) = annotationView 2 (formFlag w) i
 
 abbrev pub recordView : Record → View
 recordView (UnitStart c) = nothing

@@ -10,7 +10,7 @@ ghost use mathlib.Core.Bool.{true, false};
 ghost use mathlib.Core.List.{[]};
 ghost use Prim.Native.Nat.{_-_, _<_};
 ghost use Rattle.places.specs.Markers.{item-at};
-ghost use Rattle.views.specs.Views.{nothing, codeView, noteView, halfNumber, isolatedClass, formFlag, itemView, recordView, readView, viewOf, isCode};
+ghost use Rattle.views.specs.Views.{nothing, codeView, annotationView, halfNumber, isolatedClass, formFlag, itemView, recordView, readView, viewOf, isCode};
 
 pub struct View {
     pub class: u8,
@@ -60,8 +60,8 @@ fn code_view(class: u8, half: u8, pform: bool, f: Fields) -> View
     }
 }
 
-fn note_view(half: u8, pform: bool, id: u16) -> View
-    ensures { λ r. ⌜ r ≡ noteView half pform id ⌝ }
+fn annotation_view(half: u8, pform: bool, id: u16) -> View
+    ensures { λ r. ⌜ r ≡ annotationView half pform id ⌝ }
 {
     View {
         class: 5,
@@ -112,8 +112,8 @@ fn item_view(i: Item) -> View
         Item::Standalone(f) => code_view(1, 0, false, f),
         Item::Isolated(h, f) => code_view(isolated_class(h), 0, false, f),
         Item::Pair(w, h, f) => code_view(2, half_number(h), form_flag(w), f),
-        Item::NoteStart(w, id, _) => note_view(1, form_flag(w), id),
-        Item::NoteEnd(w, id) => note_view(2, form_flag(w), id),
+        Item::AnnotationStart(w, id, _) => annotation_view(1, form_flag(w), id),
+        Item::AnnotationEnd(w, id) => annotation_view(2, form_flag(w), id),
     }
 }
 

@@ -18,8 +18,5 @@ pub mod Rewrite
 pub mod Calls
 pub mod BothEnds
 pub mod Desk
--- Examples
-pub mod Examples
-pub mod MoreExamples
-pub mod LimitExamples
-pub mod DeskExamples
+-- The worked examples
+pub mod examples

@@ -10,7 +10,7 @@ use Rattle.xliff.proofs.lists.Tests.{and-false, and-true}
 use Rattle.xliff.specs.Bytes.{Bytes, gather}
 use Rattle.xliff.specs.Answer.{Refusal, applies, _then_, Outcome, result, refuse, is-accepted, next-table}
 use Rattle.xliff.specs.Item.{Item, Content, flattened, non-removable}
-use Rattle.xliff.specs.Unit.{Part, TheUnit, is-closed, source-sequence, target-sequence}
+use Rattle.xliff.specs.Unit.{Part, XliffUnit, is-closed, source-sequence, target-sequence}
 use Rattle.xliff.specs.Parse.{unit, content, content-fault}
 use Rattle.xliff.specs.Rules.{fault-5}
 use Rattle.xliff.specs.Check.{Valid}
@@ -40,7 +40,7 @@ use Rattle.xliff.proofs.both_ends.KeptCodes.{sent-once, code-if, once, 
 use Rattle.xliff.proofs.both_ends.Lists.{done, OneCall, demand-3}
 
 -- what an accepted call of a kind leaves, in the units
-record Keeps (t : List ℕ) (c : Call) (v : TheUnit) : Type 0 where
+record Keeps (t : List ℕ) (c : Call) (v : XliffUnit) : Type 0 where
   pub fits : FitParts (v .parts)
   pub letter : v .canResegment ≡ unit t .canResegment
   pub source : flattened (source-sequence (v .parts)) ≡ flattened (source-sequence (unit t .parts))
@@ -57,7 +57,7 @@ not-done true e = absurd (let z : ⊥ = omega arith in z)
 not-done false e = refl
 
 -- an accepted call
-module _ (t : List ℕ) (c : Call) (r : List ℕ) (v : TheUnit) (e : outcome t c ≡ result r) (a : Accepted t v r) (k : Keeps t c v) where
+module _ (t : List ℕ) (c : Call) (r : List ℕ) (v : XliffUnit) (e : outcome t c ≡ result r) (a : Accepted t v r) (k : Keeps t c v) where
   leaves : left t c ≡ r
   unfolding left next-table
   leaves = ap (λ (o : Outcome). next-table o t) e
@@ -71,7 +71,7 @@ module _ (t : List ℕ) (c : Call) (r : List ℕ) (v : TheUnit) (e : outcome t c
 
   goal-now : flat-target r ≡ flattened (target-sequence (v .parts))
   unfolding flat-target
-  goal-now = ap (λ (u : TheUnit). flattened (target-sequence (u .parts))) same-unit
+  goal-now = ap (λ (u : XliffUnit). flattened (target-sequence (u .parts))) same-unit
 
   kept : is-removal c ≡ false → (x : Item) → non-removable x ≡ true → times x (flat-target t) ≡ 1 → times x (flat-target r) ≡ 1
   unfolding flat-target
@@ -86,12 +86,12 @@ module _ (t : List ℕ) (c : Call) (r : List ℕ) (v : TheUnit) (e : outcome t c
       record {
         bytes = subst Bytes (sym leaves) (accepted-bytes t v r a (k .fits));
         valid = subst Valid (sym leaves) (accepted-valid t v r a);
-        same-source = ap flat-source leaves ∙ ap (λ (u : TheUnit). flattened (source-sequence (u .parts))) same-unit ∙ k .source;
-        same-closed = ap closed-parts leaves ∙ ap (λ (u : TheUnit). gather (closed-part (u .canResegment)) (u .parts)) same-unit
+        same-source = ap flat-source leaves ∙ ap (λ (u : XliffUnit). flattened (source-sequence (u .parts))) same-unit ∙ k .source;
+        same-closed = ap closed-parts leaves ∙ ap (λ (u : XliffUnit). gather (closed-part (u .canResegment)) (u .parts)) same-unit
             ∙ ap (λ (l : ℕ). gather (closed-part l) (v .parts)) (k .letter) ∙ k .closed;
         same-count =
             let x = ap part-count leaves in
-            let y = ap (λ (u : TheUnit). length (u .parts)) same-unit in
+            let y = ap (λ (u : XliffUnit). length (u .parts)) same-unit in
             let j = was-done is-join in
             let s = was-done is-split in
             let n = k .count in
@@ -137,7 +137,7 @@ split-keeps t n cut tcut new room r l b v e h =
       goals = λ z w. goal;
     }
   where
-    u : TheUnit
+    u : XliffUnit
     u = unit t
 
     by : (f : Focus) → focus (u .parts) n ≡ f → split-refusal u cut tcut new f ≡ none
@@ -168,7 +168,7 @@ join-keeps t n room r b v e h =
       goals = λ z w. goal;
     }
   where
-    u : TheUnit
+    u : XliffUnit
     u = unit t
 
     by : (f : Focus) → focus (u .parts) n ≡ f → join-refusal u n f ≡ none
@@ -183,7 +183,7 @@ join-keeps t n room r b v e h =
           ap (λ (z : Focus). closed-of (u .canResegment) (join-focus (u .parts) z)) k ∙ join-closed (u .canResegment) (u .parts) f p q a at (applies-none 12 _ (then-left _ _ o)),
           ap (λ (z : Focus). suc (length (join-focus (u .parts) z))) k ∙ join-count (u .parts) f p q a at,
           ap (λ (z : Focus). flattened (target-sequence (join-focus (u .parts) z))) k
-              ∙ ap flattened (join-target (u .parts) f p q a at (h .rule-5) (applies-none 16 (bad-orders (p .goal) (q .goal)) (then-left _ _ o2))),
+              ∙ ap flattened (join-target (u .parts) f p q a at (h .rule-5) (applies-none 16 (bad-orders (p .target) (q .target)) (then-left _ _ o2))),
         )
 
 -- SET TARGET
@@ -219,7 +219,7 @@ set-keeps t n st s room r bs b v e h now =
       goals = λ z w. absurd (true≢false w);
     }
   where
-    u : TheUnit
+    u : XliffUnit
     u = unit t
 
     by : (f : Focus) → focus (u .parts) n ≡ f → set-refusal st s f ≡ none → fault-5 (set-focus (u .parts) n st (content s) (focus (u .parts) n)) ≡ none

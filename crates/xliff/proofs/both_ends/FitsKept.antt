@@ -56,7 +56,7 @@ fit-if w false x f = f
 fit-orders : (f : ℕ → ℕ) (ps : List Part) → FitParts ps → FitParts (order-parts f ps)
 unfolding order-parts order-part order-target
 fit-orders f [] each-nil = each-nil
-fit-orders f (p ∷ ps) (each-cons h r) = each-cons (record { head = h .head; source = h .source; goal = by (p .goal) (h .goal) }) (fit-orders f ps r)
+fit-orders f (p ∷ ps) (each-cons h r) = each-cons (record { head = h .head; source = h .source; target = by (p .target) (h .target) }) (fit-orders f ps r)
   where
     by : (g : Target) → FitTarget g → FitTarget (order-target f g)
     by no-target k = tt
@@ -89,11 +89,11 @@ split-fits cut tcut new ps n l f = by (focus ps n) refl
     by nowhere e = f
     by (here b p a) e =
         let (u, v, w) = each-apart b p a (subst FitParts (focus-here ps n b p a e) f) in
-        let (one, two) = halves-fit tcut (p .goal) (v .goal) in
-        let g : ℕ → ℕ = split-order (p .goal) in
+        let (one, two) = halves-fit tcut (p .target) (v .target) in
+        let g : ℕ → ℕ = split-order (p .target) in
         each-append (order-parts g b) _ (fit-orders g b u)
-        (each-cons (record { head = v .head; source = first-fits cut (p .source) (v .source); goal = one })
-        (each-cons (record { head = subst (λ (z : ℕ). z < 65536) (sym (new-id new (p .head))) l; source = second-fits cut (p .source) (v .source); goal = two }) (fit-orders g a w)))
+        (each-cons (record { head = v .head; source = first-fits cut (p .source) (v .source); target = one })
+        (each-cons (record { head = subst (λ (z : ℕ). z < 65536) (sym (new-id new (p .head))) l; source = second-fits cut (p .source) (v .source); target = two }) (fit-orders g a w)))
 
 -- Join
 head-one : (g h : Head) → head-id g < 65536 → head-id h < 65536 → head-id (join-heads g h) < 65536
@@ -123,9 +123,9 @@ join-fits ps n f = by (focus ps n) refl
     by (here b p (q ∷ a)) e =
         let (u, v, w) = each-apart b p (q ∷ a) (subst FitParts (focus-here ps n b p (q ∷ a) e) f) in
         let (x, y) = rest q a w in
-        fit-orders (join-order ps (p .goal) (q .goal)) (b ++ (join-parts p q ∷ a))
+        fit-orders (join-order ps (p .target) (q .target)) (b ++ (join-parts p q ∷ a))
         (each-append b (join-parts p q ∷ a) u
-        (each-cons (record { head = head-one (p .head) (q .head) (v .head) (x .head); source = each-append (p .source) (q .source) (v .source) (x .source); goal = goal-one (p .goal) (q .goal) (v .goal) (x .goal) }) y))
+        (each-cons (record { head = head-one (p .head) (q .head) (v .head) (x .head); source = each-append (p .source) (q .source) (v .source) (x .source); target = goal-one (p .target) (q .target) (v .target) (x .target) }) y))
 
 -- Set and remove
 pub set-fits : (ps : List Part) (n st : ℕ) (new : Content) → FitContent new → FitParts ps → FitParts (set-focus ps n st new (focus ps n))
@@ -136,7 +136,7 @@ set-fits ps n st new g f = by (focus ps n) refl
     by nowhere e = f
     by (here b p a) e =
         let (u, v, w) = each-apart b p a (subst FitParts (focus-here ps n b p a e) f) in
-        each-append b _ u (each-cons (record { head = subst (λ (z : ℕ). z < 65536) (sym (state-id st (p .head))) (v .head); source = v .source; goal = g }) w)
+        each-append b _ u (each-cons (record { head = subst (λ (z : ℕ). z < 65536) (sym (state-id st (p .head))) (v .head); source = v .source; target = g }) w)
 
 pub remove-fits : (ps : List Part) (n : ℕ) → FitParts ps → FitParts (remove-focus ps (focus ps n))
 unfolding remove-focus
@@ -146,7 +146,7 @@ remove-fits ps n f = by (focus ps n) refl
     by nowhere e = f
     by (here b p a) e =
         let (u, v, w) = each-apart b p a (subst FitParts (focus-here ps n b p a e) f) in
-        each-append b _ u (each-cons (record { head = subst (λ (z : ℕ). z < 65536) (sym (state-id _ (p .head))) (v .head); source = v .source; goal = tt }) w)
+        each-append b _ u (each-cons (record { head = subst (λ (z : ℕ). z < 65536) (sym (state-id _ (p .head))) (v .head); source = v .source; target = tt }) w)
 
 -- Rewrite
 pub rewrite-fits : (side i : ℕ) (w : Form) (ps : List Part) → FitParts ps → FitParts (map (rewrite-part side (rewrite-item i w)) ps)
@@ -162,7 +162,7 @@ rewrite-fits side i w (p ∷ ps) (each-cons h r) = each-cons (by (eqb side 'S'))
     goal (target q xs) k = each-map (rewrite-item i w) item xs k
 
     by : (b : Bool) → FitPart
-        (cond b (record { head = p .head; source = map (rewrite-item i w) (p .source); goal = p .goal })
-        (record { head = p .head; source = p .source; goal = rewrite-target (rewrite-item i w) (p .goal) }))
-    by true = record { head = h .head; source = each-map (rewrite-item i w) item (p .source) (h .source); goal = h .goal }
-    by false = record { head = h .head; source = h .source; goal = goal (p .goal) (h .goal) }
+        (cond b (record { head = p .head; source = map (rewrite-item i w) (p .source); target = p .target })
+        (record { head = p .head; source = p .source; target = rewrite-target (rewrite-item i w) (p .target) }))
+    by true = record { head = h .head; source = each-map (rewrite-item i w) item (p .source) (h .source); target = h .target }
+    by false = record { head = h .head; source = h .source; target = goal (p .target) (h .target) }

@@ -7,7 +7,7 @@ use mathlib.Core.List.{List, [], _∷_, _++_, List·Memᴰ}
 use mathlib.Core.Option.{none}
 use Rattle.xliff.specs.Bytes.{Bytes, any}
 use Rattle.xliff.specs.Item.{Item, Content, same, flat, flattened, is-code, non-removable}
-use Rattle.xliff.specs.Unit.{Target, no-target, target, Part, TheUnit, target-sequence}
+use Rattle.xliff.specs.Unit.{Target, no-target, target, Part, XliffUnit, target-sequence}
 use Rattle.xliff.specs.Parse.{unit}
 use Rattle.xliff.specs.Rules.{fault-5, fault-6, fault-6-to-10}
 use Rattle.xliff.specs.Check.{Valid}
@@ -24,7 +24,7 @@ use Rattle.xliff.proofs.rules.Place.{taken-out, put-in-place}
 use Rattle.xliff.proofs.both_ends.Once.{copies, copies-flat, times-copies, at-most-once, mem-copies, equal-removable, equal-trans}
 
 -- a unit in order: each code once at most
-pub sent-once : (u : TheUnit) → Sent u → (x : Item) → is-code x ≡ true → copies x (flattened (target-sequence (u .parts))) ≤ 1
+pub sent-once : (u : XliffUnit) → Sent u → (x : Item) → is-code x ≡ true → copies x (flattened (target-sequence (u .parts))) ≤ 1
 unfolding fault-6-to-10
 sent-once u s x c =
     let six = rule-6-counted (u .parts) (then-left _ _ (s .rules)) in
@@ -78,20 +78,20 @@ through f g zero c h k = omega arith
 through f g (suc a) c h k = let z = k (omega arith) in omega arith
 
 -- Setting a target keeps the codes
-pub set-codes : (u : TheUnit) (n st : ℕ) (new : Content) (b : List Part) (p : Part) (a : List Part) → u .parts ≡ b ++ (p ∷ a) → fault-5 (u .parts) ≡ none
-    → fault-5 (set-focus (u .parts) n st new (here b p a)) ≡ none → any (is-lost new) (old-content (p .source) (p .goal)) ≡ false
+pub set-codes : (u : XliffUnit) (n st : ℕ) (new : Content) (b : List Part) (p : Part) (a : List Part) → u .parts ≡ b ++ (p ∷ a) → fault-5 (u .parts) ≡ none
+    → fault-5 (set-focus (u .parts) n st new (here b p a)) ≡ none → any (is-lost new) (old-content (p .source) (p .target)) ≡ false
     → (x : Item) → non-removable x ≡ true → 1 ≤ copies x (flattened (target-sequence (u .parts))) → 1 ≤ copies x (flattened (target-sequence (set-focus (u .parts) n st new (here b p a))))
 unfolding set-focus new-order old-content
 set-codes u n st new b p a at five now lost x nr h =
-    by (p .goal) refl lost now
+    by (p .target) refl lost now
   where
     set-part : ℕ → Part
-    set-part q = record { head = with-state st (p .head); source = p .source; goal = target q new }
+    set-part q = record { head = with-state st (p .head); source = p .source; target = target q new }
 
     was : copies x (flattened (target-sequence (u .parts))) ≡ found x (target-sequence (b ++ (p ∷ a)))
     was = copies-flat x (target-sequence (u .parts)) ∙ ap (λ (l : List Part). found x (target-sequence l)) at
 
-    with-old : (q : ℕ) (xs : Content) → p .goal ≡ target q xs → any (is-lost new) xs ≡ false → 1 ≤ copies x (flattened (target-sequence (b ++ (set-part q ∷ a))))
+    with-old : (q : ℕ) (xs : Content) → p .target ≡ target q xs → any (is-lost new) xs ≡ false → 1 ≤ copies x (flattened (target-sequence (b ++ (set-part q ∷ a))))
     with-old q xs e l =
         let (s, t, y, z) = put-in-place b p (set-part q) a q xs new e refl (ap fault-5 (sym at) ∙ five) in
         let c = copies-flat x (target-sequence (b ++ (set-part q ∷ a))) in
@@ -105,7 +105,7 @@ set-codes u n st new b p a at five now lost x nr h =
         let r = through (found x s) (found x t) (found x xs) (found x new) (omega arith) (λ k. not-lost x new xs nr l k) in
         omega arith
 
-    without-old : (q : ℕ) → p .goal ≡ no-target → fault-5 (b ++ (set-part q ∷ a)) ≡ none → 1 ≤ copies x (flattened (target-sequence (b ++ (set-part q ∷ a))))
+    without-old : (q : ℕ) → p .target ≡ no-target → fault-5 (b ++ (set-part q ∷ a)) ≡ none → 1 ≤ copies x (flattened (target-sequence (b ++ (set-part q ∷ a))))
     without-old q e f =
         let (s, t, y, z) = taken-out b (set-part q) p a q new refl e f in
         let c = copies-flat x (target-sequence (b ++ (set-part q ∷ a))) in
@@ -117,8 +117,8 @@ set-codes u n st new b p a at five now lost x nr h =
         let s₄ = sum-append (λ (i : Item). bit (same x (flat i))) new t in
         omega arith
 
-    by : (g : Target) → p .goal ≡ g → any (is-lost new) (old-content (p .source) g) ≡ false
-        → fault-5 (b ++ (record { head = with-state st (p .head); source = p .source; goal = target (new-order (u .parts) n g) new } ∷ a)) ≡ none
-        → 1 ≤ copies x (flattened (target-sequence (b ++ (record { head = with-state st (p .head); source = p .source; goal = target (new-order (u .parts) n g) new } ∷ a))))
+    by : (g : Target) → p .target ≡ g → any (is-lost new) (old-content (p .source) g) ≡ false
+        → fault-5 (b ++ (record { head = with-state st (p .head); source = p .source; target = target (new-order (u .parts) n g) new } ∷ a)) ≡ none
+        → 1 ≤ copies x (flattened (target-sequence (b ++ (record { head = with-state st (p .head); source = p .source; target = target (new-order (u .parts) n g) new } ∷ a))))
     by no-target e l f = without-old (new-order (u .parts) n no-target) e f
     by (target q xs) e l f = with-old q xs e l

@@ -45,9 +45,9 @@ pub split-closed : (c cut tcut new : ℕ) (ps : List Part) (b : List Part) (p : 
     → closed-of c (split-focus cut tcut new ps (here b p a)) ≡ closed-of c ps
 unfolding split-focus first-half second-half closed-of gather is-closed
 split-closed c cut tcut new ps b p a e o =
-    closed-append c (order-parts (split-order (p .goal)) b) (first-half cut tcut p ∷ second-half cut tcut new p ∷ order-parts (split-order (p .goal)) a)
-    ∙ ap₂ _++_ (closed-orders c (split-order (p .goal)) b)
-    (ap₂ _++_ (not-closed c (first-half cut tcut p) o) (ap₂ _++_ (not-closed c (second-half cut tcut new p) (open-with-id c new (p .head) o)) (closed-orders c (split-order (p .goal)) a)))
+    closed-append c (order-parts (split-order (p .target)) b) (first-half cut tcut p ∷ second-half cut tcut new p ∷ order-parts (split-order (p .target)) a)
+    ∙ ap₂ _++_ (closed-orders c (split-order (p .target)) b)
+    (ap₂ _++_ (not-closed c (first-half cut tcut p) o) (ap₂ _++_ (not-closed c (second-half cut tcut new p) (open-with-id c new (p .head) o)) (closed-orders c (split-order (p .target)) a)))
     ∙ ap (λ (l : List ClosedPart). closed-of c b ++ (l ++ closed-of c a)) (sym (not-closed c p o))
     ∙ sym (closed-append c b (p ∷ a)) ∙ ap (closed-of c) (sym e)
 
@@ -77,7 +77,7 @@ unfolding join-focus join-parts closed-of gather is-closed
 join-closed c ps b p q a e o =
     let op : is-closed c p ≡ false = or-left (is-closed c p) _ o in
     let oq : is-closed c q ≡ false = or-right (is-closed c p) _ o in
-    closed-orders c (join-order ps (p .goal) (q .goal)) (b ++ (join-parts p q ∷ a))
+    closed-orders c (join-order ps (p .target) (q .target)) (b ++ (join-parts p q ∷ a))
     ∙ closed-append c b (join-parts p q ∷ a)
     ∙ ap (λ (l : List ClosedPart). closed-of c b ++ (l ++ closed-of c a)) (not-closed c (join-parts p q) (open-join c (p .head) (q .head) op oq))
     ∙ ap₂ (λ (l m : List ClosedPart). closed-of c b ++ (l ++ (m ++ closed-of c a))) (sym (not-closed c p op)) (sym (not-closed c q oq))
@@ -94,7 +94,7 @@ unfolding resolved with-state
 state-resolved c st (segment i d s) = refl
 state-resolved c st (ignorable i) = refl
 
-closed-state : (c st : ℕ) (p : Part) (g : Target) → closed-part c (record { head = with-state st (p .head); source = p .source; goal = g }) ≡ closed-part c p
+closed-state : (c st : ℕ) (p : Part) (g : Target) → closed-part c (record { head = with-state st (p .head); source = p .source; target = g }) ≡ closed-part c p
 unfolding closed-part is-closed
 closed-state c st p g = rw (state-id st (p .head), state-resolved c st (p .head))
 
@@ -106,7 +106,7 @@ set-closed c ps n st new = by (focus ps n) refl
     by nowhere e = refl
     by (here b p a) e =
         closed-append c b _
-        ∙ ap (λ (l : List ClosedPart). closed-of c b ++ (l ++ closed-of c a)) (closed-state c st p (target (new-order ps n (p .goal)) new))
+        ∙ ap (λ (l : List ClosedPart). closed-of c b ++ (l ++ closed-of c a)) (closed-state c st p (target (new-order ps n (p .target)) new))
         ∙ sym (closed-append c b (p ∷ a)) ∙ ap (closed-of c) (sym (focus-here ps n b p a e))
 
 pub remove-closed : (c : ℕ) (ps : List Part) (n : ℕ) → closed-of c (remove-focus ps (focus ps n)) ≡ closed-of c ps
@@ -127,7 +127,7 @@ rewrite-closed c side i w [] = refl
 rewrite-closed c side i w (p ∷ ps) = ap₂ _++_ (by (eqb side 'S')) (rewrite-closed c side i w ps)
   where
     by : (b : Bool) → closed-part c
-        (cond b (record { head = p .head; source = map (rewrite-item i w) (p .source); goal = p .goal })
-        (record { head = p .head; source = p .source; goal = rewrite-target (rewrite-item i w) (p .goal) })) ≡ closed-part c p
+        (cond b (record { head = p .head; source = map (rewrite-item i w) (p .source); target = p .target })
+        (record { head = p .head; source = p .source; target = rewrite-target (rewrite-item i w) (p .target) })) ≡ closed-part c p
     by true = rw (flattened-map (rewrite-item i w) (flat-rewrite i w) (p .source))
     by false = refl

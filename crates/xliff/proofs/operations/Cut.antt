@@ -183,21 +183,21 @@ bare-append ps qs = gather-append bare ps qs
 pub bare-orders : (f : ℕ → ℕ) (ps : List Part) → bare-sequence (order-parts f ps) ≡ bare-sequence ps
 unfolding bare-sequence gather bare order-parts order-part
 bare-orders f [] = refl
-bare-orders f (p ∷ ps) = ap₂ _++_ (ap (λ (b : Bool). cond b [] (p .source)) (has-order f (p .goal))) (bare-orders f ps)
+bare-orders f (p ∷ ps) = ap₂ _++_ (ap (λ (b : Bool). cond b [] (p .source)) (has-order f (p .target))) (bare-orders f ps)
 
 pub balanced-orders : (f : ℕ → ℕ) (ps : List Part) → AllBalanced ps → AllBalanced (order-parts f ps)
 unfolding order-parts order-part
 balanced-orders f [] each-nil = each-nil
 balanced-orders f (p ∷ ps) (each-cons b h) =
-    each-cons (record { source = b .source; goal = subst Balanced (sym (items-order f (p .goal))) (b .goal) }) (balanced-orders f ps h)
+    each-cons (record { source = b .source; target = subst Balanced (sym (items-order f (p .target))) (b .target) }) (balanced-orders f ps h)
 
 -- SPLIT
 abbrev after-split : ℕ → ℕ → ℕ → List Part → Part → List Part → List Part
-after-split cut tcut new b p a = order-parts (split-order (p .goal)) b ++ (first-half cut tcut p ∷ second-half cut tcut new p ∷ order-parts (split-order (p .goal)) a)
+after-split cut tcut new b p a = order-parts (split-order (p .target)) b ++ (first-half cut tcut p ∷ second-half cut tcut new p ∷ order-parts (split-order (p .target)) a)
 
 pub record SplitKeeps (old new : List Part) : Type 0 where
   pub source : Turned (source-sequence old) (source-sequence new)
-  pub goal : Turned (target-sequence old) (target-sequence new)
+  pub target : Turned (target-sequence old) (target-sequence new)
   pub seven : Good7 new
 
 two-in : (X f s Z m : Content) → f ++ s ≡ m → X ++ (f ++ (s ++ Z)) ≡ X ++ (m ++ Z)
@@ -225,7 +225,7 @@ module _ (cut tcut new : ℕ) (b : List Part) (p : Part) (a : List Part) (five :
   source-turned : Turned (source-sequence old) (source-sequence now)
   unfolding first-half second-half source-sequence gather
   source-turned =
-      let f : ℕ → ℕ = split-order (p .goal) in
+      let f : ℕ → ℕ = split-order (p .target) in
       let c = source-cut in
       record {
         keys = c .keys;
@@ -245,19 +245,19 @@ module _ (cut tcut new : ℕ) (b : List Part) (p : Part) (a : List Part) (five :
       subst (λ (l : Content). Shape (waits [] i) (marks i l)) (sym (t .is))
       (Shape-turn (t .keys) i (t .before) (t .mid) (t .behind) (own .source) (subst (λ (l : Content). Shape (waits [] i) (marks i l)) (t .was) (g .src i)))
 
-  all-balanced : Balanced (target-items (first-target tcut (p .goal))) → Balanced (target-items (second-target tcut (p .goal))) → AllBalanced now
+  all-balanced : Balanced (target-items (first-target tcut (p .target))) → Balanced (target-items (second-target tcut (p .target))) → AllBalanced now
   unfolding first-half second-half
   all-balanced u v =
       let (hb, hp, ha) = each-apart b p a (g .bal) in
       let c = source-cut in
-      let f : ℕ → ℕ = split-order (p .goal) in
+      let f : ℕ → ℕ = split-order (p .target) in
       each-append (order-parts f b) _ (balanced-orders f b hb)
-      (each-cons (record { source = c .first; goal = u }) (each-cons (record { source = c .second; goal = v }) (balanced-orders f a ha)))
+      (each-cons (record { source = c .first; target = u }) (each-cons (record { source = c .second; target = v }) (balanced-orders f a ha)))
 
   bare-now : bare-sequence now ≡ bare-sequence b ++ (bare (first-half cut tcut p) ++ (bare (second-half cut tcut new p) ++ bare-sequence a))
   unfolding bare-sequence gather
   bare-now =
-      let f : ℕ → ℕ = split-order (p .goal) in
+      let f : ℕ → ℕ = split-order (p .target) in
       bare-append (order-parts f b) (first-half cut tcut p ∷ second-half cut tcut new p ∷ order-parts f a)
       ∙ ap₂ (λ (l m : Content). l ++ (bare (first-half cut tcut p) ++ (bare (second-half cut tcut new p) ++ m))) (bare-orders f b) (bare-orders f a)
 
@@ -266,7 +266,7 @@ module _ (cut tcut new : ℕ) (b : List Part) (p : Part) (a : List Part) (five :
   bare-was = bare-append b (p ∷ a)
 
   -- with a target
-  module _ (q : ℕ) (xs : Content) (goal-is : p .goal ≡ target q xs) where
+  module _ (q : ℕ) (xs : Content) (goal-is : p .target ≡ target q xs) where
     raised : (u v : Content) × (target-sequence old ≡ u ++ (xs ++ v))
         × (target-sequence (order-parts (raise-above q) b ++ (first-half cut tcut p ∷ second-half cut tcut new p ∷ order-parts (raise-above q) a))
         ≡ u ++ ((first-items tcut xs ++ second-items tcut xs) ++ v))
@@ -288,7 +288,7 @@ module _ (cut tcut new : ℕ) (b : List Part) (p : Part) (a : List Part) (five :
 
     own-balanced : Balanced xs
     unfolding target-items
-    own-balanced = subst (λ (t : Target). Balanced (target-items t)) goal-is (own .goal)
+    own-balanced = subst (λ (t : Target). Balanced (target-items t)) goal-is (own .target)
 
     goal-cut : Cut tcut xs
     goal-cut =
@@ -321,7 +321,7 @@ module _ (cut tcut new : ℕ) (b : List Part) (p : Part) (a : List Part) (five :
         let t = goal-turned in
         record {
           source = source-turned;
-          goal = t;
+          target = t;
           seven = record {
             src = src-shape;
             tgt = λ i.
@@ -334,7 +334,7 @@ module _ (cut tcut new : ℕ) (b : List Part) (p : Part) (a : List Part) (five :
         }
 
   -- without
-  module _ (goal-is : p .goal ≡ no-target) where
+  module _ (goal-is : p .target ≡ no-target) where
     goal-same : target-sequence now ≡ target-sequence old
     unfolding first-half second-half first-target second-target
     goal-same =
@@ -356,7 +356,7 @@ module _ (cut tcut new : ℕ) (b : List Part) (p : Part) (a : List Part) (five :
     split-without =
         record {
           source = source-turned;
-          goal = not-turned (target-sequence old) (target-sequence now) goal-same;
+          target = not-turned (target-sequence old) (target-sequence now) goal-same;
           seven = record {
             src = src-shape;
             tgt = λ i.
@@ -371,8 +371,8 @@ module _ (cut tcut new : ℕ) (b : List Part) (p : Part) (a : List Part) (five :
 pub split-keeps : (cut tcut new : ℕ) (ps b : List Part) (p : Part) (a : List Part) → fault-5 (b ++ (p ∷ a)) ≡ none → Good7 (b ++ (p ∷ a))
     → SplitKeeps (b ++ (p ∷ a)) (split-focus cut tcut new ps (here b p a))
 unfolding split-focus
-split-keeps cut tcut new ps b p a five g = by (p .goal) refl
+split-keeps cut tcut new ps b p a five g = by (p .target) refl
   where
-    by : (t : Target) → p .goal ≡ t → SplitKeeps (b ++ (p ∷ a)) (after-split cut tcut new b p a)
+    by : (t : Target) → p .target ≡ t → SplitKeeps (b ++ (p ∷ a)) (after-split cut tcut new b p a)
     by no-target e = split-without cut tcut new b p a five g e
     by (target q xs) e = split-with cut tcut new b p a five g q xs e

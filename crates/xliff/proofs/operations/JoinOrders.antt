@@ -115,21 +115,21 @@ unfolding fault-5 located order-parts
 changed-5 f qs e = rule-5-back (length (order-parts f qs)) 3 [] (order-parts f qs) (ap₂ (λ (n : ℕ) (l : List ℕ). orders-fit n [] l) (length-map qs _) (orders-map f qs) ∙ e)
 
 -- at most one target: the orders are the same, one value is unused
-one-5 : (b : List Part) (p r : Part) (a : List Part) → order-list (join-targets (p .goal) (r .goal)) ≡ order-list (p .goal) ++ order-list (r .goal)
-    → length (order-list (p .goal) ++ order-list (r .goal)) ≤ 1 → fault-5 (b ++ (p ∷ r ∷ a)) ≡ none
+one-5 : (b : List Part) (p r : Part) (a : List Part) → order-list (join-targets (p .target) (r .target)) ≡ order-list (p .target) ++ order-list (r .target)
+    → length (order-list (p .target) ++ order-list (r .target)) ≤ 1 → fault-5 (b ++ (p ∷ r ∷ a)) ≡ none
     → fault-5 (order-parts (lower-above (highest-unused (length (b ++ (p ∷ r ∷ a))) (orders (b ++ (p ∷ r ∷ a))))) (b ++ (join-parts p r ∷ a))) ≡ none
 unfolding orders gather join-parts among
 one-5 b p r a lists few e =
-    let shown : orders (b ++ (p ∷ r ∷ a)) ≡ orders b ++ (order-list (p .goal) ++ order-list (r .goal) ++ orders a)
-    = orders-append b (p ∷ r ∷ a) ∙ ap (λ (l : List ℕ). orders b ++ l) (sym (append-assoc (order-list (p .goal)) (order-list (r .goal)) (orders a))) in
+    let shown : orders (b ++ (p ∷ r ∷ a)) ≡ orders b ++ (order-list (p .target) ++ order-list (r .target) ++ orders a)
+    = orders-append b (p ∷ r ∷ a) ∙ ap (λ (l : List ℕ). orders b ++ l) (sym (append-assoc (order-list (p .target)) (order-list (r .target)) (orders a))) in
     let same : orders (b ++ (join-parts p r ∷ a)) ≡ orders (b ++ (p ∷ r ∷ a)) = orders-append b (join-parts p r ∷ a) ∙ ap (λ (l : List ℕ). orders b ++ (l ++ orders a)) lists ∙ sym shown in
     let len : length (b ++ (p ∷ r ∷ a)) ≡ suc (length (b ++ (join-parts p r ∷ a))) = omega (arith, length-append b (p ∷ r ∷ a), length-append b (join-parts p r ∷ a)) in
     let less : length (orders (b ++ (p ∷ r ∷ a))) < length (b ++ (p ∷ r ∷ a))
     = omega (
       arith,
       ap length shown,
-      length-append (orders b) (order-list (p .goal) ++ order-list (r .goal) ++ orders a),
-      length-append (order-list (p .goal) ++ order-list (r .goal)) (orders a),
+      length-append (orders b) (order-list (p .target) ++ order-list (r .target) ++ orders a),
+      length-append (order-list (p .target) ++ order-list (r .target)) (orders a),
       length-append b (p ∷ r ∷ a),
       orders-length b,
       orders-length a,
@@ -141,7 +141,7 @@ one-5 b p r a lists few e =
     (ap (λ (n : ℕ). orders-fit n [] (orders (b ++ (p ∷ r ∷ a)))) (sym len) ∙ fault-5-fits (b ++ (p ∷ r ∷ a)) e))
 
 -- two targets: q + 1 is left out
-two-5 : (b : List Part) (p r : Part) (a : List Part) (q : ℕ) (xs ys : Content) → p .goal ≡ target q xs → r .goal ≡ target (suc q) ys → fault-5 (b ++ (p ∷ r ∷ a)) ≡ none
+two-5 : (b : List Part) (p r : Part) (a : List Part) (q : ℕ) (xs ys : Content) → p .target ≡ target q xs → r .target ≡ target (suc q) ys → fault-5 (b ++ (p ∷ r ∷ a)) ≡ none
     → fault-5 (order-parts (lower-above q) (b ++ (join-parts p r ∷ a))) ≡ none
 unfolding orders order-list gather join-parts join-targets among
 two-5 b p r a q xs ys pt rt e =
@@ -162,16 +162,16 @@ two-5 b p r a q xs ys pt rt e =
     (ap (λ (k : ℕ). orders-fit k [] (orders b ++ (q ∷ []) ++ orders a)) (sym len) ∙ less))
 
 -- Join keeps 5
-pub join-5 : (b : List Part) (p r : Part) (a : List Part) → fault-5 (b ++ (p ∷ r ∷ a)) ≡ none → bad-orders (p .goal) (r .goal) ≡ false
+pub join-5 : (b : List Part) (p r : Part) (a : List Part) → fault-5 (b ++ (p ∷ r ∷ a)) ≡ none → bad-orders (p .target) (r .target) ≡ false
     → fault-5 (join-focus (b ++ (p ∷ r ∷ a)) (here b p (r ∷ a))) ≡ none
 unfolding join-focus join-order bad-orders
-join-5 b p r a e o = by (p .goal) (r .goal) refl refl o
+join-5 b p r a e o = by (p .target) (r .target) refl refl o
   where
-    single : (p .goal ≡ no-target) ⊎ (r .goal ≡ no-target)
+    single : (p .target ≡ no-target) ⊎ (r .target ≡ no-target)
         → fault-5 (order-parts (lower-above (highest-unused (length (b ++ (p ∷ r ∷ a))) (orders (b ++ (p ∷ r ∷ a))))) (b ++ (join-parts p r ∷ a))) ≡ none
-    single w = one-5 b p r a (list-join (p .goal) (r .goal) w) (few (p .goal) (r .goal) w) e
+    single w = one-5 b p r a (list-join (p .target) (r .target) w) (few (p .target) (r .target) w) e
 
-    by : (g h : Target) → p .goal ≡ g → r .goal ≡ h → bad-orders g h ≡ false → fault-5 (order-parts (join-order (b ++ (p ∷ r ∷ a)) g h) (b ++ (join-parts p r ∷ a))) ≡ none
+    by : (g h : Target) → p .target ≡ g → r .target ≡ h → bad-orders g h ≡ false → fault-5 (order-parts (join-order (b ++ (p ∷ r ∷ a)) g h) (b ++ (join-parts p r ∷ a))) ≡ none
     by no-target no-target x y k = single (inl x)
     by no-target (target s ys) x y k = single (inl x)
     by (target q xs) no-target x y k = single (inr y)

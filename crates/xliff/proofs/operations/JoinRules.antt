@@ -49,9 +49,9 @@ unfolding join-focus join-parts
 join-6 ps b p q a e f = counted-rule-6 _ (counted (subst Rule6 e (rule-6-counted ps f)))
   where
     g : ℕ → ℕ
-    g = join-order ps (p .goal) (q .goal)
+    g = join-order ps (p .target) (q .target)
 
-    counted : Rule6 (b ++ (p ∷ q ∷ a)) → Rule6 (order-parts (join-order ps (p .goal) (q .goal)) (b ++ (join-parts p q ∷ a)))
+    counted : Rule6 (b ++ (p ∷ q ∷ a)) → Rule6 (order-parts (join-order ps (p .target) (q .target)) (b ++ (join-parts p q ∷ a)))
     counted r =
         record {
           src = λ i.
@@ -66,8 +66,8 @@ join-6 ps b p q a e f = counted-rule-6 _ (counted (subst Rule6 e (rule-6-counted
               let x = sum-append (target-ids i) b (p ∷ q ∷ a) in
               let y = sum-append (target-ids i) b (join-parts p q ∷ a) in
               let z = target-ids-orders i g (b ++ (join-parts p q ∷ a)) in
-              let s = sum-append (start-bit i) (target-items (p .goal)) (target-items (q .goal)) in
-              let t = ap (starts i) (items-join (p .goal) (q .goal)) in
+              let s = sum-append (start-bit i) (target-items (p .target)) (target-items (q .target)) in
+              let t = ap (starts i) (items-join (p .target) (q .target)) in
               let w = joined-bit i p q in
               let m = r .tgt i in
               omega arith;

@@ -33,19 +33,19 @@ joined-goals (target q zs) no-target xs ys e = absurd (true≢false e)
 joined-goals (target q zs) (target r vs) xs ys e = refl
 
 -- what waits in the two parts waits in the joined one
-bare-joined : (p q : Part) → has-target (p .goal) ≡ has-target (q .goal) → bare (join-parts p q) ≡ bare p ++ bare q
+bare-joined : (p q : Part) → has-target (p .target) ≡ has-target (q .target) → bare (join-parts p q) ≡ bare p ++ bare q
 unfolding bare join-parts
-bare-joined p q e = joined-goals (p .goal) (q .goal) (p .source) (q .source) e
+bare-joined p q e = joined-goals (p .target) (q .target) (p .source) (q .source) e
 
-module _ (ps b : List Part) (p q : Part) (a : List Part) (at : ps ≡ b ++ (p ∷ q ∷ a)) (five : fault-5 ps ≡ none) (fit : bad-orders (p .goal) (q .goal) ≡ false)
-    (same : has-target (p .goal) ≡ has-target (q .goal)) (g : Good7 ps) where
+module _ (ps b : List Part) (p q : Part) (a : List Part) (at : ps ≡ b ++ (p ∷ q ∷ a)) (five : fault-5 ps ≡ none) (fit : bad-orders (p .target) (q .target) ≡ false)
+    (same : has-target (p .target) ≡ has-target (q .target)) (g : Good7 ps) where
   abbrev now : List Part
   now = join-focus ps (here b p (q ∷ a))
 
   bare-same : bare-sequence now ≡ bare-sequence ps
   unfolding join-focus bare-sequence gather
   bare-same =
-      bare-orders (join-order ps (p .goal) (q .goal)) (b ++ (join-parts p q ∷ a)) ∙ bare-append b (join-parts p q ∷ a)
+      bare-orders (join-order ps (p .target) (q .target)) (b ++ (join-parts p q ∷ a)) ∙ bare-append b (join-parts p q ∷ a)
       ∙ ap (λ (l : Content). bare-sequence b ++ l) (ap (λ (l : Content). l ++ bare-sequence a) (bare-joined p q same) ∙ append-assoc (bare p) (bare q) (bare-sequence a))
       ∙ sym (bare-append b (p ∷ q ∷ a)) ∙ ap bare-sequence (sym at)
 
@@ -54,12 +54,12 @@ module _ (ps b : List Part) (p q : Part) (a : List Part) (at : ps ≡ b ++ (p �
   all-balanced =
       let (hb, hp, hr) = each-apart b p (q ∷ a) (subst AllBalanced at (g .bal)) in
       let (none-before, hq, ha) = each-apart [] q a hr in
-      balanced-orders (join-order ps (p .goal) (q .goal)) (b ++ (join-parts p q ∷ a))
+      balanced-orders (join-order ps (p .target) (q .target)) (b ++ (join-parts p q ∷ a))
       (each-append b (join-parts p q ∷ a) hb
       (each-cons
       (record {
         source = both-balanced (p .source) (q .source) (hp .source) (hq .source);
-        goal = subst Balanced (sym (items-join (p .goal) (q .goal))) (both-balanced (target-items (p .goal)) (target-items (q .goal)) (hp .goal) (hq .goal));
+        target = subst Balanced (sym (items-join (p .target) (q .target))) (both-balanced (target-items (p .target)) (target-items (q .target)) (hp .target) (hq .target));
       }) ha))
 
   pub join-7 : fault-7 now ≡ none

@@ -39,15 +39,15 @@ rewrite-of-order : (side i : ℕ) (w : Form) (q : ℕ) (ps : List Part)
 unfolding target-of-order gather rewrite-part
 rewrite-of-order side i w q [] = refl
 rewrite-of-order side i w q (p ∷ ps) =
-    flattened-append (of-order q (rewrite-part side (rewrite-item i w) p .goal)) (target-of-order (map (rewrite-part side (rewrite-item i w)) ps) q)
+    flattened-append (of-order q (rewrite-part side (rewrite-item i w) p .target)) (target-of-order (map (rewrite-part side (rewrite-item i w)) ps) q)
     ∙ ap₂ _++_ (by (eqb side 'S')) (rewrite-of-order side i w q ps)
-    ∙ sym (flattened-append (of-order q (p .goal)) (target-of-order ps q))
+    ∙ sym (flattened-append (of-order q (p .target)) (target-of-order ps q))
   where
     by : (b : Bool) → flattened (of-order q
-        ((cond {A = Part} b (record { head = p .head; source = map (rewrite-item i w) (p .source); goal = p .goal })
-        (record { head = p .head; source = p .source; goal = rewrite-target (rewrite-item i w) (p .goal) })) .goal)) ≡ flattened (of-order q (p .goal))
+        ((cond {A = Part} b (record { head = p .head; source = map (rewrite-item i w) (p .source); target = p .target })
+        (record { head = p .head; source = p .source; target = rewrite-target (rewrite-item i w) (p .target) })) .target)) ≡ flattened (of-order q (p .target))
     by true = refl
-    by false = flattened-of-order i w q (p .goal)
+    by false = flattened-of-order i w q (p .target)
 
 rewrite-targets : (side i : ℕ) (w : Form) (q n : ℕ) (ps : List Part)
     → flattened (targets (map (rewrite-part side (rewrite-item i w)) ps) q n) ≡ flattened (targets ps q n)
@@ -70,7 +70,7 @@ moved-but : (f : ℕ → ℕ) (q r h : ℕ) (ps : List Part) → among h (orders
     → target-of-order (order-parts f ps) q ≡ target-of-order ps r
 unfolding target-of-order order-parts order-part gather of-order order-target orders order-list among
 moved-but f q r h [] n w = refl
-moved-but f q r h (p ∷ ps) n w = by (p .goal) n (moved-but f q r h ps)
+moved-but f q r h (p ∷ ps) n w = by (p .target) n (moved-but f q r h ps)
   where
     by : (g : Target) → among h (order-list g ++ orders ps) ≡ false
         → (among h (orders ps) ≡ false → ((o : ℕ) → (o ≡ h → ⊥) → (q ≡ f o → r ≡ o) × (r ≡ o → q ≡ f o)) → target-of-order (order-parts f ps) q ≡ target-of-order ps r)
@@ -124,20 +124,20 @@ module _ (b : List Part) (p q : Part) (a : List Part) where
   abbrev joined : List Part
   joined = b ++ (join-parts p q ∷ a)
 
-  one-target : ((k : ℕ) → of-order k (join-targets (p .goal) (q .goal)) ≡ of-order k (p .goal) ++ of-order k (q .goal))
-      → order-list (join-targets (p .goal) (q .goal)) ≡ order-list (p .goal) ++ order-list (q .goal) → length (order-list (p .goal) ++ order-list (q .goal)) ≤ 1
+  one-target : ((k : ℕ) → of-order k (join-targets (p .target) (q .target)) ≡ of-order k (p .target) ++ of-order k (q .target))
+      → order-list (join-targets (p .target) (q .target)) ≡ order-list (p .target) ++ order-list (q .target) → length (order-list (p .target) ++ order-list (q .target)) ≤ 1
       → target-sequence (order-parts (lower-above (highest-unused (length before) (orders before))) joined) ≡ target-sequence before
   unfolding join-parts target-of-order orders gather
   one-target same lists few =
-      let shown : orders before ≡ orders b ++ (order-list (p .goal) ++ order-list (q .goal) ++ orders a)
-      = orders-append b (p ∷ q ∷ a) ∙ ap (λ (l : List ℕ). orders b ++ l) (sym (append-assoc (order-list (p .goal)) (order-list (q .goal)) (orders a))) in
+      let shown : orders before ≡ orders b ++ (order-list (p .target) ++ order-list (q .target) ++ orders a)
+      = orders-append b (p ∷ q ∷ a) ∙ ap (λ (l : List ℕ). orders b ++ l) (sym (append-assoc (order-list (p .target)) (order-list (q .target)) (orders a))) in
       let equal : orders joined ≡ orders before = orders-append b (join-parts p q ∷ a) ∙ ap (λ (l : List ℕ). orders b ++ (l ++ orders a)) lists ∙ sym shown in
       let less : length (orders before) < length before
       = omega (
         arith,
         ap length shown,
-        length-append (orders b) (order-list (p .goal) ++ order-list (q .goal) ++ orders a),
-        length-append (order-list (p .goal) ++ order-list (q .goal)) (orders a),
+        length-append (orders b) (order-list (p .target) ++ order-list (q .target) ++ orders a),
+        length-append (order-list (p .target) ++ order-list (q .target)) (orders a),
         length-append b (p ∷ q ∷ a),
         orders-length b,
         orders-length a,
@@ -145,7 +145,7 @@ module _ (b : List Part) (p q : Part) (a : List Part) where
       let h = highest-fits (length before) (orders before) less in
       lower-targets (highest-unused (length before) (orders before)) joined before (h .1) (h .2) (omega (arith, length-append b (p ∷ q ∷ a), length-append b (join-parts p q ∷ a)))
       (λ k. target-append b (join-parts p q ∷ a) k
-      ∙ ap (λ (l : Content). target-of-order b k ++ l) (ap (λ (l : Content). l ++ target-of-order a k) (same k) ∙ append-assoc (of-order k (p .goal)) (of-order k (q .goal)) (target-of-order a k))
+      ∙ ap (λ (l : Content). target-of-order b k ++ l) (ap (λ (l : Content). l ++ target-of-order a k) (same k) ∙ append-assoc (of-order k (p .target)) (of-order k (q .target)) (target-of-order a k))
       ∙ sym (target-append b (p ∷ q ∷ a) k))
       (ap (among (highest-unused (length before) (orders before))) equal ∙ h .0)
 
@@ -171,7 +171,7 @@ rise-again : (q : ℕ) (ps : List Part) → among (suc q) (orders ps) ≡ false 
 unfolding order-parts order-part order-target orders order-list gather among
 rise-again q [] n = refl
 rise-again q (p ∷ ps) n =
-    ap₂ {C = List Part} _∷_ (ap (λ (t : Target). record { head = p .head; source = p .source; goal = t }) (back (p .goal) n)) (rise-again q ps (rest (p .goal) n))
+    ap₂ {C = List Part} _∷_ (ap (λ (t : Target). record { head = p .head; source = p .source; target = t }) (back (p .target) n)) (rise-again q ps (rest (p .target) n))
   where
     rest : (g : Target) → among (suc q) (order-list g ++ orders ps) ≡ false → among (suc q) (orders ps) ≡ false
     rest no-target k = k
@@ -213,7 +213,7 @@ finish b p r a q xs ys s fb fa =
     ∙ ap₂ (λ (l m : List Part). target-sequence (l ++ (p ∷ r ∷ m))) (rise-again q b fb) (rise-again q a fa)
 
 -- both have a target
-two-targets : (b : List Part) (p r : Part) (a : List Part) (q : ℕ) (xs ys : Content) → p .goal ≡ target q xs → r .goal ≡ target (suc q) ys
+two-targets : (b : List Part) (p r : Part) (a : List Part) (q : ℕ) (xs ys : Content) → p .target ≡ target q xs → r .target ≡ target (suc q) ys
     → orders-fit (length (b ++ (p ∷ r ∷ a))) [] (orders (b ++ (p ∷ r ∷ a))) ≡ true
     → target-sequence (order-parts (lower-above q) (b ++ (join-parts p r ∷ a))) ≡ target-sequence (b ++ (p ∷ r ∷ a))
 unfolding orders order-list gather join-parts join-targets among order-part order-target
@@ -229,7 +229,7 @@ two-targets b p r a q xs ys pt rt fits =
     (ap (orders-fit (length (b ++ (p ∷ r ∷ a))) []) (append-assoc (orders b) (q ∷ []) (suc q ∷ orders a) ∙ sym shown) ∙ fits) in
     let fb : among (suc q) (orders b) ≡ false = or-left _ _ (sym (among-append (suc q) (orders b) (q ∷ [])) ∙ two .not-before) in
     let fa : among (suc q) (orders a) ≡ false = two .not-after in
-    let jt : j .goal ≡ target q (xs ++ ys) = goal-of q xs ys (p .goal) (r .goal) pt rt in
+    let jt : j .target ≡ target q (xs ++ ys) = goal-of q xs ys (p .target) (r .target) pt rt in
     let nb : target-of-order lb q ≡ [] = moved-but (lower-above q) q q (suc q) b fb (lowered-own q) ∙ unused-order q b (one .not-before) in
     let na : target-of-order la q ≡ [] = moved-but (lower-above q) q q (suc q) a fa (lowered-own q) ∙ unused-order q a (or-right (eqb q (suc q)) _ (one .not-after)) in
     finish b p r a q xs ys (split-targets lb la j p r q (xs ++ ys) xs ys jt pt rt (one .low) (omega (arith, two .high, lengths q b p r a)) nb na) fb fa
@@ -259,10 +259,10 @@ few (target q xs) (target r ys) (inl e) = let z : _≡_ {A = ℕ} 0 1 = cc in om
 few (target q xs) (target r ys) (inr e) = let z : _≡_ {A = ℕ} 0 1 = cc in omega arith
 
 -- Join keeps the target sequence
-pub join-target : (ps b : List Part) (p r : Part) (a : List Part) → ps ≡ b ++ (p ∷ r ∷ a) → fault-5 ps ≡ none → bad-orders (p .goal) (r .goal) ≡ false
+pub join-target : (ps b : List Part) (p r : Part) (a : List Part) → ps ≡ b ++ (p ∷ r ∷ a) → fault-5 ps ≡ none → bad-orders (p .target) (r .target) ≡ false
     → target-sequence (join-focus ps (here b p (r ∷ a))) ≡ target-sequence ps
 unfolding join-focus join-order bad-orders
-join-target ps b p r a e f o = by (p .goal) (r .goal) refl refl o
+join-target ps b p r a e f o = by (p .target) (r .target) refl refl o
   where
     L : List Part
     L = b ++ (p ∷ r ∷ a)
@@ -270,13 +270,13 @@ join-target ps b p r a e f o = by (p .goal) (r .goal) refl refl o
     fits : orders-fit (length L) [] (orders L) ≡ true
     fits = subst (λ (l : List Part). orders-fit (length l) [] (orders l) ≡ true) e (fault-5-fits ps f)
 
-    single : (p .goal ≡ no-target) ⊎ (r .goal ≡ no-target) → target-sequence (order-parts (lower-above (highest-unused (length L) (orders L))) (b ++ (join-parts p r ∷ a))) ≡ target-sequence L
-    single w = one-target b p r a (λ k. of-join k (p .goal) (r .goal) w) (list-join (p .goal) (r .goal) w) (few (p .goal) (r .goal) w)
+    single : (p .target ≡ no-target) ⊎ (r .target ≡ no-target) → target-sequence (order-parts (lower-above (highest-unused (length L) (orders L))) (b ++ (join-parts p r ∷ a))) ≡ target-sequence L
+    single w = one-target b p r a (λ k. of-join k (p .target) (r .target) w) (list-join (p .target) (r .target) w) (few (p .target) (r .target) w)
 
-    back : (p .goal ≡ no-target) ⊎ (r .goal ≡ no-target) → target-sequence (order-parts (lower-above (highest-unused (length ps) (orders ps))) (b ++ (join-parts p r ∷ a))) ≡ target-sequence ps
+    back : (p .target ≡ no-target) ⊎ (r .target ≡ no-target) → target-sequence (order-parts (lower-above (highest-unused (length ps) (orders ps))) (b ++ (join-parts p r ∷ a))) ≡ target-sequence ps
     back w = subst (λ (l : List Part). target-sequence (order-parts (lower-above (highest-unused (length l) (orders l))) (b ++ (join-parts p r ∷ a))) ≡ target-sequence l) (sym e) (single w)
 
-    by : (g h : Target) → p .goal ≡ g → r .goal ≡ h → bad-orders g h ≡ false → target-sequence (order-parts (join-order ps g h) (b ++ (join-parts p r ∷ a))) ≡ target-sequence ps
+    by : (g h : Target) → p .target ≡ g → r .target ≡ h → bad-orders g h ≡ false → target-sequence (order-parts (join-order ps g h) (b ++ (join-parts p r ∷ a))) ≡ target-sequence ps
     by no-target no-target x y k = back (inl x)
     by no-target (target s ys) x y k = back (inl x)
     by (target q xs) no-target x y k = back (inr y)

@@ -7,7 +7,7 @@ use mathlib.Core.Option.{Option, none, some}
 use lib.Dec.{eqb, leb}
 use Rattle.xliff.specs.Bytes.{'-', 'N', 'Y', Bytes, among}
 use Rattle.xliff.specs.Answer.{Refusal, applies, _then_, is-fault, result}
-use Rattle.xliff.specs.Unit.{Head, segment, ignorable, Target, no-target, target, Part, TheUnit, is-closed, source-sequence}
+use Rattle.xliff.specs.Unit.{Head, segment, ignorable, Target, no-target, target, Part, XliffUnit, is-closed, source-sequence}
 use Rattle.xliff.specs.Parse.{unit}
 use Rattle.xliff.specs.Rules.{fault-5, fault-6, fault-7, fault-8, fault-9, fault-6-to-10}
 use Rattle.xliff.specs.Check.{Valid, too-large}
@@ -55,12 +55,12 @@ target-good (target q xs) (target r ys) a b = each-append xs ys a b
 part-good : (p q : Part) → GoodPart p → GoodPart q → GoodPart (join-parts p q)
 unfolding join-parts
 part-good p q a b =
-    record { head = head-good (p .head) (q .head) (a .head) (b .head); source = each-append (p .source) (q .source) (a .source) (b .source); goal = target-good (p .goal) (q .goal) (a .goal) (b .goal) }
+    record { head = head-good (p .head) (q .head) (a .head) (b .head); source = each-append (p .source) (q .source) (a .source) (b .source); target = target-good (p .target) (q .target) (a .target) (b .target) }
 
 pub orders-good : (f : ℕ → ℕ) (ps : List Part) → GoodParts ps → GoodParts (order-parts f ps)
 unfolding order-parts order-part order-target
 orders-good f [] each-nil = each-nil
-orders-good f (p ∷ ps) (each-cons g h) = each-cons (record { head = g .head; source = g .source; goal = by (p .goal) (g .goal) }) (orders-good f ps h)
+orders-good f (p ∷ ps) (each-cons g h) = each-cons (record { head = g .head; source = g .source; target = by (p .target) (g .target) }) (orders-good f ps h)
   where
     by : (t : Target) → GoodTarget t → GoodTarget (order-target f t)
     by no-target k = tt
@@ -85,13 +85,13 @@ join-accepted t n room r bt e =
     let h = sent t bt valid in
     record { was = h; now = by (focus (unit t .parts) n) refl first h; bytes = same; room = room; fits = small }
   where
-    u : TheUnit
+    u : XliffUnit
     u = unit t
 
-    v : Focus → TheUnit
+    v : Focus → XliffUnit
     v f = record { canResegment = u .canResegment; parts = join-focus (u .parts) f }
 
-    whole : (b : List Part) (p q : Part) (a : List Part) → u .parts ≡ b ++ (p ∷ q ∷ a) → focus (u .parts) n ≡ here b p (q ∷ a) → bad-orders (p .goal) (q .goal) ≡ false
+    whole : (b : List Part) (p q : Part) (a : List Part) → u .parts ≡ b ++ (p ∷ q ∷ a) → focus (u .parts) n ≡ here b p (q ∷ a) → bad-orders (p .target) (q .target) ≡ false
         → fault-7 (join-focus (u .parts) (here b p (q ∷ a))) ≡ none → Sent u → Sent (v (here b p (q ∷ a)))
     whole b p q a at k bo seven h =
         let ps : List Part = u .parts in
@@ -103,13 +103,13 @@ join-accepted t n room r bt e =
         let r9 = then-right (fault-8 (u .parts)) _ r8 in
         let (gb, gp, gr) = each-apart b p (q ∷ a) (subst GoodParts at (h .good)) in
         let (x, xs, shown) = some-part b (join-parts p q) a in
-        let (y, ys, listed) = nonempty (join-order (u .parts) (p .goal) (q .goal)) (b ++ (join-parts p q ∷ a)) x xs shown in
+        let (y, ys, listed) = nonempty (join-order (u .parts) (p .target) (q .target)) (b ++ (join-parts p q ∷ a)) x xs shown in
         record {
           letter = h .letter;
           first = y;
           others = ys;
           parts = listed;
-          good = orders-good (join-order (u .parts) (p .goal) (q .goal)) (b ++ (join-parts p q ∷ a)) (each-append b (join-parts p q ∷ a) gb (joined p q a gp gr));
+          good = orders-good (join-order (u .parts) (p .target) (q .target)) (b ++ (join-parts p q ∷ a)) (each-append b (join-parts p q ∷ a) gb (joined p q a gp gr));
           rule-5 = subst (λ (l : List Part). fault-5 (join-focus l (here b p (q ∷ a))) ≡ none) (sym at) (join-5 b p q a (ap fault-5 (sym at) ∙ h .rule-5) bo);
           rules = then-none _ _ (join-6 (u .parts) b p q a at (then-left _ _ (h .rules)))
               (then-none _ _ seven (then-none _ _ (join-8 (u .parts) qs src tgt (then-left _ _ r8))
@@ -125,9 +125,9 @@ join-accepted t n room r bt e =
     by (here b p (q ∷ a)) k o h =
         let at : u .parts ≡ b ++ (p ∷ q ∷ a) = focus-here (u .parts) n b p (q ∷ a) k in
         let o2 = then-right (applies 12 (is-closed (u .canResegment) p || is-closed (u .canResegment) q)) _ o in
-        let bo : bad-orders (p .goal) (q .goal) ≡ false = applies-none 16 (bad-orders (p .goal) (q .goal)) (then-left _ _ o2) in
+        let bo : bad-orders (p .target) (q .target) ≡ false = applies-none 16 (bad-orders (p .target) (q .target)) (then-left _ _ o2) in
         let seven : fault-7 (join-focus (u .parts) (focus (u .parts) n)) ≡ none
-        = no-fault _ (applies-none 17 (is-fault (fault-7 (join-focus (u .parts) (focus (u .parts) n)))) (then-right (applies 16 (bad-orders (p .goal) (q .goal))) _ o2)) in
+        = no-fault _ (applies-none 17 (is-fault (fault-7 (join-focus (u .parts) (focus (u .parts) n)))) (then-right (applies 16 (bad-orders (p .target) (q .target))) _ o2)) in
         whole b p q a at k bo (subst (λ (f : Focus). fault-7 (join-focus (u .parts) f) ≡ none) k seven) h
 
 -- An accepted join leaves a valid table

@@ -10,7 +10,7 @@ use lib.ListN.{length, length-append}
 use Rattle.xliff.specs.Bytes.{'I', Bytes, among, gather}
 use Rattle.xliff.specs.Answer.{applies, _then_, result}
 use Rattle.xliff.specs.Item.{Content}
-use Rattle.xliff.specs.Unit.{Head, segment, ignorable, Target, no-target, target, Part, TheUnit, target-items, source-sequence, order-list, orders}
+use Rattle.xliff.specs.Unit.{Head, segment, ignorable, Target, no-target, target, Part, XliffUnit, target-items, source-sequence, order-list, orders}
 use Rattle.xliff.specs.Parse.{unit}
 use Rattle.xliff.specs.Sequences.{located}
 use Rattle.xliff.specs.Rules.{bad-order, bad-8-source, bad-8-target, bad-10-source, bad-10-target, fault-5, fault-6, fault-7, fault-8, fault-9, fault-10, fault-6-to-10}
@@ -59,9 +59,9 @@ fits-gone n used (x ∷ qs) q rs e =
 
 -- the part without its target
 abbrev bared : Part → Part
-bared p = record { head = with-state 'I' (p .head); source = p .source; goal = no-target }
+bared p = record { head = with-state 'I' (p .head); source = p .source; target = no-target }
 
-module _ (b : List Part) (p : Part) (a : List Part) (q : ℕ) (c : Content) (goal-is : p .goal ≡ target q c) where
+module _ (b : List Part) (p : Part) (a : List Part) (q : ℕ) (c : Content) (goal-is : p .target ≡ target q c) where
   abbrev old : List Part
   old = b ++ (p ∷ a)
 
@@ -132,13 +132,13 @@ remove-accepted t n room r bt e =
     let h = sent t bt valid in
     record { was = h; now = by (focus (unit t .parts) n) refl first rules h; bytes = same; room = room; fits = small }
   where
-    u : TheUnit
+    u : XliffUnit
     u = unit t
 
-    v : Focus → TheUnit
+    v : Focus → XliffUnit
     v f = record { canResegment = u .canResegment; parts = remove-focus (u .parts) f }
 
-    whole : (b : List Part) (p : Part) (a : List Part) (q : ℕ) (c : Content) → u .parts ≡ b ++ (p ∷ a) → p .goal ≡ target q c
+    whole : (b : List Part) (p : Part) (a : List Part) (q : ℕ) (c : Content) → u .parts ≡ b ++ (p ∷ a) → p .target ≡ target q c
         → (fault-7 (b ++ (bared p ∷ a)) then fault-9 (b ++ (bared p ∷ a))) ≡ none → Sent u → Sent (v (here b p a))
     whole b p a q c at g rules h =
         let ps : List Part = u .parts in
@@ -155,7 +155,7 @@ remove-accepted t n room r bt e =
           first = x;
           others = xs;
           parts = shown;
-          good = each-append b (bared p ∷ a) gb (each-cons (record { head = initial-good (p .head) (gp .head); source = gp .source; goal = tt }) ga);
+          good = each-append b (bared p ∷ a) gb (each-cons (record { head = initial-good (p .head) (gp .head); source = gp .source; target = tt }) ga);
           rule-5 = remove-5 b p a q c g five;
           rules =
               then-none _ _ (counted-rule-6 (b ++ (bared p ∷ a)) (remove-6 b p a q c g six))
@@ -166,9 +166,9 @@ remove-accepted t n room r bt e =
 
     by : (f : Focus) → focus (u .parts) n ≡ f → remove-refusal f ≡ none → (fault-7 (v f .parts) then fault-9 (v f .parts)) ≡ none → Sent u → Sent (v f)
     by nowhere k o rules h = absurd (true≢false (applies-none 11 true o))
-    by (here b p a) k o rules h = pick (p .goal) refl (applies-none 20 (lacks-target (p .goal)) o)
+    by (here b p a) k o rules h = pick (p .target) refl (applies-none 20 (lacks-target (p .target)) o)
       where
-        pick : (g : Target) → p .goal ≡ g → lacks-target g ≡ false → Sent (v (here b p a))
+        pick : (g : Target) → p .target ≡ g → lacks-target g ≡ false → Sent (v (here b p a))
         pick no-target e z = absurd (true≢false z)
         pick (target q c) e z = whole b p a q c (focus-here (u .parts) n b p a k) e rules h
 

@@ -30,7 +30,7 @@ use Rattle.xliff.proofs.operations.Rewrite.{half-bit, halves, P-bit, un
 
 -- a part with both its contents changed item by item; a rewrite changes one side and leaves the other
 abbrev pub on-both : (Item → Item) → (Item → Item) → Part → Part
-on-both f g p = record { head = p .head; source = map f (p .source); goal = rewrite-target g (p .goal) }
+on-both f g p = record { head = p .head; source = map f (p .source); target = rewrite-target g (p .target) }
 
 abbrev pub stay : Item → Item
 stay x = x
@@ -68,9 +68,9 @@ pub sources : (ps : List Part) → AllBalanced ps → Each (λ p. Balanced (p .s
 sources [] each-nil = each-nil
 sources (p ∷ ps) (each-cons b h) = each-cons (b .source) (sources ps h)
 
-pub goals : (ps : List Part) → AllBalanced ps → Each (λ p. Balanced (target-items (p .goal))) ps
+pub goals : (ps : List Part) → AllBalanced ps → Each (λ p. Balanced (target-items (p .target))) ps
 goals [] each-nil = each-nil
-goals (p ∷ ps) (each-cons b h) = each-cons (b .goal) (goals ps h)
+goals (p ∷ ps) (each-cons b h) = each-cons (b .target) (goals ps h)
 
 -- what a rewrite asks of the sequence of its side
 pub record Asked (i : ℕ) (w : Form) (content : Part → Content) (xs : Content) (ps : List Part) : Type 0 where
@@ -95,12 +95,12 @@ pub record Kept (qs : List Part) : Type 0 where
   pub seven : fault-7 qs ≡ none
   pub eight : fault-8 qs ≡ none
 
-same-orders : (g : Part → Part) → ((p : Part) → order-list (g p .goal) ≡ order-list (p .goal)) → (ps : List Part) → orders (map g ps) ≡ orders ps
+same-orders : (g : Part → Part) → ((p : Part) → order-list (g p .target) ≡ order-list (p .target)) → (ps : List Part) → orders (map g ps) ≡ orders ps
 unfolding orders gather
 same-orders g h [] = refl
 same-orders g h (p ∷ ps) = ap₂ _++_ (h p) (same-orders g h ps)
 
-five-kept : (g : Part → Part) → ((p : Part) → order-list (g p .goal) ≡ order-list (p .goal)) → (ps : List Part) → fault-5 ps ≡ none → fault-5 (map g ps) ≡ none
+five-kept : (g : Part → Part) → ((p : Part) → order-list (g p .target) ≡ order-list (p .target)) → (ps : List Part) → fault-5 ps ≡ none → fault-5 (map g ps) ≡ none
 unfolding fault-5 located
 five-kept g h ps e =
     rule-5-back (length (map g ps)) 3 [] (map g ps)
@@ -130,7 +130,7 @@ module _ (f g : Item → Item) where
   order-is : (ps : List Part) (k : ℕ) → target-of-order (map (on-both f g) ps) k ≡ map g (target-of-order ps k)
   unfolding target-of-order gather
   order-is [] k = refl
-  order-is (p ∷ ps) k = ap₂ _++_ (of-order-is k (p .goal)) (order-is ps k) ∙ sym (map-append g (of-order k (p .goal)) (target-of-order ps k))
+  order-is (p ∷ ps) k = ap₂ _++_ (of-order-is k (p .target)) (order-is ps k) ∙ sym (map-append g (of-order k (p .target)) (target-of-order ps k))
 
   targets-are : (ps : List Part) (q n : ℕ) → targets (map (on-both f g) ps) q n ≡ map g (targets ps q n)
   unfolding targets
@@ -155,17 +155,17 @@ module _ (f g : Item → Item) where
   unfolding bare-sequence gather bare
   bare-is [] = refl
   bare-is (p ∷ ps) =
-      ap₂ _++_ (ap (λ (b : Bool). cond b [] (map f (p .source))) (has-same (p .goal)) ∙ by (has-target (p .goal))) (bare-is ps)
+      ap₂ _++_ (ap (λ (b : Bool). cond b [] (map f (p .source))) (has-same (p .target)) ∙ by (has-target (p .target))) (bare-is ps)
       ∙ sym (map-append f (bare p) (bare-sequence ps))
     where
       by : (b : Bool) → cond b [] (map f (p .source)) ≡ map f (cond b [] (p .source))
       by true = refl
       by false = refl
 
-  both-balanced : (ps : List Part) → Each (λ p. Balanced (map f (p .source))) ps → Each (λ p. Balanced (map g (target-items (p .goal)))) ps → AllBalanced (map (on-both f g) ps)
+  both-balanced : (ps : List Part) → Each (λ p. Balanced (map f (p .source))) ps → Each (λ p. Balanced (map g (target-items (p .target)))) ps → AllBalanced (map (on-both f g) ps)
   both-balanced [] each-nil each-nil = each-nil
   both-balanced (p ∷ ps) (each-cons b h) (each-cons c k) =
-      each-cons (record { source = b; goal = subst Balanced (sym (items-of g (p .goal))) c }) (both-balanced ps h k)
+      each-cons (record { source = b; target = subst Balanced (sym (items-of g (p .target))) c }) (both-balanced ps h k)
 
 -- what is asked of a change of one sequence (xs, of the contents named): no form matters to flattening, to rule 8, to what waits; shapes and balance stay
 pub record Keeps (f : Item → Item) (e : ℕ → ℕ → Half → Bool) (content : Part → Content) (xs : Content) (ps : List Part) : Type 0 where
@@ -200,19 +200,19 @@ rewrites i w e content xs ps h b t a =
 
 -- the rules 5 to 8 of the changed parts
 pub both-kept : (f g : Item → Item) (ps : List Part) → fault-5 ps ≡ none → Rule6 ps → fault-8 ps ≡ none
-    → Keeps f (λ j. waits [] j) (λ p. p .source) (source-sequence ps) ps → Keeps g (λ j. waits (bare-sequence ps) j) (λ p. target-items (p .goal)) (target-sequence ps) ps
+    → Keeps f (λ j. waits [] j) (λ p. p .source) (source-sequence ps) ps → Keeps g (λ j. waits (bare-sequence ps) j) (λ p. target-items (p .target)) (target-sequence ps) ps
     → Kept (map (on-both f g) ps)
 both-kept f g ps five six eight s t =
     let qs : List Part = map (on-both f g) ps in
     record {
-      five = five-kept (on-both f g) (λ p. order-same f g (p .goal)) ps five;
+      five = five-kept (on-both f g) (λ p. order-same f g (p .target)) ps five;
       six = counted-rule-6 qs
           (record {
             src = λ j. let a = six .src j in let b = sum-map (source-ids j) (on-both f g) ps
                 ∙ sum-cong (λ p. source-ids j (on-both f g p)) (source-ids j) (λ p. ap (λ (z : ℕ). part-bit j p + z) (starts-map j f (s .flat-same) (p .source))) ps in omega arith;
             tgt = λ j. let a = six .tgt j in let b = sum-map (target-ids j) (on-both f g) ps
                 ∙ sum-cong (λ p. target-ids j (on-both f g p)) (target-ids j)
-                (λ p. ap (λ (z : ℕ). part-bit j p + z) (ap (starts j) (items-of g (p .goal)) ∙ starts-map j g (t .flat-same) (target-items (p .goal)))) ps in omega arith;
+                (λ p. ap (λ (z : ℕ). part-bit j p + z) (ap (starts j) (items-of g (p .target)) ∙ starts-map j g (t .flat-same) (target-items (p .target)))) ps in omega arith;
           });
       seven = good-rule-7 qs
           (record {

@@ -8,7 +8,7 @@ use lib.Dec.{eqb}
 use Rattle.xliff.specs.Bytes.{'P', 'S', 'T', Bytes, any, among}
 use Rattle.xliff.specs.Answer.{applies, _then_, result}
 use Rattle.xliff.specs.Item.{Item, Content, Half, Form, form-P, form-S, in-form}
-use Rattle.xliff.specs.Unit.{Target, no-target, target, Part, TheUnit, target-items, source-sequence, target-sequence}
+use Rattle.xliff.specs.Unit.{Target, no-target, target, Part, XliffUnit, target-items, source-sequence, target-sequence}
 use Rattle.xliff.specs.Parse.{unit}
 use Rattle.xliff.specs.Rules.{half-of-id, fault-6, fault-7, fault-8, fault-9, fault-6-to-10}
 use Rattle.xliff.specs.Check.{Valid, too-large}
@@ -61,11 +61,11 @@ goal-stays (target q xs) = ap (target q) (sym (map-stay xs))
 
 part-S : (side : ℕ) (f : Item → Item) → eqb side 'S' ≡ true → (p : Part) → rewrite-part side f p ≡ on-both f stay p
 unfolding rewrite-part
-part-S side f e p = rw e (ap (λ (t : Target). record { head = p .head; source = map f (p .source); goal = t }) (goal-stays (p .goal)))
+part-S side f e p = rw e (ap (λ (t : Target). record { head = p .head; source = map f (p .source); target = t }) (goal-stays (p .target)))
 
 part-T : (side : ℕ) (f : Item → Item) → eqb side 'S' ≡ false → (p : Part) → rewrite-part side f p ≡ on-both stay f p
 unfolding rewrite-part
-part-T side f e p = rw e (ap (λ (l : Content). record { head = p .head; source = l; goal = rewrite-target f (p .goal) }) (sym (map-stay (p .source))))
+part-T side f e p = rw e (ap (λ (l : Content). record { head = p .head; source = l; target = rewrite-target f (p .target) }) (sym (map-stay (p .source))))
 
 map-same : (g h : Part → Part) → ((p : Part) → g p ≡ h p) → (ps : List Part) → map g ps ≡ map h ps
 map-same g h e [] = refl
@@ -75,17 +75,17 @@ content-S : (side i : ℕ) (f : Item → Item) → eqb side 'S' ≡ true → (p 
 unfolding side-content
 content-S side i f e p = rw e (ap (λ (q : Part). are-partners i (q .source)) (part-S side f e p))
 
-content-T : (side i : ℕ) (f : Item → Item) → eqb side 'S' ≡ false → (p : Part) → are-partners i (side-content side (rewrite-part side f p)) ≡ are-partners i (map f (target-items (p .goal)))
+content-T : (side i : ℕ) (f : Item → Item) → eqb side 'S' ≡ false → (p : Part) → are-partners i (side-content side (rewrite-part side f p)) ≡ are-partners i (map f (target-items (p .target)))
 unfolding side-content
-content-T side i f e p = rw e (ap (λ (q : Part). are-partners i (target-items (q .goal))) (part-T side f e p) ∙ ap (are-partners i) (items-of f (p .goal)))
+content-T side i f e p = rw e (ap (λ (q : Part). are-partners i (target-items (q .target))) (part-T side f e p) ∙ ap (are-partners i) (items-of f (p .target)))
 
 -- the refusals of a pair that did not apply
-record Tried (u : TheUnit) (side i : ℕ) (w : Form) (p : Whole) : Type 0 where
+record Tried (u : XliffUnit) (side i : ℕ) (w : Form) (p : Whole) : Type 0 where
   pub not-already : already w (p .start) ≡ false
   pub letter : w ≡ form-P → unfit-letter p ≡ false
   pub partners : w ≡ form-P → any (λ q. are-partners i (side-content side q)) (map (rewrite-part side (rewrite-item i w)) (u .parts)) ≡ true
 
-tried : (u : TheUnit) (side i : ℕ) (w : Form) (p : Whole) → pair-refusal u side i w (some p) ≡ none → Tried u side i w p
+tried : (u : XliffUnit) (side i : ℕ) (w : Form) (p : Whole) → pair-refusal u side i w (some p) ≡ none → Tried u side i w p
 unfolding pair-refusal to-P-refusal rewrite-unit with-parts
 tried u side i form-S p e =
     record { not-already = applies-none 20 _ (then-left _ _ e); letter = λ k. absurd (form-differ k); partners = λ k. absurd (form-differ k) }
@@ -123,12 +123,12 @@ unfolding rewrite-part
 good-parts side i w [] each-nil = each-nil
 good-parts side i w (p ∷ ps) (each-cons g h) = each-cons (by (eqb side 'S')) (good-parts side i w ps h)
   where
-    by : (b : Bool) → GoodPart (cond b (record { head = p .head; source = map (rewrite-item i w) (p .source); goal = p .goal })
-        (record { head = p .head; source = p .source; goal = rewrite-target (rewrite-item i w) (p .goal) }))
-    by true = record { head = g .head; source = each-map (rewrite-item i w) (good-item i w) (p .source) (g .source); goal = g .goal }
-    by false = record { head = g .head; source = g .source; goal = good-goal i w (p .goal) (g .goal) }
+    by : (b : Bool) → GoodPart (cond b (record { head = p .head; source = map (rewrite-item i w) (p .source); target = p .target })
+        (record { head = p .head; source = p .source; target = rewrite-target (rewrite-item i w) (p .target) }))
+    by true = record { head = g .head; source = each-map (rewrite-item i w) (good-item i w) (p .source) (g .source); target = g .target }
+    by false = record { head = g .head; source = g .source; target = good-goal i w (p .target) (g .target) }
 
-not-found : (u : TheUnit) (side i : ℕ) (w : Form) → pair-refusal u side i w none ≡ none → ⊥
+not-found : (u : XliffUnit) (side i : ℕ) (w : Form) → pair-refusal u side i w none ≡ none → ⊥
 unfolding pair-refusal
 not-found u side i w e = true≢false (applies-none 20 true e)
 
@@ -143,7 +143,7 @@ rewrite-accepted t side i w room r bt e =
     let h = sent t bt valid in
     record { was = h; now = by (find-whole i (side-sequence side (unit t .parts))) refl pair h; bytes = same; room = room; fits = small }
   where
-    u : TheUnit
+    u : XliffUnit
     u = unit t
 
     kept : (p : Whole) → find-whole i (side-sequence side (u .parts)) ≡ some p → Tried u side i (form-of w) p → Sent u → (b : Bool) → eqb side 'S' ≡ b
@@ -160,7 +160,7 @@ rewrite-accepted t side i w room r bt e =
         subst Kept (sym (map-same (rewrite-part side f) (on-both f stay) (part-S side f s) ps))
         (both-kept f stay ps (h .rule-5) six (then-left _ _ (then-right (fault-7 ps) _ r7))
         (rewrites i (form-of w) (λ j. waits [] j) (λ q. q .source) (source-sequence ps) ps (seven .src) (sources ps (seven .bal)) (λ m. total-source m ps) asked)
-        (stays (λ j. waits (bare-sequence ps) j) (λ q. target-items (q .goal)) (target-sequence ps) ps (seven .tgt) (goals ps (seven .bal))))
+        (stays (λ j. waits (bare-sequence ps) j) (λ q. target-items (q .target)) (target-sequence ps) ps (seven .tgt) (goals ps (seven .bal))))
     kept p found-it t h false s =
         let f : Item → Item = rewrite-item i (form-of w) in
         let ps : List Part = u .parts in
@@ -168,12 +168,12 @@ rewrite-accepted t side i w room r bt e =
         let six : Rule6 ps = rule-6-counted ps (then-left _ _ (h .rules)) in
         let seven : Good7 ps = rule-7-good ps six (then-left _ _ r7) in
         let at : find-whole i (target-sequence ps) ≡ some p = rw s at found-it in
-        let asked = make-asked i (form-of w) (λ q. target-items (q .goal)) (target-sequence ps) ps p (seven .tgt i) at (t .not-already) (t .letter)
-        (λ k. sym (any-map (λ q. are-partners i (side-content side q)) (λ q. are-partners i (map f (target-items (q .goal)))) (rewrite-part side f) (content-T side i f s) ps) ∙ t .partners k) in
+        let asked = make-asked i (form-of w) (λ q. target-items (q .target)) (target-sequence ps) ps p (seven .tgt i) at (t .not-already) (t .letter)
+        (λ k. sym (any-map (λ q. are-partners i (side-content side q)) (λ q. are-partners i (map f (target-items (q .target)))) (rewrite-part side f) (content-T side i f s) ps) ∙ t .partners k) in
         subst Kept (sym (map-same (rewrite-part side f) (on-both stay f) (part-T side f s) ps))
         (both-kept stay f ps (h .rule-5) six (then-left _ _ (then-right (fault-7 ps) _ r7))
         (stays (λ j. waits [] j) (λ q. q .source) (source-sequence ps) ps (seven .src) (sources ps (seven .bal)))
-        (rewrites i (form-of w) (λ j. waits (bare-sequence ps) j) (λ q. target-items (q .goal)) (target-sequence ps) ps (seven .tgt) (goals ps (seven .bal))
+        (rewrites i (form-of w) (λ j. waits (bare-sequence ps) j) (λ q. target-items (q .target)) (target-sequence ps) ps (seven .tgt) (goals ps (seven .bal))
         (λ m. total-target m ps (h .rule-5)) asked))
 
     by : (o : Option Whole) → find-whole i (side-sequence side (u .parts)) ≡ o → pair-refusal u side i (form-of w) o ≡ none

@@ -11,7 +11,7 @@ use borrow.Author.Tests.{eq-eqb, ne-eqb, le-ltb}
 use Rattle.xliff.specs.Bytes.{Bytes, among, gather}
 use Rattle.xliff.specs.Answer.{refusal, applies, _then_, result}
 use Rattle.xliff.specs.Item.{Content}
-use Rattle.xliff.specs.Unit.{Head, segment, ignorable, Target, no-target, target, Part, TheUnit, order-list, orders}
+use Rattle.xliff.specs.Unit.{Head, segment, ignorable, Target, no-target, target, Part, XliffUnit, order-list, orders}
 use Rattle.xliff.specs.Parse.{unit, content, content-fault}
 use Rattle.xliff.specs.Sequences.{located-from, located, part-size, order-at}
 use Rattle.xliff.specs.Rules.{bad-order, first-bad-order, fault-5, fault-6-to-10}
@@ -33,7 +33,7 @@ use Rattle.xliff.proofs.unit.Accepted.{Accepted, accepted-valid}
 pub rule-5-back : (n at : ℕ) (used : List ℕ) (ps : List Part) → orders-fit n used (orders ps) ≡ true → first-bad-order n used (located-from at ps) ≡ none
 unfolding first-bad-order located-from orders order-list gather orders-fit
 rule-5-back n at used [] e = refl
-rule-5-back n at used (p ∷ ps) e = by (p .goal) refl e (λ used′. rule-5-back n (at + part-size p) used′ ps)
+rule-5-back n at used (p ∷ ps) e = by (p .target) refl e (λ used′. rule-5-back n (at + part-size p) used′ ps)
   where
     IH : Type 0
     IH = (used′ : List ℕ) → orders-fit n used′ (orders ps) ≡ true → first-bad-order n used′ (located-from (at + part-size p) ps) ≡ none
@@ -43,7 +43,7 @@ rule-5-back n at used (p ∷ ps) e = by (p .goal) refl e (λ used′. rule-5-bac
     more q true k ih = absurd (false≢true k)
     more q false k ih = ih (q ∷ used) k
 
-    by : (g : Target) → p .goal ≡ g → orders-fit n used (order-list g ++ orders ps) ≡ true → IH → first-bad-order n used (located-from at (p ∷ ps)) ≡ none
+    by : (g : Target) → p .target ≡ g → orders-fit n used (order-list g ++ orders ps) ≡ true → IH → first-bad-order n used (located-from at (p ∷ ps)) ≡ none
     by no-target g k ih = rw (g, first-bad-order) (ih used k)
     by (target q xs) g k ih = rw (g, first-bad-order) (more q (bad-order n used q) k ih)
 
@@ -90,7 +90,7 @@ insert-fits n used (x ∷ qs) o rs l h u q r e =
 pub orders-length : (ps : List Part) → length (orders ps) ≤ length ps
 unfolding orders order-list gather
 orders-length [] = omega arith
-orders-length (p ∷ ps) = by (p .goal) (orders-length ps)
+orders-length (p ∷ ps) = by (p .target) (orders-length ps)
   where
     by : (g : Target) → length (orders ps) ≤ length ps → length (order-list g ++ orders ps) ≤ suc (length ps)
     by no-target h = omega arith
@@ -110,7 +110,7 @@ module _ (b : List Part) (p : Part) (a : List Part) (fits : orders-fit (length (
   abbrev all : List Part
   all = b ++ (p ∷ a)
 
-  set-order : (n : ℕ) → 1 ≤ n → n ≤ length all → (g : Target) → p .goal ≡ g → orders-fit (length all) [] (orders b ++ (new-order all n g ∷ orders a)) ≡ true
+  set-order : (n : ℕ) → 1 ≤ n → n ≤ length all → (g : Target) → p .target ≡ g → orders-fit (length all) [] (orders b ++ (new-order all n g ∷ orders a)) ≡ true
   unfolding new-order orders order-list gather among
   set-order n l h (target q xs) e =
       ap (orders-fit (length all) []) (sym (orders-append b (p ∷ a) ∙ ap (λ (t : Target). orders b ++ (order-list t ++ orders a)) e)) ∙ fits
@@ -136,7 +136,7 @@ module _ (b : List Part) (p : Part) (a : List Part) (fits : orders-fit (length (
 
 -- the part that is set
 abbrev set-part : List Part → ℕ → ℕ → Content → Part → Part
-set-part ps n st new p = record { head = with-state st (p .head); source = p .source; goal = target (new-order ps n (p .goal)) new }
+set-part ps n st new p = record { head = with-state st (p .head); source = p .source; target = target (new-order ps n (p .target)) new }
 
 set-5 : (n st : ℕ) (new : Content) (b : List Part) (p : Part) (a : List Part) → n ≡ suc (length b) → fault-5 (b ++ (p ∷ a)) ≡ none
     → fault-5 (b ++ (set-part (b ++ (p ∷ a)) n st new p ∷ a)) ≡ none
@@ -146,7 +146,7 @@ set-5 n st new b p a k e =
     let len : length (b ++ (q ∷ a)) ≡ length (b ++ (p ∷ a)) = length-append b (q ∷ a) ∙ sym (length-append b (p ∷ a)) in
     rule-5-back (length (b ++ (q ∷ a))) 3 [] (b ++ (q ∷ a))
     (ap₂ (λ (z : ℕ) (l : List ℕ). orders-fit z [] l) len (orders-append b (q ∷ a))
-    ∙ set-order b p a (fault-5-fits (b ++ (p ∷ a)) e) n (omega arith) (omega (arith, length-append b (p ∷ a))) (p .goal) refl)
+    ∙ set-order b p a (fault-5-fits (b ++ (p ∷ a)) e) n (omega arith) (omega (arith, length-append b (p ∷ a))) (p .target) refl)
 
 pub some-part : (b : List Part) (q : Part) (a : List Part) → (x : Part) × (xs : List Part) × (b ++ (q ∷ a) ≡ x ∷ xs)
 some-part [] q a = (q, a, refl)
@@ -164,10 +164,10 @@ set-accepted t n st s room r bt bs e =
     let h = sent t bt valid in
     record { was = h; now = by (focus (unit t .parts) n) refl first rules h; bytes = same; room = room; fits = small }
   where
-    u : TheUnit
+    u : XliffUnit
     u = unit t
 
-    v : Focus → TheUnit
+    v : Focus → XliffUnit
     v f = record { canResegment = u .canResegment; parts = set-focus (u .parts) n st (content s) f }
 
     by : (f : Focus) → focus (u .parts) n ≡ f → set-refusal st s f ≡ none → fault-6-to-10 (v f .parts) ≡ none → Sent u → Sent (v f)
@@ -184,7 +184,7 @@ set-accepted t n st s room r bt bs e =
           first = x;
           others = xs;
           parts = shown;
-          good = each-append b (q ∷ a) gb (each-cons (record { head = state-good st (p .head) fits (gp .head); source = gp .source; goal = content-good s bs cf }) ga);
+          good = each-append b (q ∷ a) gb (each-cons (record { head = state-good st (p .head) fits (gp .head); source = gp .source; target = content-good s bs cf }) ga);
           rule-5 = subst (λ (l : List Part). fault-5 (b ++ (set-part l n st (content s) p ∷ a)) ≡ none) (sym at)
               (set-5 n st (content s) b p a (focus-at (u .parts) n b p a k) (ap fault-5 (sym at) ∙ h .rule-5));
           rules = rules;

@@ -120,7 +120,7 @@ split-source cut tcut new ps n = by (focus ps n) refl
     by : (f : Focus) → focus ps n ≡ f → flattened (source-sequence (split-focus cut tcut new ps f)) ≡ flattened (source-sequence ps)
     by nowhere e = refl
     by (here b p a) e =
-        let g : ℕ → ℕ = split-order (p .goal) in
+        let g : ℕ → ℕ = split-order (p .target) in
         let one : Content = first-items cut (p .source) in
         let two : Content = second-items cut (p .source) in
         ap flattened
@@ -133,7 +133,7 @@ split-source cut tcut new ps n = by (focus ps n) refl
 pub join-source-here : (ps b : List Part) (p q : Part) (a : List Part) → ps ≡ b ++ (p ∷ q ∷ a) → source-sequence (join-focus ps (here b p (q ∷ a))) ≡ source-sequence ps
 unfolding join-focus join-parts source-sequence gather
 join-source-here ps b p q a e =
-    source-orders (join-order ps (p .goal) (q .goal)) (b ++ (join-parts p q ∷ a))
+    source-orders (join-order ps (p .target) (q .target)) (b ++ (join-parts p q ∷ a))
     ∙ source-append b (join-parts p q ∷ a)
     ∙ ap (λ (l : Content). source-sequence b ++ l) (append-assoc (p .source) (q .source) (source-sequence a))
     ∙ sym (source-append b (p ∷ q ∷ a)) ∙ ap source-sequence (sym e)
@@ -183,8 +183,8 @@ rewrite-source side i w (p ∷ ps) =
     ∙ sym (flattened-append (p .source) (source-sequence ps))
   where
     by : (b : Bool) → flattened
-        ((cond {A = Part} b (record { head = p .head; source = map (rewrite-item i w) (p .source); goal = p .goal })
-        (record { head = p .head; source = p .source; goal = rewrite-target (rewrite-item i w) (p .goal) })) .source) ≡ flattened (p .source)
+        ((cond {A = Part} b (record { head = p .head; source = map (rewrite-item i w) (p .source); target = p .target })
+        (record { head = p .head; source = p .source; target = rewrite-target (rewrite-item i w) (p .target) })) .source) ≡ flattened (p .source)
     by true = flattened-map (rewrite-item i w) (flat-rewrite i w) (p .source)
     by false = refl
 

@@ -23,7 +23,7 @@ use Rattle.xliff.proofs.operations.SetValid.{rule-5-back, insert-fits, 
 pub orders-map : (f : ℕ → ℕ) (ps : List Part) → orders (order-parts f ps) ≡ map f (orders ps)
 unfolding orders order-list gather order-parts order-part order-target
 orders-map f [] = refl
-orders-map f (p ∷ ps) = by (p .goal) (orders-map f ps)
+orders-map f (p ∷ ps) = by (p .target) (orders-map f ps)
   where
     by : (g : Target) → orders (order-parts f ps) ≡ map f (orders ps) → order-list (order-target f g) ++ orders (order-parts f ps) ≡ map f (order-list g ++ orders ps)
     by no-target e = e
@@ -125,12 +125,12 @@ counted f b p x y a = simp (length-append, length-map) (omega arith)
 pub split-5 : (cut tcut new : ℕ) (b : List Part) (p : Part) (a : List Part) → fault-5 (b ++ (p ∷ a)) ≡ none
     → fault-5 (split-focus cut tcut new (b ++ (p ∷ a)) (here b p a)) ≡ none
 unfolding fault-5 located split-focus orders order-list gather first-half second-half first-target second-target split-order
-split-5 cut tcut new b p a e = by (p .goal) refl (fault-5-fits (b ++ (p ∷ a)) e)
+split-5 cut tcut new b p a e = by (p .target) refl (fault-5-fits (b ++ (p ∷ a)) e)
   where
     count : (f : ℕ → ℕ) (x y : Part) → length (order-parts f b ++ (x ∷ y ∷ order-parts f a)) ≡ suc (length (b ++ (p ∷ a)))
     count f x y = counted f b p x y a
 
-    by : (g : Target) → p .goal ≡ g → orders-fit (length (b ++ (p ∷ a))) [] (orders (b ++ (p ∷ a))) ≡ true
+    by : (g : Target) → p .target ≡ g → orders-fit (length (b ++ (p ∷ a))) [] (orders (b ++ (p ∷ a))) ≡ true
         → fault-5 (order-parts (split-order g) b ++ (first-half cut tcut p ∷ second-half cut tcut new p ∷ order-parts (split-order g) a)) ≡ none
     by no-target g k =
         rule-5-back _ 3 [] _

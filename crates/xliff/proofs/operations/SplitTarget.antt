@@ -21,7 +21,7 @@ use Rattle.xliff.proofs.rules.Orders.{orders-fit, rule-5, order-fits, u
 
 pub orders-append : (ps qs : List Part) → orders (ps ++ qs) ≡ orders ps ++ orders qs
 unfolding orders
-orders-append ps qs = gather-append (λ p. order-list (p .goal)) ps qs
+orders-append ps qs = gather-append (λ p. order-list (p .target)) ps qs
 
 -- an order above all that fit is not used
 too-high : (n k : ℕ) (used qs : List ℕ) → n < k → orders-fit n used qs ≡ true → among k qs ≡ false
@@ -47,7 +47,7 @@ glue u v xs ys zs old new x y h =
     ∙ sym (flattened-append u (xs ++ v)))
 
 -- with a target
-with-target : (cut tcut new : ℕ) (b : List Part) (p : Part) (a : List Part) (q : ℕ) (xs : Content) → p .goal ≡ target q xs → orders-fit (length (b ++ (p ∷ a))) [] (orders (b ++ (p ∷ a))) ≡ true
+with-target : (cut tcut new : ℕ) (b : List Part) (p : Part) (a : List Part) (q : ℕ) (xs : Content) → p .target ≡ target q xs → orders-fit (length (b ++ (p ∷ a))) [] (orders (b ++ (p ∷ a))) ≡ true
     → flattened (target-sequence (order-parts (raise-above q) b ++ (first-half cut tcut p ∷ second-half cut tcut new p ∷ order-parts (raise-above q) a)))
     ≡ flattened (target-sequence (b ++ (p ∷ a)))
 unfolding first-half second-half first-target second-target orders order-list gather
@@ -60,7 +60,7 @@ with-target cut tcut new b p a q xs g e =
     glue u v xs (first-items tcut xs) (second-items tcut xs) _ _ x y (flattened-halves tcut xs)
 
 -- without: the orders stay, and the one more is not used
-pub without-target : (b : List Part) (p f s : Part) (a : List Part) → p .goal ≡ no-target → f .goal ≡ no-target → s .goal ≡ no-target
+pub without-target : (b : List Part) (p f s : Part) (a : List Part) → p .target ≡ no-target → f .target ≡ no-target → s .target ≡ no-target
     → orders-fit (length (b ++ (p ∷ a))) [] (orders (b ++ (p ∷ a))) ≡ true
     → target-sequence (order-parts (split-order no-target) b ++ (f ∷ s ∷ order-parts (split-order no-target) a)) ≡ target-sequence (b ++ (p ∷ a))
 unfolding target-sequence targets split-order order-parts target-of-order gather of-order
@@ -88,7 +88,7 @@ pub split-target : (cut tcut new : ℕ) (ps : List Part) (n : ℕ) → fault-5 p
 unfolding split-focus first-half second-half first-target second-target split-order
 split-target cut tcut new ps n e = by (focus ps n) refl
   where
-    go : (b : List Part) (p : Part) (a : List Part) (g : Target) → p .goal ≡ g → ps ≡ b ++ (p ∷ a)
+    go : (b : List Part) (p : Part) (a : List Part) (g : Target) → p .target ≡ g → ps ≡ b ++ (p ∷ a)
         → flattened (target-sequence (order-parts (split-order g) b ++ (first-half cut tcut p ∷ second-half cut tcut new p ∷ order-parts (split-order g) a)))
         ≡ flattened (target-sequence ps)
     go b p a no-target h k =
@@ -102,4 +102,4 @@ split-target cut tcut new ps n e = by (focus ps n) refl
 
     by : (f : Focus) → focus ps n ≡ f → flattened (target-sequence (split-focus cut tcut new ps f)) ≡ flattened (target-sequence ps)
     by nowhere h = refl
-    by (here b p a) h = go b p a (p .goal) refl (focus-here ps n b p a h)
+    by (here b p a) h = go b p a (p .target) refl (focus-here ps n b p a h)

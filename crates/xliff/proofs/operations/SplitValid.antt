@@ -11,7 +11,7 @@ use borrow.Author.Tests.{eqb-true}
 use Rattle.xliff.specs.Bytes.{Bytes, any}
 use Rattle.xliff.specs.Answer.{applies, _then_, result}
 use Rattle.xliff.specs.Item.{Item, Content, form-S, in-form, flattened, id-of, is-start, other-half}
-use Rattle.xliff.specs.Unit.{Head, segment, ignorable, Target, no-target, target, Part, TheUnit, head-id, target-items, is-closed, source-sequence, target-sequence}
+use Rattle.xliff.specs.Unit.{Head, segment, ignorable, Target, no-target, target, Part, XliffUnit, head-id, target-items, is-closed, source-sequence, target-sequence}
 use Rattle.xliff.specs.Parse.{unit}
 use Rattle.xliff.specs.Rules.{starts-id, fault-5, fault-6, fault-7, fault-8, fault-9, fault-6-to-10}
 use Rattle.xliff.specs.Check.{Valid, too-large}
@@ -75,7 +75,7 @@ none-part i p e =
     let a : eqb (head-id (p .head)) i ≡ false = or-left _ _ e in
     let r = or-right (eqb (head-id (p .head)) i) _ e in
     let b = none-starts i (p .source) (or-left _ _ r) in
-    let c = none-starts i (target-items (p .goal)) (or-right (any (has-id i) (p .source)) _ r) in
+    let c = none-starts i (target-items (p .target)) (or-right (any (has-id i) (p .source)) _ r) in
     let d : part-bit i p ≡ 0 = rw a (same (eqb (head-id (p .head)) 0)) in
     (omega arith, omega arith)
   where
@@ -104,7 +104,7 @@ split-6 : (cut tcut new : ℕ) (b : List Part) (p : Part) (a : List Part) → id
     → Rule6 (split-focus cut tcut new (b ++ (p ∷ a)) (here b p a))
 unfolding split-focus first-half second-half
 split-6 cut tcut new b p a t r =
-    let f : ℕ → ℕ = split-order (p .goal) in
+    let f : ℕ → ℕ = split-order (p .target) in
     let rest : List Part = first-half cut tcut p ∷ second-half cut tcut new p ∷ order-parts f a in
     record {
       src = λ i.
@@ -121,7 +121,7 @@ split-6 cut tcut new b p a t r =
           let y = sum-append (target-ids i) b (p ∷ a) in
           let u = target-ids-orders i f b in
           let v = target-ids-orders i f a in
-          let w = starts-targets i tcut (p .goal) in
+          let w = starts-targets i tcut (p .target) in
           let n = new-head i new (p .head) in
           let m = one-more i new (b ++ (p ∷ a)) target-ids (r .tgt i) (λ k. none-parts new (b ++ (p ∷ a)) k .1) t in
           omega arith;
@@ -158,11 +158,11 @@ split-good : (cut tcut new : ℕ) (b : List Part) (p : Part) (a : List Part) →
 unfolding split-focus first-half second-half
 split-good cut tcut new b p a h =
     let (gb, gp, ga) = each-apart b p a h in
-    let (one, two) = good-targets tcut (p .goal) (gp .goal) in
-    let f : ℕ → ℕ = split-order (p .goal) in
+    let (one, two) = good-targets tcut (p .target) (gp .target) in
+    let f : ℕ → ℕ = split-order (p .target) in
     each-append (order-parts f b) _ (orders-good f b gb)
-    (each-cons (record { head = gp .head; source = good-first cut (p .source) (gp .source); goal = one })
-    (each-cons (record { head = good-id new (p .head) (gp .head); source = good-second cut (p .source) (gp .source); goal = two }) (orders-good f a ga)))
+    (each-cons (record { head = gp .head; source = good-first cut (p .source) (gp .source); target = one })
+    (each-cons (record { head = good-id new (p .head) (gp .head); source = good-second cut (p .source) (gp .source); target = two }) (orders-good f a ga)))
 
 -- An accepted split
 pub split-accepted : (t : List ℕ) (n cut tcut new room : ℕ) (r : List ℕ) → Bytes t → split t n cut tcut new room ≡ result r → Accepted t (split-unit (unit t) n cut tcut new) r
@@ -174,10 +174,10 @@ split-accepted t n cut tcut new room r bt e =
     let h = sent t bt valid in
     record { was = h; now = by (focus (unit t .parts) n) refl first h; bytes = same; room = room; fits = small }
   where
-    u : TheUnit
+    u : XliffUnit
     u = unit t
 
-    v : Focus → TheUnit
+    v : Focus → XliffUnit
     v f = record { canResegment = u .canResegment; parts = split-focus cut tcut new (u .parts) f }
 
     whole : (b : List Part) (p : Part) (a : List Part) → u .parts ≡ b ++ (p ∷ a) → focus (u .parts) n ≡ here b p a → id-taken (u .parts) new ≡ false
@@ -196,7 +196,7 @@ split-accepted t n cut tcut new room r bt e =
         let kept = split-keeps cut tcut new ps b p a five seven in
         let src = subst (λ (f : Focus). flattened (source-sequence (split-focus cut tcut new ps f)) ≡ flattened (source-sequence ps)) k (split-source cut tcut new ps n) in
         let tgt = subst (λ (f : Focus). flattened (target-sequence (split-focus cut tcut new ps f)) ≡ flattened (target-sequence ps)) k (split-target cut tcut new ps n (h .rule-5)) in
-        let (x, xs, shown) = some-part (order-parts (split-order (p .goal)) b) (first-half cut tcut p) (second-half cut tcut new p ∷ order-parts (split-order (p .goal)) a) in
+        let (x, xs, shown) = some-part (order-parts (split-order (p .target)) b) (first-half cut tcut p) (second-half cut tcut new p ∷ order-parts (split-order (p .target)) a) in
         record {
           letter = h .letter;
           first = x;
@@ -207,12 +207,12 @@ split-accepted t n cut tcut new room r bt e =
           rules =
               then-none _ _ (counted-rule-6 qs (subst Rule6 now-at (split-6 cut tcut new b p a (ap (λ (l : List Part). id-taken l new) (sym at) ∙ taken) six)))
               (then-none _ _ (good-rule-7 qs (kept .seven))
-              (then-none _ _ (eased-8 old qs (turned-eased _ _ (kept .source)) (turned-eased _ _ (kept .goal)) (ap fault-8 (sym at) ∙ then-left _ _ r8))
+              (then-none _ _ (eased-8 old qs (turned-eased _ _ (kept .source)) (turned-eased _ _ (kept .target)) (ap fault-8 (sym at) ∙ then-left _ _ r8))
               (then-none _ _ (rule-9-kept ps qs src tgt (then-left _ _ r9)) (rule-10-kept ps qs src tgt (then-right (fault-9 ps) _ r9)))));
         }
       where
         listed : (b : List Part) (p : Part) (a : List Part) (x : Part) (xs : List Part)
-            → order-parts (split-order (p .goal)) b ++ (first-half cut tcut p ∷ second-half cut tcut new p ∷ order-parts (split-order (p .goal)) a) ≡ x ∷ xs
+            → order-parts (split-order (p .target)) b ++ (first-half cut tcut p ∷ second-half cut tcut new p ∷ order-parts (split-order (p .target)) a) ≡ x ∷ xs
             → split-focus cut tcut new (u .parts) (here b p a) ≡ x ∷ xs
         listed b p a x xs e = e
 

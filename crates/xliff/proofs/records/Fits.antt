@@ -10,7 +10,7 @@ use borrow.Author.Tests.{eqb-true, ltb-true, ltb-false}
 use Rattle.xliff.specs.Bytes.{'-', 'E', 'F', 'G', 'I', 'N', 'R', 'S', 'T', 'U', 'X', 'Y', Bytes, no-bytes, one-byte, two, among, gather}
 use Rattle.xliff.specs.Text.{utf8-1, utf8-2, utf8-3, utf8-4, utf8, utf8s}
 use Rattle.xliff.specs.Item.{Item, Content, start, end, form-P, form-S, text, character, standalone, isolated, pair, annotation-start, annotation-end, mark}
-use Rattle.xliff.specs.Unit.{Head, segment, ignorable, Target, no-target, target, Part, TheUnit, head-id, order-list, orders}
+use Rattle.xliff.specs.Unit.{Head, segment, ignorable, Target, no-target, target, Part, XliffUnit, head-id, order-list, orders}
 use Rattle.xliff.specs.Encode.{Record, opening, closing, part-head, target-head, text-run, inline, ill-text, broken, field-bytes, head-bytes, record-bytes, text-before, item-before, content-records, target-records, part-records, unit-records, spell}
 use Rattle.xliff.specs.Rules.{bad-order}
 use Rattle.xliff.proofs.lists.Each.{Each, each-nil, each-cons, each-append, each-left, each-right}
@@ -195,7 +195,7 @@ FitTarget (target q xs) = FitContent xs
 pub record FitPart (p : Part) : Type 0 where
   pub head : head-id (p .head) < 65536
   pub source : FitContent (p .source)
-  pub goal : FitTarget (p .goal)
+  pub target : FitTarget (p .target)
 
 abbrev pub FitParts : List Part → Type 0
 FitParts ps = Each FitPart ps
@@ -264,12 +264,12 @@ pub parts-from : (ps : List Part) → AllFit (gather part-records ps) → FitPar
 unfolding gather part-records
 parts-from [] h = each-nil
 parts-from (p ∷ ps) (each-cons f h) =
-    let mine = each-left (content-records (p .source) ++ target-records (p .goal)) (gather part-records ps) h in
+    let mine = each-left (content-records (p .source) ++ target-records (p .target)) (gather part-records ps) h in
     each-cons
-    (record { head = f; source = content-from (p .source) (each-left (content-records (p .source)) _ mine); goal = goal-from (p .goal) (each-right (content-records (p .source)) _ mine) })
-    (parts-from ps (each-right (content-records (p .source) ++ target-records (p .goal)) (gather part-records ps) h))
+    (record { head = f; source = content-from (p .source) (each-left (content-records (p .source)) _ mine); target = goal-from (p .target) (each-right (content-records (p .source)) _ mine) })
+    (parts-from ps (each-right (content-records (p .source) ++ target-records (p .target)) (gather part-records ps) h))
 
-pub unit-from : (u : TheUnit) → AllFit (unit-records u) → FitParts (u .parts)
+pub unit-from : (u : XliffUnit) → AllFit (unit-records u) → FitParts (u .parts)
 unfolding unit-records
 unit-from u (each-cons f h) = parts-from (u .parts) (each-left (gather part-records (u .parts)) (closing ∷ []) h)
 
@@ -285,20 +285,20 @@ some-to q xs h l = each-cons l (content-to xs h)
 pub parts-to : (n : ℕ) (used : List ℕ) (ps : List Part) → n < 65536 → orders-fit n used (orders ps) ≡ true → FitParts ps → AllFit (gather part-records ps)
 unfolding gather part-records orders order-list orders-fit bad-order
 parts-to n used [] l e each-nil = each-nil
-parts-to n used (p ∷ ps) l e (each-cons f h) = by (p .goal) refl e (f .goal) (λ u k. parts-to n u ps l k h)
+parts-to n used (p ∷ ps) l e (each-cons f h) = by (p .target) refl e (f .target) (λ u k. parts-to n u ps l k h)
   where
     IH : Type 0
     IH = (u : List ℕ) → orders-fit n u (orders ps) ≡ true → AllFit (gather part-records ps)
 
-    by : (g : Target) → p .goal ≡ g → orders-fit n used (order-list g ++ orders ps) ≡ true → FitTarget g → IH
-        → AllFit (part-head (p .head) ∷ (content-records (p .source) ++ target-records (p .goal)) ++ gather part-records ps)
+    by : (g : Target) → p .target ≡ g → orders-fit n used (order-list g ++ orders ps) ≡ true → FitTarget g → IH
+        → AllFit (part-head (p .head) ∷ (content-records (p .source) ++ target-records (p .target)) ++ gather part-records ps)
     by no-target q k t ih =
-        each-cons (f .head) (each-append (content-records (p .source) ++ target-records (p .goal)) (gather part-records ps)
-        (each-append (content-records (p .source)) (target-records (p .goal)) (content-to (p .source) (f .source)) (subst (λ (z : Target). AllFit (target-records z)) (sym q) none-to)) (ih used k))
+        each-cons (f .head) (each-append (content-records (p .source) ++ target-records (p .target)) (gather part-records ps)
+        (each-append (content-records (p .source)) (target-records (p .target)) (content-to (p .source) (f .source)) (subst (λ (z : Target). AllFit (target-records z)) (sym q) none-to)) (ih used k))
     by (target o xs) q k t ih =
         let g : bad-order n used o ≡ false = not-true _ (and-left _ _ k) in
         let r : ltb n o || among o used ≡ false = or-right (eqb o 0) _ g in
         let s : o ≤ n = ltb-false n o (or-left _ _ r) in
-        each-cons (f .head) (each-append (content-records (p .source) ++ target-records (p .goal)) (gather part-records ps)
-        (each-append (content-records (p .source)) (target-records (p .goal)) (content-to (p .source) (f .source))
+        each-cons (f .head) (each-append (content-records (p .source) ++ target-records (p .target)) (gather part-records ps)
+        (each-append (content-records (p .source)) (target-records (p .target)) (content-to (p .source) (f .source))
         (subst (λ (z : Target). AllFit (target-records z)) (sym q) (some-to o xs t (omega arith)))) (ih (o ∷ used) (and-right (not (bad-order n used o)) _ k)))

@@ -8,7 +8,7 @@ use lib.ListN.{length, drop}
 use lib.Seq.{drop-append-seam}
 use Rattle.xliff.specs.Bytes.{gather}
 use Rattle.xliff.specs.Item.{Item, Content, start, end, form-P, form-S, text, character, standalone, isolated, pair, annotation-start, annotation-end, mark}
-use Rattle.xliff.specs.Unit.{segment, ignorable, Target, no-target, target, Part, TheUnit}
+use Rattle.xliff.specs.Unit.{segment, ignorable, Target, no-target, target, Part, XliffUnit}
 use Rattle.xliff.specs.Encode.{Record, opening, closing, part-head, target-head, text-run, inline, ill-text, broken, head-bytes, record-bytes, text-before, item-before, content-records, target-records, part-records, unit-records, spell, encode}
 use Rattle.xliff.specs.Parse.{is-broken, read, Entry, walk, most-records, entries, records, Reading, take-record, reading, opening-letter, unit}
 use Rattle.xliff.proofs.lists.Each.{Each, each-cons}
@@ -87,7 +87,7 @@ records-spell rs a h = ap (map (λ (e : Entry). e .the)) (walk-spell (suc most-r
 
 -- items in front of a reading
 unfoldable pub onto : Content → Reading → Reading
-onto xs g = record { items = xs ++ g .items; goal = g .goal; parts = g .parts }
+onto xs g = record { items = xs ++ g .items; target = g .target; parts = g .parts }
 
 reading-text : (c : ℕ) (ys rs : List Record) → reading (text-before c ys ++ rs) ≡ onto (text c ∷ []) (reading (ys ++ rs))
 unfolding text-before reading take-record onto
@@ -119,26 +119,26 @@ reading-content (x ∷ xs) rs = reading-item x (content-records xs) rs ∙ ap (o
 
 -- the parts of a unit are read back
 abbrev Outside : List Part → Reading
-Outside ps = record { items = []; goal = no-target; parts = ps }
+Outside ps = record { items = []; target = no-target; parts = ps }
 
 reading-goal : (g : Target) (rs : List Record) (ps : List Part) → reading rs ≡ Outside ps
-    → reading (target-records g ++ rs) ≡ record { items = []; goal = g; parts = ps }
+    → reading (target-records g ++ rs) ≡ record { items = []; target = g; parts = ps }
 unfolding target-records reading take-record onto
 reading-goal no-target rs ps e = e
 reading-goal (target o xs) rs ps e =
     ap (take-record (target-head o)) (reading-content xs rs ∙ ap (onto xs) e)
-    ∙ ap (λ (ys : Content). record { items = []; goal = target o ys; parts = ps }) (append-nil xs)
+    ∙ ap (λ (ys : Content). record { items = []; target = target o ys; parts = ps }) (append-nil xs)
 
 reading-inside : (xs : Content) (g : Target) (rs : List Record) (ps : List Part) → reading rs ≡ Outside ps
-    → reading (content-records xs ++ target-records g ++ rs) ≡ record { items = xs; goal = g; parts = ps }
+    → reading (content-records xs ++ target-records g ++ rs) ≡ record { items = xs; target = g; parts = ps }
 unfolding onto
 reading-inside xs g rs ps e =
     ap reading (append-assoc (content-records xs) (target-records g) rs) ∙ reading-content xs (target-records g ++ rs)
-    ∙ ap (onto xs) (reading-goal g rs ps e) ∙ ap (λ (ys : Content). record { items = ys; goal = g; parts = ps }) (append-nil xs)
+    ∙ ap (onto xs) (reading-goal g rs ps e) ∙ ap (λ (ys : Content). record { items = ys; target = g; parts = ps }) (append-nil xs)
 
 reading-part : (p : Part) (rs : List Record) (ps : List Part) → reading rs ≡ Outside ps → reading (part-records p ++ rs) ≡ Outside (p ∷ ps)
 unfolding part-records reading take-record
-reading-part p rs ps e = ap (take-record (part-head (p .head))) (reading-inside (p .source) (p .goal) rs ps e)
+reading-part p rs ps e = ap (take-record (part-head (p .head))) (reading-inside (p .source) (p .target) rs ps e)
 
 pub reading-parts : (ps : List Part) → reading (gather part-records ps ++ (closing ∷ [])) ≡ Outside ps
 unfolding gather reading take-record
@@ -147,7 +147,7 @@ reading-parts (p ∷ ps) =
     ap reading (append-assoc (part-records p) (gather part-records ps) (closing ∷ []))
     ∙ reading-part p (gather part-records ps ++ (closing ∷ [])) ps (reading-parts ps)
 
-pub records-unit : (u : TheUnit) → AllGood (unit-records u) → length (unit-records u) ≤ suc most-records → unit (encode u) ≡ u
+pub records-unit : (u : XliffUnit) → AllGood (unit-records u) → length (unit-records u) ≤ suc most-records → unit (encode u) ≡ u
 unfolding unit encode unit-records opening-letter reading take-record
 records-unit u a h =
     ap (λ (rs : List Record). record { canResegment = opening-letter rs; parts = reading rs .parts }) (records-spell (unit-records u) a h)

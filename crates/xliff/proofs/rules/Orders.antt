@@ -26,18 +26,18 @@ orders-fit n used (q ∷ qs) = not (bad-order n used q) && orders-fit n (q ∷ u
 pub rule-5 : (n at : ℕ) (used : List ℕ) (ps : List Part) → first-bad-order n used (located-from at ps) ≡ none → orders-fit n used (orders ps) ≡ true
 unfolding first-bad-order located-from orders order-list gather orders-fit
 rule-5 n at used [] e = refl
-rule-5 n at used (p ∷ ps) e = by (p .goal) refl (λ used′. rule-5 n (at + part-size p) used′ ps)
+rule-5 n at used (p ∷ ps) e = by (p .target) refl (λ used′. rule-5 n (at + part-size p) used′ ps)
   where
     IH : Type 0
     IH = (used′ : List ℕ) → first-bad-order n used′ (located-from (at + part-size p) ps) ≡ none → orders-fit n used′ (orders ps) ≡ true
 
-    more : (q : ℕ) (xs : Content) → p .goal ≡ target q xs → (b : Bool) → bad-order n used q ≡ b
+    more : (q : ℕ) (xs : Content) → p .target ≡ target q xs → (b : Bool) → bad-order n used q ≡ b
         → cond b (refusal 5 (order-at (record { part = p; at = at }))) (first-bad-order n (q ∷ used) (located-from (at + part-size p) ps)) ≡ none
         → IH → not b && orders-fit n (q ∷ used) (orders ps) ≡ true
     more q xs g true h k ih = absurd (none-some (sym k))
     more q xs g false h k ih = ih (q ∷ used) k
 
-    by : (g : Target) → p .goal ≡ g → IH → orders-fit n used (order-list g ++ orders ps) ≡ true
+    by : (g : Target) → p .target ≡ g → IH → orders-fit n used (order-list g ++ orders ps) ≡ true
     by no-target g ih = ih used (rw (g, first-bad-order) at e)
     by (target q xs) g ih = more q xs g (bad-order n used q) refl (rw (g, first-bad-order) at e) ih
 
@@ -98,9 +98,9 @@ order-fits n used (r ∷ qs) q rs e =
 pub unused-order : (q : ℕ) (ps : List Part) → among q (orders ps) ≡ false → target-of-order ps q ≡ []
 unfolding orders order-list target-of-order gather among of-order
 unused-order q [] e = refl
-unused-order q (p ∷ ps) e = by (p .goal) refl e (unused-order q ps)
+unused-order q (p ∷ ps) e = by (p .target) refl e (unused-order q ps)
   where
-    by : (g : Target) → p .goal ≡ g → among q (order-list g ++ orders ps) ≡ false → (among q (orders ps) ≡ false → target-of-order ps q ≡ [])
+    by : (g : Target) → p .target ≡ g → among q (order-list g ++ orders ps) ≡ false → (among q (orders ps) ≡ false → target-of-order ps q ≡ [])
         → of-order q g ++ target-of-order ps q ≡ []
     by no-target g k ih = ih k
     by (target r xs) g k ih = rw (or-left (eqb q r) (among q (orders ps)) k) (ih (or-right (eqb q r) _ k))
@@ -118,7 +118,7 @@ eqb-same a b c d f g = by (eqb a b) (eqb c d) refl refl
 pub moved : (f : ℕ → ℕ) (q r : ℕ) (ps : List Part) → ((o : ℕ) → (q ≡ f o → r ≡ o) × (r ≡ o → q ≡ f o)) → target-of-order (order-parts f ps) q ≡ target-of-order ps r
 unfolding target-of-order order-parts order-part gather of-order order-target
 moved f q r [] h = refl
-moved f q r (p ∷ ps) h = ap₂ _++_ (by (p .goal)) (moved f q r ps h)
+moved f q r (p ∷ ps) h = ap₂ _++_ (by (p .target)) (moved f q r ps h)
   where
     by : (g : Target) → of-order q (order-target f g) ≡ of-order r g
     by no-target = refl
@@ -148,7 +148,7 @@ targets-same ps qs q r (suc n) h =
 
 pub target-append : (ps qs : List Part) (q : ℕ) → target-of-order (ps ++ qs) q ≡ target-of-order ps q ++ target-of-order qs q
 unfolding target-of-order
-target-append ps qs q = gather-append (λ p. of-order q (p .goal)) ps qs
+target-append ps qs q = gather-append (λ p. of-order q (p .target)) ps qs
 
 -- orders above q rise by 1
 raised-low : (q k o : ℕ) → k ≤ q → (k ≡ raise-above q o → k ≡ o) × (k ≡ o → k ≡ raise-above q o)
@@ -179,7 +179,7 @@ raised-gap q o = by (ltb q o) refl
 gap : (q : ℕ) (ps : List Part) → target-of-order (order-parts (raise-above q) ps) (suc q) ≡ []
 unfolding target-of-order order-parts order-part gather of-order order-target
 gap q [] = refl
-gap q (p ∷ ps) = by (p .goal) (gap q ps)
+gap q (p ∷ ps) = by (p .target) (gap q ps)
   where
     by : (g : Target) → target-of-order (order-parts (raise-above q) ps) (suc q) ≡ []
         → of-order (suc q) (order-target (raise-above q) g) ++ target-of-order (order-parts (raise-above q) ps) (suc q) ≡ []
@@ -188,7 +188,7 @@ gap q (p ∷ ps) = by (p .goal) (gap q ps)
 
 -- The target sequence of a split: one part with a target of order q becomes two, of orders q and q + 1
 module _ (b a : List Part) (p f s : Part) (q : ℕ) (xs ys zs : Content)
-    (pt : p .goal ≡ target q xs) (ft : f .goal ≡ target q ys) (st : s .goal ≡ target (suc q) zs)
+    (pt : p .target ≡ target q xs) (ft : f .target ≡ target q ys) (st : s .target ≡ target (suc q) zs)
     (low : 1 ≤ q) (high : q ≤ length (b ++ (p ∷ a))) (nb : target-of-order b q ≡ []) (na : target-of-order a q ≡ []) where
   abbrev old : List Part
   old = b ++ (p ∷ a)
@@ -206,11 +206,11 @@ module _ (b a : List Part) (p f s : Part) (q : ℕ) (xs ys zs : Content)
 
   -- the three at an order
   new-at : (k : ℕ) → target-of-order new k
-      ≡ target-of-order (order-parts (raise-above q) b) k ++ (of-order k (f .goal) ++ (of-order k (s .goal) ++ target-of-order (order-parts (raise-above q) a) k))
+      ≡ target-of-order (order-parts (raise-above q) b) k ++ (of-order k (f .target) ++ (of-order k (s .target) ++ target-of-order (order-parts (raise-above q) a) k))
   unfolding target-of-order gather
   new-at k = target-append (order-parts (raise-above q) b) (f ∷ s ∷ order-parts (raise-above q) a) k
 
-  old-at : (k : ℕ) → target-of-order old k ≡ target-of-order b k ++ (of-order k (p .goal) ++ target-of-order a k)
+  old-at : (k : ℕ) → target-of-order old k ≡ target-of-order b k ++ (of-order k (p .target) ++ target-of-order a k)
   unfolding target-of-order gather
   old-at k = target-append b (p ∷ a) k
 
@@ -218,35 +218,35 @@ module _ (b a : List Part) (p f s : Part) (q : ℕ) (xs ys zs : Content)
   below k l =
       new-at k
       ∙ ap₂ (λ (u v : Content). u ++ v) (moved (raise-above q) k k b (λ o. raised-low q k o (omega arith)))
-      (ap₂ (λ (u v : Content). u ++ v) (at-other k (f .goal) q ys ft (λ e. omega arith) ∙ sym (at-other k (p .goal) q xs pt (λ e. omega arith)))
-      (ap₂ (λ (u v : Content). u ++ v) (at-other k (s .goal) (suc q) zs st (λ e. omega arith)) (moved (raise-above q) k k a (λ o. raised-low q k o (omega arith)))))
+      (ap₂ (λ (u v : Content). u ++ v) (at-other k (f .target) q ys ft (λ e. omega arith) ∙ sym (at-other k (p .target) q xs pt (λ e. omega arith)))
+      (ap₂ (λ (u v : Content). u ++ v) (at-other k (s .target) (suc q) zs st (λ e. omega arith)) (moved (raise-above q) k k a (λ o. raised-low q k o (omega arith)))))
       ∙ sym (old-at k)
 
   above : (k : ℕ) → q < k → target-of-order new (suc k) ≡ target-of-order old k
   above k l =
       new-at (suc k)
       ∙ ap₂ (λ (u v : Content). u ++ v) (moved (raise-above q) (suc k) k b (λ o. raised-high q k o l))
-      (ap₂ (λ (u v : Content). u ++ v) (at-other (suc k) (f .goal) q ys ft (λ e. omega arith) ∙ sym (at-other k (p .goal) q xs pt (λ e. omega arith)))
-      (ap₂ (λ (u v : Content). u ++ v) (at-other (suc k) (s .goal) (suc q) zs st (λ e. omega arith)) (moved (raise-above q) (suc k) k a (λ o. raised-high q k o l))))
+      (ap₂ (λ (u v : Content). u ++ v) (at-other (suc k) (f .target) q ys ft (λ e. omega arith) ∙ sym (at-other k (p .target) q xs pt (λ e. omega arith)))
+      (ap₂ (λ (u v : Content). u ++ v) (at-other (suc k) (s .target) (suc q) zs st (λ e. omega arith)) (moved (raise-above q) (suc k) k a (λ o. raised-high q k o l))))
       ∙ sym (old-at k)
 
   at-q : target-of-order old q ≡ xs
-  at-q = old-at q ∙ ap₂ (λ (u v : Content). u ++ v) nb (ap₂ (λ (u v : Content). u ++ v) (at-own (p .goal) q xs pt) na ∙ append-nil xs)
+  at-q = old-at q ∙ ap₂ (λ (u v : Content). u ++ v) nb (ap₂ (λ (u v : Content). u ++ v) (at-own (p .target) q xs pt) na ∙ append-nil xs)
 
   at-first : target-of-order new q ≡ ys
   at-first =
       new-at q
       ∙ ap₂ (λ (u v : Content). u ++ v) (moved (raise-above q) q q b (λ o. raised-low q q o (omega arith)) ∙ nb)
-      (ap₂ (λ (u v : Content). u ++ v) (at-own (f .goal) q ys ft)
-      (ap₂ (λ (u v : Content). u ++ v) (at-other q (s .goal) (suc q) zs st (λ e. omega arith)) (moved (raise-above q) q q a (λ o. raised-low q q o (omega arith)) ∙ na))
+      (ap₂ (λ (u v : Content). u ++ v) (at-own (f .target) q ys ft)
+      (ap₂ (λ (u v : Content). u ++ v) (at-other q (s .target) (suc q) zs st (λ e. omega arith)) (moved (raise-above q) q q a (λ o. raised-low q q o (omega arith)) ∙ na))
       ∙ append-nil ys)
 
   at-second : target-of-order new (suc q) ≡ zs
   at-second =
       new-at (suc q)
       ∙ ap₂ (λ (u v : Content). u ++ v) (gap q b)
-      (ap₂ (λ (u v : Content). u ++ v) (at-other (suc q) (f .goal) q ys ft (λ e. omega arith))
-      (ap₂ (λ (u v : Content). u ++ v) (at-own (s .goal) (suc q) zs st) (gap q a) ∙ append-nil zs))
+      (ap₂ (λ (u v : Content). u ++ v) (at-other (suc q) (f .target) q ys ft (λ e. omega arith))
+      (ap₂ (λ (u v : Content). u ++ v) (at-own (s .target) (suc q) zs st) (gap q a) ∙ append-nil zs))
 
   new-length : length new ≡ suc (length old)
   unfolding order-parts

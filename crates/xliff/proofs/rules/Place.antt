@@ -15,24 +15,24 @@ use Rattle.xliff.proofs.rules.Orders.{orders-fit, order-fits, unused-or
 use Rattle.xliff.proofs.operations.SplitTarget.{orders-append, fault-5-fits}
 
 module _ (b : List Part) (p : Part) (a : List Part) where
-  at-order : (k : ℕ) → target-of-order (b ++ (p ∷ a)) k ≡ target-of-order b k ++ (of-order k (p .goal) ++ target-of-order a k)
+  at-order : (k : ℕ) → target-of-order (b ++ (p ∷ a)) k ≡ target-of-order b k ++ (of-order k (p .target) ++ target-of-order a k)
   unfolding target-of-order gather
   at-order k = target-append b (p ∷ a) k
 
   -- where the part has nothing of an order
-  at-rest : (k : ℕ) → of-order k (p .goal) ≡ [] → target-of-order (b ++ (p ∷ a)) k ≡ target-of-order (b ++ a) k
+  at-rest : (k : ℕ) → of-order k (p .target) ≡ [] → target-of-order (b ++ (p ∷ a)) k ≡ target-of-order (b ++ a) k
   at-rest k e = at-order k ∙ ap (λ (l : Content). target-of-order b k ++ (l ++ target-of-order a k)) e ∙ sym (target-append b a k)
 
-  other-order : (q : ℕ) (c : Content) → p .goal ≡ target q c → (k : ℕ) → (k ≡ q → ⊥) → of-order k (p .goal) ≡ []
+  other-order : (q : ℕ) (c : Content) → p .target ≡ target q c → (k : ℕ) → (k ≡ q → ⊥) → of-order k (p .target) ≡ []
   unfolding of-order
   other-order q c e k n = ap (of-order k) e ∙ ap (λ (z : Bool). cond z c []) (ne-eqb k q n)
 
-  no-order : p .goal ≡ no-target → (k : ℕ) → of-order k (p .goal) ≡ []
+  no-order : p .target ≡ no-target → (k : ℕ) → of-order k (p .target) ≡ []
   unfolding of-order
   no-order e k = ap (of-order k) e
 
   -- the sequence taken apart at the order q
-  slot : (q n : ℕ) → 1 ≤ q → q ≤ n → ((k : ℕ) → (k ≡ q → ⊥) → of-order k (p .goal) ≡ [])
+  slot : (q n : ℕ) → 1 ≤ q → q ≤ n → ((k : ℕ) → (k ≡ q → ⊥) → of-order k (p .target) ≡ [])
       → targets (b ++ (p ∷ a)) 0 n ≡ targets (b ++ a) 0 (q - 1) ++ (target-of-order (b ++ (p ∷ a)) q ++ targets (b ++ a) q (n - q))
   unfolding targets
   slot q n l h f =
@@ -45,26 +45,26 @@ module _ (b : List Part) (p : Part) (a : List Part) where
       ∙ ap (λ (x : Content). targets (b ++ a) 0 (q - 1) ++ (target-of-order (b ++ (p ∷ a)) q ++ x))
       (targets-same (b ++ (p ∷ a)) (b ++ a) q q (n - q) (λ k m. at-rest (suc (q + k)) (f (suc (q + k)) (λ z. omega arith))))
 
-  pub with-place : (q : ℕ) (c : Content) (n : ℕ) → p .goal ≡ target q c → 1 ≤ q → q ≤ n → among q (orders b) ≡ false → among q (orders a) ≡ false
+  pub with-place : (q : ℕ) (c : Content) (n : ℕ) → p .target ≡ target q c → 1 ≤ q → q ≤ n → among q (orders b) ≡ false → among q (orders a) ≡ false
       → targets (b ++ (p ∷ a)) 0 n ≡ targets (b ++ a) 0 (q - 1) ++ (c ++ targets (b ++ a) q (n - q))
   unfolding of-order
   with-place q c n e l h nb na =
       slot q n l h (other-order q c e)
       ∙ ap (λ (x : Content). targets (b ++ a) 0 (q - 1) ++ (x ++ targets (b ++ a) q (n - q)))
       (at-order q
-      ∙ ap₂ (λ (x y : Content). x ++ (of-order q (p .goal) ++ y)) (unused-order q b nb) (unused-order q a na)
-      ∙ append-nil (of-order q (p .goal)) ∙ ap (of-order q) e ∙ ap (λ (z : Bool). cond z c []) (eq-eqb q q refl))
+      ∙ ap₂ (λ (x y : Content). x ++ (of-order q (p .target) ++ y)) (unused-order q b nb) (unused-order q a na)
+      ∙ append-nil (of-order q (p .target)) ∙ ap (of-order q) e ∙ ap (λ (z : Bool). cond z c []) (eq-eqb q q refl))
 
-  pub without-place : (q n : ℕ) → p .goal ≡ no-target → 1 ≤ q → q ≤ n → among q (orders b) ≡ false → among q (orders a) ≡ false
+  pub without-place : (q n : ℕ) → p .target ≡ no-target → 1 ≤ q → q ≤ n → among q (orders b) ≡ false → among q (orders a) ≡ false
       → targets (b ++ (p ∷ a)) 0 n ≡ targets (b ++ a) 0 (q - 1) ++ targets (b ++ a) q (n - q)
   without-place q n e l h nb na =
       slot q n l h (λ k d. no-order e k)
       ∙ ap (λ (x : Content). targets (b ++ a) 0 (q - 1) ++ (x ++ targets (b ++ a) q (n - q)))
-      (at-order q ∙ ap₂ (λ (x y : Content). x ++ (of-order q (p .goal) ++ y)) (unused-order q b nb) (unused-order q a na)
-      ∙ append-nil (of-order q (p .goal)) ∙ no-order e q)
+      (at-order q ∙ ap₂ (λ (x y : Content). x ++ (of-order q (p .target) ++ y)) (unused-order q b nb) (unused-order q a na)
+      ∙ append-nil (of-order q (p .target)) ∙ no-order e q)
 
 -- with 5 met a target has its place
-pub place : (b : List Part) (p : Part) (a : List Part) (q : ℕ) (c : Content) → p .goal ≡ target q c → fault-5 (b ++ (p ∷ a)) ≡ none
+pub place : (b : List Part) (p : Part) (a : List Part) (q : ℕ) (c : Content) → p .target ≡ target q c → fault-5 (b ++ (p ∷ a)) ≡ none
     → (1 ≤ q) × (q ≤ length (b ++ (p ∷ a))) × (among q (orders b) ≡ false) × (among q (orders a) ≡ false)
 unfolding orders order-list gather
 place b p a q c e five =
@@ -76,7 +76,7 @@ place b p a q c e five =
 same-length : (b : List Part) (p q : Part) (a : List Part) → length (b ++ (q ∷ a)) ≡ length (b ++ (p ∷ a))
 same-length b p q a = length-append b (q ∷ a) ∙ sym (length-append b (p ∷ a))
 
-pub taken-out : (b : List Part) (p p′ : Part) (a : List Part) (q : ℕ) (c : Content) → p .goal ≡ target q c → p′ .goal ≡ no-target → fault-5 (b ++ (p ∷ a)) ≡ none
+pub taken-out : (b : List Part) (p p′ : Part) (a : List Part) (q : ℕ) (c : Content) → p .target ≡ target q c → p′ .target ≡ no-target → fault-5 (b ++ (p ∷ a)) ≡ none
     → (u v : Content) × (target-sequence (b ++ (p ∷ a)) ≡ u ++ (c ++ v)) × (target-sequence (b ++ (p′ ∷ a)) ≡ u ++ v)
 unfolding target-sequence
 taken-out b p p′ a q c e e′ five =
@@ -88,7 +88,7 @@ taken-out b p p′ a q c e e′ five =
       ap (targets (b ++ (p′ ∷ a)) 0) (same-length b p p′ a) ∙ without-place b p′ a q n e′ l h nb na,
     )
 
-pub put-in-place : (b : List Part) (p p′ : Part) (a : List Part) (q : ℕ) (c c′ : Content) → p .goal ≡ target q c → p′ .goal ≡ target q c′ → fault-5 (b ++ (p ∷ a)) ≡ none
+pub put-in-place : (b : List Part) (p p′ : Part) (a : List Part) (q : ℕ) (c c′ : Content) → p .target ≡ target q c → p′ .target ≡ target q c′ → fault-5 (b ++ (p ∷ a)) ≡ none
     → (u v : Content) × (target-sequence (b ++ (p ∷ a)) ≡ u ++ (c ++ v)) × (target-sequence (b ++ (p′ ∷ a)) ≡ u ++ (c′ ++ v))
 unfolding target-sequence
 put-in-place b p p′ a q c c′ e e′ five =

@@ -41,18 +41,18 @@ items-of-order q at (target r xs) = by (eqb q r)
     by false = refl
 
 items-target-of-order : (q at : ℕ) (ps : List Part)
-    → items (gather (λ l. placed-of-order q (target-at l) (l .part .goal)) (located-from at ps)) ≡ target-of-order ps q
+    → items (gather (λ l. placed-of-order q (target-at l) (l .part .target)) (located-from at ps)) ≡ target-of-order ps q
 unfolding located-from gather target-of-order items
 items-target-of-order q at [] = refl
 items-target-of-order q at (p ∷ ps) =
-    items-append (placed-of-order q (target-at (record { part = p; at = at })) (p .goal)) (gather (λ l. placed-of-order q (target-at l) (l .part .goal)) (located-from (at + part-size p) ps))
-    ∙ ap₂ _++_ (items-of-order q (target-at (record { part = p; at = at })) (p .goal)) (items-target-of-order q (at + part-size p) ps)
+    items-append (placed-of-order q (target-at (record { part = p; at = at })) (p .target)) (gather (λ l. placed-of-order q (target-at l) (l .part .target)) (located-from (at + part-size p) ps))
+    ∙ ap₂ _++_ (items-of-order q (target-at (record { part = p; at = at })) (p .target)) (items-target-of-order q (at + part-size p) ps)
 
 items-targets : (at q n : ℕ) (ps : List Part) → items (placed-targets (located-from at ps) q n) ≡ targets ps q n
 unfolding placed-targets targets items
 items-targets at q zero ps = refl
 items-targets at q (suc n) ps =
-    items-append (gather (λ l. placed-of-order (suc q) (target-at l) (l .part .goal)) (located-from at ps)) (placed-targets (located-from at ps) (suc q) n)
+    items-append (gather (λ l. placed-of-order (suc q) (target-at l) (l .part .target)) (located-from at ps)) (placed-targets (located-from at ps) (suc q) n)
     ∙ ap₂ _++_ (items-target-of-order (suc q) at ps) (items-targets at (suc q) n ps)
 
 length-located : (at : ℕ) (ps : List Part) → length (located-from at ps) ≡ length ps

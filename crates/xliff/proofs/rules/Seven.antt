@@ -24,14 +24,14 @@ use Rattle.xliff.proofs.rules.Six.{start-bit, starts, source-ids, targe
 
 -- the sources of the parts without target
 unfoldable pub bare : Part → Content
-bare p = cond (has-target (p .goal)) [] (p .source)
+bare p = cond (has-target (p .target)) [] (p .source)
 
 unfoldable pub bare-sequence : List Part → Content
 bare-sequence ps = gather bare ps
 
 pub record BalancedPart (p : Part) : Type 0 where
   pub source : Balanced (p .source)
-  pub goal : Balanced (target-items (p .goal))
+  pub target : Balanced (target-items (p .target))
 
 abbrev pub AllBalanced : List Part → Type 0
 AllBalanced ps = Each BalancedPart ps
@@ -81,7 +81,7 @@ pub starts-target : (i : ℕ) (ps : List Part) → starts i (target-sequence ps)
 unfolding target-sequence
 starts-target i ps =
     let a = total-target-most (start-bit i) ps in
-    let b = sum-le (λ (p : Part). starts i (target-items (p .goal))) (target-ids i) (λ p. omega arith) ps in
+    let b = sum-le (λ (p : Part). starts i (target-items (p .target))) (target-ids i) (λ p. omega arith) ps in
     omega arith
 
 -- balanced contents in a row
@@ -109,7 +109,7 @@ of-order-run i q (target r xs) b = by (eqb q r)
 slot-run : (i q : ℕ) (ps : List Part) → AllBalanced ps → BalId i (target-of-order ps q)
 unfolding target-of-order gather
 slot-run i q [] each-nil = none-run i
-slot-run i q (p ∷ ps) (each-cons b h) = Bal-two i (of-order q (p .goal)) (target-of-order ps q) (of-order-run i q (p .goal) (b .goal)) (slot-run i q ps h)
+slot-run i q (p ∷ ps) (each-cons b h) = Bal-two i (of-order q (p .target)) (target-of-order ps q) (of-order-run i q (p .target) (b .target)) (slot-run i q ps h)
 
 target-run : (i q n : ℕ) (ps : List Part) → AllBalanced ps → BalId i (targets ps q n)
 unfolding targets
@@ -127,14 +127,14 @@ contents-balanced at [] e = each-nil
 contents-balanced at (p ∷ ps) e =
     let l : Located = record { part = p; at = at } in
     let s : List Placed = placed-from (source-at l) [] (p .source) in
-    let t : List Placed = placed-target (target-at l) (p .goal) in
+    let t : List Placed = placed-target (target-at l) (p .target) in
     let a : blamed lone-P [] s ≡ [] = append-nil-left _ _ e in
     let r = append-nil-right (blamed lone-P [] s) _ e in
     let b : blamed lone-P [] t ≡ [] = append-nil-left _ _ r in
     each-cons
     (record {
       source = clear-balanced (p .source) (ap (clear lone-P []) (sym (items-placed (source-at l) [] (p .source))) ∙ clear-blamed lone-P [] s a);
-      goal = clear-balanced (target-items (p .goal)) (ap (clear lone-P []) (sym (items-goal (target-at l) (p .goal))) ∙ clear-blamed lone-P [] t b);
+      target = clear-balanced (target-items (p .target)) (ap (clear lone-P []) (sym (items-goal (target-at l) (p .target))) ∙ clear-blamed lone-P [] t b);
     })
     (contents-balanced (at + part-size p) ps (append-nil-right (blamed lone-P [] t) _ r))
 
@@ -144,7 +144,7 @@ balanced-contents at [] each-nil = refl
 balanced-contents at (p ∷ ps) (each-cons b h) =
     let l : Located = record { part = p; at = at } in
     ap₂ _++_ (blamed-clear lone-P [] (placed-from (source-at l) [] (p .source)) (ap (clear lone-P []) (items-placed (source-at l) [] (p .source)) ∙ balanced-clear (p .source) (b .source)))
-    (ap₂ _++_ (blamed-clear lone-P [] (placed-target (target-at l) (p .goal)) (ap (clear lone-P []) (items-goal (target-at l) (p .goal)) ∙ balanced-clear (target-items (p .goal)) (b .goal)))
+    (ap₂ _++_ (blamed-clear lone-P [] (placed-target (target-at l) (p .target)) (ap (clear lone-P []) (items-goal (target-at l) (p .target)) ∙ balanced-clear (target-items (p .target)) (b .target)))
     (balanced-contents (at + part-size p) ps h))
 
 -- with nothing that waits, no half may be alone
@@ -185,7 +185,7 @@ unfolding waiting bare-sequence gather source-sequence bare
 marks-waiting i earlier [] each-nil s = refl
 marks-waiting i earlier (p ∷ ps) (each-cons b h) s =
     marks-append i _ (waiting (reverseAux (p .source) earlier) ps)
-    ∙ ap₂ _++_ (by (has-target (p .goal))) (marks-waiting i (reverseAux (p .source) earlier) ps h (clear-drop lone-S earlier (p .source) (source-sequence ps) s))
+    ∙ ap₂ _++_ (by (has-target (p .target))) (marks-waiting i (reverseAux (p .source) earlier) ps h (clear-drop lone-S earlier (p .source) (source-sequence ps) s))
     ∙ sym (marks-append i (bare p) (bare-sequence ps))
   where
     by : (t : Bool) → marks i (cond t [] (with-partner earlier (source-sequence ps) [] (p .source))) ≡ marks i (cond t [] (p .source))

@@ -32,7 +32,7 @@ abbrev pub source-ids : ℕ → Part → ℕ
 source-ids i p = part-bit i p + starts i (p .source)
 
 abbrev pub target-ids : ℕ → Part → ℕ
-target-ids i p = part-bit i p + starts i (target-items (p .goal))
+target-ids i p = part-bit i p + starts i (target-items (p .target))
 
 pub record Rule6 (ps : List Part) : Type 0 where
   pub src : (i : ℕ) → sum (source-ids i) ps ≤ 1
@@ -230,29 +230,29 @@ names-ids : (w : Bool) (i : ℕ) (l : Located) → num w i (names l) ≡ ids w i
 unfolding names placed-source
 names-ids w i l =
     let s : List Placed = placed-from (source-at l) [] (l .part .source) in
-    let t : List Placed = placed-target (target-at l) (l .part .goal) in
+    let t : List Placed = placed-target (target-at l) (l .part .target) in
     let a = sum-append (one w i) (part-name l ++ gather (start-name of-source) s) (gather (start-name of-target) t) in
     let b = sum-append (one w i) (part-name l) (gather (start-name of-source) s) in
     let c = part-names w i l in
     by w a b c
   where
     by : (v : Bool)
-        → num v i (part-name l ++ gather (start-name of-source) (placed-from (source-at l) [] (l .part .source)) ++ gather (start-name of-target) (placed-target (target-at l) (l .part .goal)))
-        ≡ num v i (part-name l ++ gather (start-name of-source) (placed-from (source-at l) [] (l .part .source))) + num v i (gather (start-name of-target) (placed-target (target-at l) (l .part .goal)))
+        → num v i (part-name l ++ gather (start-name of-source) (placed-from (source-at l) [] (l .part .source)) ++ gather (start-name of-target) (placed-target (target-at l) (l .part .target)))
+        ≡ num v i (part-name l ++ gather (start-name of-source) (placed-from (source-at l) [] (l .part .source))) + num v i (gather (start-name of-target) (placed-target (target-at l) (l .part .target)))
         → num v i (part-name l ++ gather (start-name of-source) (placed-from (source-at l) [] (l .part .source)))
         ≡ num v i (part-name l) + num v i (gather (start-name of-source) (placed-from (source-at l) [] (l .part .source)))
         → num v i (part-name l) ≡ part-bit i (l .part)
-        → num v i (part-name l ++ gather (start-name of-source) (placed-from (source-at l) [] (l .part .source)) ++ gather (start-name of-target) (placed-target (target-at l) (l .part .goal)))
+        → num v i (part-name l ++ gather (start-name of-source) (placed-from (source-at l) [] (l .part .source)) ++ gather (start-name of-target) (placed-target (target-at l) (l .part .target)))
         ≡ ids v i (l .part)
     by true a b c =
         let d = start-names true i of-source (placed-from (source-at l) [] (l .part .source)) refl in
-        let e = no-names true i of-target (placed-target (target-at l) (l .part .goal)) refl in
+        let e = no-names true i of-target (placed-target (target-at l) (l .part .target)) refl in
         let f = ap (starts i) (items-placed (source-at l) [] (l .part .source)) in
         omega arith
     by false a b c =
         let d = no-names false i of-source (placed-from (source-at l) [] (l .part .source)) refl in
-        let e = start-names false i of-target (placed-target (target-at l) (l .part .goal)) refl in
-        let f = ap (starts i) (items-goal (target-at l) (l .part .goal)) in
+        let e = start-names false i of-target (placed-target (target-at l) (l .part .target)) refl in
+        let f = ap (starts i) (items-goal (target-at l) (l .part .target)) in
         omega arith
 
 all-names : (w : Bool) (i at : ℕ) (ps : List Part) → num w i (gather names (located-from at ps)) ≡ sum (ids w i) ps

@@ -31,7 +31,7 @@ pub target-ids-orders : (i : ℕ) (f : ℕ → ℕ) (ps : List Part) → sum (ta
 unfolding order-parts order-part
 target-ids-orders i f ps =
     sum-map (target-ids i) (order-part f) ps
-    ∙ sum-cong (λ p. target-ids i (order-part f p)) (target-ids i) (λ p. ap (λ (l : Content). part-bit i p + starts i l) (items-order f (p .goal))) ps
+    ∙ sum-cong (λ p. target-ids i (order-part f p)) (target-ids i) (λ p. ap (λ (l : Content). part-bit i p + starts i l) (items-order f (p .target))) ps
 
 -- good items
 pub good-form : (w : Form) (x : Item) → GoodIn x → GoodIn (in-form w x)

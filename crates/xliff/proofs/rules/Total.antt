@@ -60,25 +60,25 @@ module _ (f : Item → ℕ) where
           omega arith
       by false e ih = ih (let z = eqb-false (suc q) r e in omega arith) (omega arith)
 
-  slots-sum : (q n : ℕ) (ps : List Part) → sum f (targets ps q n) ≡ sum (λ p. sum f (slots (p .goal) q n)) ps
+  slots-sum : (q n : ℕ) (ps : List Part) → sum f (targets ps q n) ≡ sum (λ p. sum f (slots (p .target) q n)) ps
   unfolding targets target-of-order
   slots-sum q zero ps = nil ps
     where
-      nil : (l : List Part) → 0 ≡ sum (λ p. sum f (slots (p .goal) q zero)) l
+      nil : (l : List Part) → 0 ≡ sum (λ p. sum f (slots (p .target) q zero)) l
       nil [] = refl
       nil (p ∷ l) = let h = nil l in omega arith
   slots-sum q (suc n) ps =
-      sum-append f (gather (λ p. of-order (suc q) (p .goal)) ps) (targets ps (suc q) n)
-      ∙ ap₂ _+_ (sum-gather f (λ p. of-order (suc q) (p .goal)) ps) (slots-sum (suc q) n ps)
-      ∙ sum-add (λ (p : Part). sum f (of-order (suc q) (p .goal))) (λ p. sum f (slots (p .goal) (suc q) n)) ps
-      ∙ sum-cong (λ (p : Part). sum f (of-order (suc q) (p .goal)) + sum f (slots (p .goal) (suc q) n)) (λ p. sum f (slots (p .goal) q (suc n)))
-      (λ p. sym (sum-append f (of-order (suc q) (p .goal)) (slots (p .goal) (suc q) n))) ps
+      sum-append f (gather (λ p. of-order (suc q) (p .target)) ps) (targets ps (suc q) n)
+      ∙ ap₂ _+_ (sum-gather f (λ p. of-order (suc q) (p .target)) ps) (slots-sum (suc q) n ps)
+      ∙ sum-add (λ (p : Part). sum f (of-order (suc q) (p .target))) (λ p. sum f (slots (p .target) (suc q) n)) ps
+      ∙ sum-cong (λ (p : Part). sum f (of-order (suc q) (p .target)) + sum f (slots (p .target) (suc q) n)) (λ p. sum f (slots (p .target) q (suc n)))
+      (λ p. sym (sum-append f (of-order (suc q) (p .target)) (slots (p .target) (suc q) n))) ps
 
-  pub total-target-most : (ps : List Part) → sum f (target-sequence ps) ≤ sum (λ p. sum f (target-items (p .goal))) ps
+  pub total-target-most : (ps : List Part) → sum f (target-sequence ps) ≤ sum (λ p. sum f (target-items (p .target))) ps
   unfolding target-sequence
   total-target-most ps =
       let a = slots-sum 0 (length ps) ps in
-      let b = sum-le (λ (p : Part). sum f (slots (p .goal) 0 (length ps))) (λ p. sum f (target-items (p .goal))) (λ p. slots-once (p .goal) 0 (length ps)) ps in
+      let b = sum-le (λ (p : Part). sum f (slots (p .target) 0 (length ps))) (λ p. sum f (target-items (p .target))) (λ p. slots-once (p .target) 0 (length ps)) ps in
       omega arith
 
   -- with orders that fit
@@ -88,14 +88,14 @@ module _ (f : Item → ℕ) where
   slots-none q zero = refl
   slots-none q (suc n) = slots-none (suc q) n
 
-  fit-sum : (n : ℕ) (used : List ℕ) (ps : List Part) → orders-fit n used (orders ps) ≡ true → sum (λ p. sum f (slots (p .goal) 0 n)) ps ≡ sum (λ p. sum f (target-items (p .goal))) ps
+  fit-sum : (n : ℕ) (used : List ℕ) (ps : List Part) → orders-fit n used (orders ps) ≡ true → sum (λ p. sum f (slots (p .target) 0 n)) ps ≡ sum (λ p. sum f (target-items (p .target))) ps
   unfolding orders gather order-list orders-fit bad-order target-items
   fit-sum n used [] e = refl
-  fit-sum n used (p ∷ ps) e = by (p .goal) e (λ u k. fit-sum n u ps k)
+  fit-sum n used (p ∷ ps) e = by (p .target) e (λ u k. fit-sum n u ps k)
     where
       by : (g : Target) → orders-fit n used (order-list g ++ orders ps) ≡ true
-          → ((u : List ℕ) → orders-fit n u (orders ps) ≡ true → sum (λ p. sum f (slots (p .goal) 0 n)) ps ≡ sum (λ p. sum f (target-items (p .goal))) ps)
-          → sum f (slots g 0 n) + sum (λ p. sum f (slots (p .goal) 0 n)) ps ≡ sum f (target-items g) + sum (λ p. sum f (target-items (p .goal))) ps
+          → ((u : List ℕ) → orders-fit n u (orders ps) ≡ true → sum (λ p. sum f (slots (p .target) 0 n)) ps ≡ sum (λ p. sum f (target-items (p .target))) ps)
+          → sum f (slots g 0 n) + sum (λ p. sum f (slots (p .target) 0 n)) ps ≡ sum f (target-items g) + sum (λ p. sum f (target-items (p .target))) ps
       by no-target k ih = ap₂ _+_ (slots-none 0 n) (ih used k)
       by (target q xs) k ih =
           let g : bad-order n used q ≡ false = not-true _ (and-left _ _ k) in
@@ -103,6 +103,6 @@ module _ (f : Item → ℕ) where
           ap₂ _+_ (slots-full q xs 0 n (let z = eqb-false q 0 (or-left (eqb q 0) (ltb n q || among q used) g) in omega arith) (let z = ltb-false n q (or-left _ _ r) in omega arith))
           (ih (q ∷ used) (and-right (not (bad-order n used q)) _ k))
 
-  pub total-target : (ps : List Part) → fault-5 ps ≡ none → sum f (target-sequence ps) ≡ sum (λ p. sum f (target-items (p .goal))) ps
+  pub total-target : (ps : List Part) → fault-5 ps ≡ none → sum f (target-sequence ps) ≡ sum (λ p. sum f (target-items (p .target))) ps
   unfolding target-sequence
   total-target ps e = slots-sum 0 (length ps) ps ∙ fit-sum (length ps) [] ps (fault-5-fits ps e)

@@ -9,7 +9,7 @@ use lib.ListN.{length}
 use lib.Dec.{ltb}
 use borrow.Author.Tests.{ltb-false}
 use Rattle.xliff.specs.Bytes.{Bytes, gather}
-use Rattle.xliff.specs.Unit.{TheUnit}
+use Rattle.xliff.specs.Unit.{XliffUnit}
 use Rattle.xliff.specs.Encode.{closing, part-records, unit-records, encode}
 use Rattle.xliff.specs.Parse.{most-bytes, most-records, most-parts, unit}
 use Rattle.xliff.specs.Check.{Valid, too-large}
@@ -21,23 +21,23 @@ use Rattle.xliff.proofs.unit.Valid.{unit-runs}
 use Rattle.xliff.proofs.unit.Result.{Sent, result-valid}
 use Rattle.xliff.proofs.records.Fits.{FitParts, parts-to, fit-bytes}
 
-pub record Accepted (t : List ℕ) (v : TheUnit) (r : List ℕ) : Type 0 where
+pub record Accepted (t : List ℕ) (v : XliffUnit) (r : List ℕ) : Type 0 where
   pub was : Sent (unit t)
   pub now : Sent v
   pub bytes : encode v ≡ r
   pub room : ℕ
   pub fits : too-large room v ≡ false
 
-pub accepted-valid : (t : List ℕ) (v : TheUnit) (r : List ℕ) → Accepted t v r → Valid r
+pub accepted-valid : (t : List ℕ) (v : XliffUnit) (r : List ℕ) → Accepted t v r → Valid r
 accepted-valid t v r a = subst Valid (a .bytes) (result-valid (a .room) v (a .now) (a .fits))
 
 -- within the limits
-pub record Within (v : TheUnit) : Type 0 where
+pub record Within (v : XliffUnit) : Type 0 where
   pub size : length (encode v) ≤ most-bytes
   pub records : length (unit-records v) ≤ most-records
   pub parts : length (v .parts) ≤ most-parts
 
-pub within : (room : ℕ) (v : TheUnit) → too-large room v ≡ false → Within v
+pub within : (room : ℕ) (v : XliffUnit) → too-large room v ≡ false → Within v
 unfolding too-large
 within room v e =
     let f = or-right (ltb room (length (encode v))) _ e in
@@ -48,14 +48,14 @@ within room v e =
       parts = ltb-false most-parts (length (v .parts)) (or-right (ltb most-records (length (unit-records v))) _ g);
     }
 
-pub accepted-unit : (t : List ℕ) (v : TheUnit) (r : List ℕ) → Accepted t v r → unit r ≡ v
+pub accepted-unit : (t : List ℕ) (v : XliffUnit) (r : List ℕ) → Accepted t v r → unit r ≡ v
 accepted-unit t v r a =
     let s = a .now in
     let (good, runs) = unit-runs v (s .first) (s .others) (s .parts) (s .letter) (s .good) in
     let w = within (a .room) v (a .fits) in
     ap unit (sym (a .bytes)) ∙ records-unit v good (let z = w .records in omega arith)
 
-pub accepted-bytes : (t : List ℕ) (v : TheUnit) (r : List ℕ) → Accepted t v r → FitParts (v .parts) → Bytes r
+pub accepted-bytes : (t : List ℕ) (v : XliffUnit) (r : List ℕ) → Accepted t v r → FitParts (v .parts) → Bytes r
 unfolding encode unit-records
 accepted-bytes t v r a f =
     let s = a .now in

@@ -10,7 +10,7 @@ use lib.Dec.{ltb}
 use borrow.Author.Tests.{ltb-false}
 use Rattle.xliff.specs.Bytes.{Bytes}
 use Rattle.xliff.specs.Answer.{Refusal, applies, _then_, of-result, result, unless}
-use Rattle.xliff.specs.Unit.{Part, TheUnit}
+use Rattle.xliff.specs.Unit.{Part, XliffUnit}
 use Rattle.xliff.specs.Encode.{Record, opening, closing, part-head, target-head, text-run, inline, ill-text, broken, unit-records, encode}
 use Rattle.xliff.specs.Parse.{most-bytes, most-records, most-parts, Stage, unit-due, part-due, step, unit-step, part-step, may-end, entries, records, reading, take-record, opening-letter, unit, table-fault}
 use Rattle.xliff.specs.Rules.{fault-5, fault-6-to-10}
@@ -59,7 +59,7 @@ unless-result none s r e = (refl, cc)
 unless-result (some x) s r e = let z : _≡_ {A = ℕ} 0 1 = cc in absurd (let y : ⊥ = omega arith in y)
 
 -- an operation that was accepted: the table is valid, none of its own numbers applied, the bytes are the unit's
-pub operation-result : (t : List ℕ) (own : Option Refusal) (v : TheUnit) (r : List ℕ) → operation t own v ≡ result r
+pub operation-result : (t : List ℕ) (own : Option Refusal) (v : XliffUnit) (r : List ℕ) → operation t own v ≡ result r
     → (table-refusal t ≡ none) × (own ≡ none) × (encode v ≡ r)
 unfolding operation
 operation-result t own v r e =
@@ -67,7 +67,7 @@ operation-result t own v r e =
     (then-left (table-refusal t) own o, then-right (table-refusal t) own o, s)
 
 -- a valid table: what it says of the unit
-pub record Sent (u : TheUnit) : Type 0 where
+pub record Sent (u : XliffUnit) : Type 0 where
   pub letter : GoodRecord (opening (u .canResegment))
   pub first : Part
   pub others : List Part
@@ -112,7 +112,7 @@ sent t b v =
     { letter = l; first = p; others = ps; parts = e; good = unit-good t b f; rule-5 = then-left _ _ g; rules = then-right _ _ g }
 
 -- a result is valid
-pub result-valid : (room : ℕ) (v : TheUnit) → Sent v → too-large room v ≡ false → Valid (encode v)
+pub result-valid : (room : ℕ) (v : XliffUnit) → Sent v → too-large room v ≡ false → Valid (encode v)
 unfolding Valid table-refusal too-large
 result-valid room v s e =
     let a : ltb room (length (encode v)) ≡ false = or-left _ _ e in
@@ -125,4 +125,4 @@ result-valid room v s e =
     let back : unit (encode v) ≡ v = records-unit v good (omega arith) in
     then-none _ _ (applies-false 1 _ b)
     (then-none _ _ (good-unit-passes v (s .first) (s .others) (s .parts) (s .letter) (s .good) c d)
-    (then-none _ _ (ap (λ (u : TheUnit). fault-5 (u .parts)) back ∙ s .rule-5) (ap (λ (u : TheUnit). fault-6-to-10 (u .parts)) back ∙ s .rules)))
+    (then-none _ _ (ap (λ (u : XliffUnit). fault-5 (u .parts)) back ∙ s .rule-5) (ap (λ (u : XliffUnit). fault-6-to-10 (u .parts)) back ∙ s .rules)))

@@ -215,7 +215,7 @@ closed-off ps = gather part-records ps ++ (closing ∷ [])
 abbrev Shape : Stage → List Record → Type 0
 Shape unit-due rs = opening (opening-letter rs) ∷ closed-off (reading rs .parts) ≡ rs
 Shape part-due rs = closed-off (reading rs .parts) ≡ rs
-Shape (in-source a) rs = content-records (reading rs .items) ++ (target-records (reading rs .goal) ++ closed-off (reading rs .parts)) ≡ rs
+Shape (in-source a) rs = content-records (reading rs .items) ++ (target-records (reading rs .target) ++ closed-off (reading rs .parts)) ≡ rs
 Shape (in-target a) rs = content-records (reading rs .items) ++ closed-off (reading rs .parts) ≡ rs
 Shape complete rs = rs ≡ []
 Shape (alone a) rs = content-records (reading rs .items) ++ [] ≡ rs
@@ -224,8 +224,8 @@ part-shape : (h : Head) (rs : List Record) → Shape (in-source false) rs → cl
 unfolding closed-off gather part-records reading take-record
 part-shape h rs e =
     ap {B = List Record} (λ l. part-head h ∷ l)
-    (append-assoc (content-records (reading rs .items) ++ target-records (reading rs .goal)) (gather part-records (reading rs .parts)) (closing ∷ [])
-    ∙ append-assoc (content-records (reading rs .items)) (target-records (reading rs .goal)) (closed-off (reading rs .parts)) ∙ e)
+    (append-assoc (content-records (reading rs .items) ++ target-records (reading rs .target)) (gather part-records (reading rs .parts)) (closing ∷ [])
+    ∙ append-assoc (content-records (reading rs .items)) (target-records (reading rs .target)) (closed-off (reading rs .parts)) ∙ e)
 
 end-shape : (rs : List Record) → rs ≡ [] → closed-off (reading (closing ∷ rs) .parts) ≡ closing ∷ rs
 unfolding closed-off gather reading take-record

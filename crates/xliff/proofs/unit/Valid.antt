@@ -10,7 +10,7 @@ use borrow.Author.Tests.{ne-eqb}
 use Rattle.xliff.specs.Bytes.{gather, Bytes}
 use Rattle.xliff.specs.Text.{xml-allows}
 use Rattle.xliff.specs.Item.{Item, Content, text, character, standalone, isolated, pair, annotation-start, annotation-end}
-use Rattle.xliff.specs.Unit.{Head, Target, no-target, target, Part, TheUnit}
+use Rattle.xliff.specs.Unit.{Head, Target, no-target, target, Part, XliffUnit}
 use Rattle.xliff.specs.Encode.{Record, opening, closing, part-head, target-head, text-run, inline, ill-text, broken, record-bytes, text-before, item-before, content-records, target-records, part-records, unit-records, spell, encode}
 use Rattle.xliff.specs.Parse.{most-records, most-parts, bad-text, bad-item, entries, Stage, unit-due, part-due, in-source, in-target, complete, alone, on, fault, inline-step, unit-step, part-step, outer-step, step, is-part, may-end, first-bad, table-fault, content-fault, Reading, take-record, reading, records, unit, content}
 use Rattle.xliff.proofs.lists.Each.{Each, each-nil, each-cons, each-append}
@@ -39,7 +39,7 @@ none-bad size left parts at st (r ∷ rs) (goes-on {st′} e run) l h =
     by false q k ih = rw (ne-eqb left 0 (λ z. omega arith), e, q) (ih parts (omega arith))
 
 -- a table whose records are good, in sequence and within the limits passes 2, 3 and 4
-pub encode-passes : (u : TheUnit) → AllGood (unit-records u) → Runs unit-due (unit-records u) → length (unit-records u) ≤ most-records → part-heads (unit-records u) ≤ most-parts
+pub encode-passes : (u : XliffUnit) → AllGood (unit-records u) → Runs unit-due (unit-records u) → length (unit-records u) ≤ most-records → part-heads (unit-records u) ≤ most-parts
     → table-fault (encode u) ≡ none
 unfolding table-fault entries encode
 encode-passes u g run l h =
@@ -137,7 +137,7 @@ GoodTarget (target q xs) = GoodContent xs
 pub record GoodPart (p : Part) : Type 0 where
   pub head : GoodHead (p .head)
   pub source : GoodContent (p .source)
-  pub goal : GoodTarget (p .goal)
+  pub target : GoodTarget (p .target)
 
 abbrev pub GoodParts : List Part → Type 0
 GoodParts ps = Each GoodPart ps
@@ -167,11 +167,11 @@ ready-goal (target q xs) rs h r =
 ready-part : (p : Part) (rs : List Record) → GoodPart p → Ready rs → Ready (part-records p ++ rs)
 unfolding part-records step inline-step outer-step
 ready-part p rs h r =
-    let (g, runs) = ready-goal (p .goal) rs (h .goal) r in
-    let f = fine-content in-source (target-records (p .goal) ++ rs) (λ a cs. refl) (λ a x. refl) g runs (p .source) (h .source) in
-    let e : content-records (p .source) ++ target-records (p .goal) ++ rs ≡ content-records (p .source) ++ (target-records (p .goal) ++ rs)
-    = append-assoc (content-records (p .source)) (target-records (p .goal)) rs in
-    let run : Runs (in-source false) (content-records (p .source) ++ target-records (p .goal) ++ rs) = subst (Runs (in-source false)) (sym e) (f .from-start) in
+    let (g, runs) = ready-goal (p .target) rs (h .target) r in
+    let f = fine-content in-source (target-records (p .target) ++ rs) (λ a cs. refl) (λ a x. refl) g runs (p .source) (h .source) in
+    let e : content-records (p .source) ++ target-records (p .target) ++ rs ≡ content-records (p .source) ++ (target-records (p .target) ++ rs)
+    = append-assoc (content-records (p .source)) (target-records (p .target)) rs in
+    let run : Runs (in-source false) (content-records (p .source) ++ target-records (p .target) ++ rs) = subst (Runs (in-source false)) (sym e) (f .from-start) in
     record {
       all-good = each-cons (h .head) (subst AllGood (sym e) (f .all-good));
       in-sources = λ a. goes-on {st′ = in-source false} refl run;
@@ -188,7 +188,7 @@ first-part : (h : Head) (rs : List Record) → Runs (in-source false) (part-head
 unfolding step inline-step outer-step part-step
 first-part h rs (goes-on e run) = goes-on e run
 
-pub unit-runs : (u : TheUnit) (p : Part) (ps : List Part) → u .parts ≡ p ∷ ps → GoodRecord (opening (u .canResegment)) → GoodParts (u .parts)
+pub unit-runs : (u : XliffUnit) (p : Part) (ps : List Part) → u .parts ≡ p ∷ ps → GoodRecord (opening (u .canResegment)) → GoodParts (u .parts)
     → AllGood (unit-records u) × Runs unit-due (unit-records u)
 unfolding unit-records step unit-step gather part-records
 unit-runs u p ps e o g =
@@ -235,19 +235,19 @@ heads-target (target q xs) = omega (arith, heads-content xs)
 
 heads-part : (p : Part) → part-heads (part-records p) ≡ 1
 unfolding part-heads part-records is-part
-heads-part p = omega (arith, heads-append (content-records (p .source)) (target-records (p .goal)), heads-content (p .source), heads-target (p .goal))
+heads-part p = omega (arith, heads-append (content-records (p .source)) (target-records (p .target)), heads-content (p .source), heads-target (p .target))
 
 heads-parts : (ps : List Part) → part-heads (gather part-records ps) ≡ length ps
 unfolding gather part-heads
 heads-parts [] = refl
 heads-parts (p ∷ ps) = omega (arith, heads-append (part-records p) (gather part-records ps), heads-part p, heads-parts ps)
 
-pub heads-unit : (u : TheUnit) → part-heads (unit-records u) ≡ length (u .parts)
+pub heads-unit : (u : XliffUnit) → part-heads (unit-records u) ≡ length (u .parts)
 unfolding unit-records part-heads is-part
 heads-unit u = omega (arith, heads-append (gather part-records (u .parts)) (closing ∷ []), heads-parts (u .parts))
 
 -- A unit of good parts within the limits, as bytes, passes 2, 3 and 4
-pub good-unit-passes : (u : TheUnit) (p : Part) (ps : List Part) → u .parts ≡ p ∷ ps → GoodRecord (opening (u .canResegment)) → GoodParts (u .parts)
+pub good-unit-passes : (u : XliffUnit) (p : Part) (ps : List Part) → u .parts ≡ p ∷ ps → GoodRecord (opening (u .canResegment)) → GoodParts (u .parts)
     → length (unit-records u) ≤ most-records → length (u .parts) ≤ most-parts → table-fault (encode u) ≡ none
 good-unit-passes u p ps e o g l h =
     let (a, r) = unit-runs u p ps e o g in
@@ -278,24 +278,24 @@ good-texts (c ∷ cs) (one-point p a) = each-cons p (good-texts cs a)
 
 pub record GoodReading (g : Reading) : Type 0 where
   pub items : GoodContent (g .items)
-  pub goal : GoodTarget (g .goal)
+  pub target : GoodTarget (g .target)
   pub parts : GoodParts (g .parts)
 
 take-good : (st st′ : Stage) (r : Record) (g : Reading) → step st r ≡ on st′ → GoodRecord r → GoodReading g → GoodReading (take-record r g)
 unfolding take-record
 take-good st st′ (opening c) g e h k = k
-take-good st st′ closing g e h k = record { items = each-nil; goal = tt; parts = each-nil }
+take-good st st′ closing g e h k = record { items = each-nil; target = tt; parts = each-nil }
 take-good st st′ (part-head d) g e h k =
-    record { items = each-nil; goal = tt; parts = each-cons (record { head = h; source = k .items; goal = k .goal }) (k .parts) }
-take-good st st′ (target-head q) g e h k = record { items = each-nil; goal = k .items; parts = k .parts }
-take-good st st′ (text-run cs) g e h k = record { items = each-append (map text cs) (g .items) (good-texts cs h) (k .items); goal = k .goal; parts = k .parts }
-take-good st st′ (inline x) g e h k = record { items = each-cons (good-in x h (good-step st st′ x e)) (k .items); goal = k .goal; parts = k .parts }
+    record { items = each-nil; target = tt; parts = each-cons (record { head = h; source = k .items; target = k .target }) (k .parts) }
+take-good st st′ (target-head q) g e h k = record { items = each-nil; target = k .items; parts = k .parts }
+take-good st st′ (text-run cs) g e h k = record { items = each-append (map text cs) (g .items) (good-texts cs h) (k .items); target = k .target; parts = k .parts }
+take-good st st′ (inline x) g e h k = record { items = each-cons (good-in x h (good-step st st′ x e)) (k .items); target = k .target; parts = k .parts }
 take-good st st′ ill-text g e h k = absurd h
 take-good st st′ (broken b) g e h k = absurd h
 
 pub reading-good : (st : Stage) (rs : List Record) → Runs st rs → AllGood rs → GoodReading (reading rs)
 unfolding reading
-reading-good st [] run a = record { items = each-nil; goal = tt; parts = each-nil }
+reading-good st [] run a = record { items = each-nil; target = tt; parts = each-nil }
 reading-good st (r ∷ rs) (goes-on {st′} e run) (each-cons h a) = take-good st st′ r (reading rs) e h (reading-good st′ rs run a)
 
 pub unit-good : (t : List ℕ) → Bytes t → table-fault t ≡ none → GoodParts (unit t .parts)

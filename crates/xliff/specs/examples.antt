@@ -1,0 +1,5 @@
+-- Examples by computation.
+pub mod Bench
+pub mod Delicate
+pub mod Limits
+pub mod Desk
