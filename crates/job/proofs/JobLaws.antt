@@ -164,9 +164,10 @@ two-there (a ∷ b ∷ s) u = omega arith
 module _ (job : List ℕ) (at : ℕ) (w : Walk job at) where
   -- a UE ends the table
   pub walk-ends : at < length job → is-UE (drop at job) ≡ true → (at + 2 ≡ table-length job) × (at + 2 ≤ length job)
-  walk-ends h u =
-      (sym (found-by job _ (at + 2) (w .same) (ends-at (w .steps) at (drop at job) (omega (arith, w .enough-steps, h)) u)),
-      omega (arith, two-there (drop at job) u, length-drop at job))
+  walk-ends h u = (
+    sym (found-by job _ (at + 2) (w .same) (ends-at (w .steps) at (drop at job) (omega (arith, w .enough-steps, h)) u)),
+    omega (arith, two-there (drop at job) u, length-drop at job),
+  )
 
   -- no whole record: no UE is reached
   pub walk-stuck : is-UE (drop at job) ≡ false → whole-size (drop at job) ≡ 0 → length job ≡ table-length job

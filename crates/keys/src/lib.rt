@@ -69,5 +69,6 @@ pub fn alike(x: u32, y: u32) -> bool
 pub fn is_other(x: u32, y: u32) -> bool
     ensures { λ r. ⌜ r ≡ otherKey x y ⌝ }
 {
-    (x / 8 == y / 8) & (((x % 8 / 2 == 1) & (y % 8 / 2 == 2)) | ((x % 8 / 2 == 2) & (y % 8 / 2 == 1)))
+    (x / 8 == y / 8)
+        & (((x % 8 / 2 == 1) & (y % 8 / 2 == 2)) | ((x % 8 / 2 == 2) & (y % 8 / 2 == 1)))
 }

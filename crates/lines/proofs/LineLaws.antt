@@ -80,7 +80,7 @@ pub refused-returns : (out : List ℕ) (n at : ℕ) (last : List ℕ) (c d r : �
 unfolding line
 refused-returns out n at last c d r e f g h k =
     let w : (78 ∷ 79 ∷ 32 ∷ []) ++ decimal n ++ (32 ∷ []) ++ decimal at ++ (10 ∷ []) ≡ 78 ∷ 79 ∷ 32 ∷ (decimal n ++ (32 ∷ (decimal at ++ (10 ∷ []))))
-        = ap (λ (l : List ℕ). 78 ∷ 79 ∷ 32 ∷ l) (append-assoc (decimal n ++ (32 ∷ [])) (decimal at) (10 ∷ []) ∙ append-assoc (decimal n) (32 ∷ []) (decimal at ++ (10 ∷ []))) in
+    = ap (λ (l : List ℕ). 78 ∷ 79 ∷ 32 ∷ l) (append-assoc (decimal n ++ (32 ∷ [])) (decimal at) (10 ∷ []) ∙ append-assoc (decimal n) (32 ∷ []) (decimal at ++ (10 ∷ []))) in
     (omega (arith, e, f, g, ap length w, length-append ((78 ∷ 79 ∷ 32 ∷ []) ++ decimal n ++ (32 ∷ []) ++ decimal at) (10 ∷ []), length-append ((78 ∷ 79 ∷ 32 ∷ []) ++ decimal n ++ (32 ∷ [])) (decimal at)), h ∙ ap (λ (l : List ℕ). lead l out) w, k)
 
 pub table-line-length : (t : List ℕ) → length (table-line t) ≡ 2 * length t + 1

@@ -118,9 +118,9 @@ on-marks-target wait =
     record {
       unmarked = λ before x after e. rw (lone-unmarked before x after e);
       alone = λ before x after m.
-        ap₂ (λ (a b : Bool). a && not b) (lone-marked before x after m)
-        (ap₂ (λ (a b : Bool). not a && (not b && any (other-half x) wait))
-        (any-marked (half-of-id (id-of x)) (half-marked (id-of x)) before) (any-marked (half-of-id (id-of x)) (half-marked (id-of x)) after));
+          ap₂ (λ (a b : Bool). a && not b) (lone-marked before x after m)
+          (ap₂ (λ (a b : Bool). not a && (not b && any (other-half x) wait))
+          (any-marked (half-of-id (id-of x)) (half-marked (id-of x)) before) (any-marked (half-of-id (id-of x)) (half-marked (id-of x)) after));
     }
 
 -- what such a test blames among the markers at some offsets

@@ -170,7 +170,11 @@ fn lone_in_target(os: &[u16], ks: &[u32], bars: &[u32], start: Place) -> Place
     let mut best = start;
     let mut i = 0;
     while i < os.len() {
-        best = answers::lower_if(stays_lone(ks, i, bars, &mut stack), best, views::wide(os[i]));
+        best = answers::lower_if(
+            stays_lone(ks, i, bars, &mut stack),
+            best,
+            views::wide(os[i]),
+        );
         i += 1;
     }
     best
@@ -205,5 +209,10 @@ pub fn rule_7(t: &[u8], src: &[u16], skeys: &[u32], tgt: &[u16], tkeys: &[u32]) 
     requires { ⌜ Passes (now t) × (now src ≡ offsets true 0 (now t)) × (now skeys ≡ keysAt (now t) (now src)) × (now tgt ≡ target-offsets (now t) 0 (length (unit (now t) .parts))) × (now tkeys ≡ keysAt (now t) (now tgt)) × (length (now src) ≤ 1024) × (length (now tgt) ≤ 1024) × (length (now t) ≤ 8192) ⌝ }
     ensures { λ r. ⌜ refusal-at 7 r ≡ fault-7 (unit (now (t .entry)) .parts) ⌝ }
 {
-    lone_in_targets(t, tgt, tkeys, lone_in_source(src, skeys, lone_in_contents(t)))
+    lone_in_targets(
+        t,
+        tgt,
+        tkeys,
+        lone_in_source(src, skeys, lone_in_contents(t)),
+    )
 }

@@ -43,13 +43,13 @@ blamed-marks bad bad′ o before (p ∷ ps) = by (not (eqb (class (p .item)) 0))
         ≡ blamed bad′ (keep is-marked before) (cond b (p ∷ []) [] ++ gather (marker true) ps)
     by true e ih =
         let h : blamed bad (p .item ∷ before) ps ≡ blamed bad′ (p .item ∷ keep is-marked before) (gather (marker true) ps)
-            = subst (λ (c : Bool). blamed bad (p .item ∷ before) ps ≡ blamed bad′ (cond c (p .item ∷ keep is-marked before) (keep is-marked before)) (gather (marker true) ps)) e ih in
+        = subst (λ (c : Bool). blamed bad (p .item ∷ before) ps ≡ blamed bad′ (cond c (p .item ∷ keep is-marked before) (keep is-marked before)) (gather (marker true) ps)) e ih in
         let t : bad before (p .item) (items ps) ≡ bad′ (keep is-marked before) (p .item) (items (gather (marker true) ps))
-            = o .alone before (p .item) (items ps) e ∙ ap (bad′ (keep is-marked before) (p .item)) (sym (marked-items ps)) in
+        = o .alone before (p .item) (items ps) e ∙ ap (bad′ (keep is-marked before) (p .item)) (sym (marked-items ps)) in
         ap₂ (λ (c : Bool) (l : List ℕ). cond c (p .at ∷ l) l) t h
     by false e ih =
         let h : blamed bad (p .item ∷ before) ps ≡ blamed bad′ (keep is-marked before) (gather (marker true) ps)
-            = subst (λ (c : Bool). blamed bad (p .item ∷ before) ps ≡ blamed bad′ (cond c (p .item ∷ keep is-marked before) (keep is-marked before)) (gather (marker true) ps)) e ih in
+        = subst (λ (c : Bool). blamed bad (p .item ∷ before) ps ≡ blamed bad′ (cond c (p .item ∷ keep is-marked before) (keep is-marked before)) (gather (marker true) ps)) e ih in
         rw (o .unmarked before (p .item) (items ps) e) h
 
 -- Some item passes a test that is false of items without a class: some marker does

@@ -41,7 +41,6 @@ module _ {S B : Type 0} (part-state : S) (target-state : ℕ → S) (on-head : H
   found s at [] = []
   found s at (r ∷ rs) = found-at s at r ++ found (state-after s r) (at + length (record-bytes r)) rs
 
-
 -- Rule 5: the orders of the targets, with their offsets
 pub record Ordered : Type 0 where
   pub order : ℕ

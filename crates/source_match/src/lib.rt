@@ -23,11 +23,15 @@ fn passes(kind: u8, x: View, y: View) -> bool
 {
     let starts = (!(y.class == 0) & !(y.half == 2)) & (y.id == x.id);
     let class = x.class == y.class;
-    let letters = (x.refers == y.refers) & ((x.copy == y.copy)
-        & ((x.delete == y.delete) & ((x.overlap == y.overlap) & (x.reorder == y.reorder))));
+    let letters = (x.refers == y.refers)
+        & ((x.copy == y.copy)
+            & ((x.delete == y.delete) & ((x.overlap == y.overlap) & (x.reorder == y.reorder))));
     let agrees = ((class & (x.id == y.id)) & (x.half == y.half)) & letters;
     let copies = class & ((x.of == y.id) & (y.copy == b'Y'));
-    ((kind == 0) & starts) | ((kind == 1) & (starts & !class)) | ((kind == 2) & agrees) | ((kind == 3) & copies)
+    ((kind == 0) & starts)
+        | ((kind == 1) & (starts & !class))
+        | ((kind == 2) & agrees)
+        | ((kind == 3) & copies)
 }
 
 // Whether some item passes.

@@ -291,7 +291,7 @@ module _ (t : List ℕ) (s : State) (at : ℕ) (r : Read)
       let j = judged-on-is t s at (body (drop at t)) r x (after (s .left) at (drop at t) x) (m .0) (m .1) s′ w e in
       let b = read-width (drop at t) (bytes-drop at t h) (j .3) in
       let k : after (s .left) at (drop at t) x ≡ walk (suc (s′ .left)) (at + w) (drop (at + w) t) =
-          rw (j .3, j .2, ← j .1) (ap (walk (suc (s′ .left)) (at + w)) (drop-drop w at t)) in (
+      rw (j .3, j .2, ← j .1) (ap (walk (suc (s′ .left)) (at + w)) (drop-drop w at t)) in (
         omega (arith, b .0, j .1),
         omega (arith, b .1, j .1, length-drop at t),
         rest-at t s at l ∙ j .0 ∙ ap (first-bad (length t) (s′ .left) (s′ .parts) (stage (s′ .stage))) k,

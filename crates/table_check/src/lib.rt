@@ -13,41 +13,100 @@ ghost use Rattle.places.specs.Passes.{Passes};
 ghost use Rattle.answers.specs.Answers.{answer-meaning, refusal-at};
 ghost use Rattle.table_check.specs.Markers.{Markers};
 
-fn from_9(t: &[u8], len: usize, src: &[u16], skeys: &[u32], tgt: &[u16], tkeys: &[u32], nine: Place) -> Answer
+fn from_9(
+    t: &[u8],
+    len: usize,
+    src: &[u16],
+    skeys: &[u32],
+    tgt: &[u16],
+    tkeys: &[u32],
+    nine: Place,
+) -> Answer
     requires { ⌜ Markers (now t) (now src) (now skeys) (now tgt) (now tkeys) × (len ≡ length (now t)) × (refusal-at 9 nine ≡ fault-9 (unit (now t) .parts)) ⌝ }
     ensures { λ r. ⌜ answer-meaning r ≡ answer (unless (fault-9 (unit (now (t .entry)) .parts) then fault-10 (unit (now (t .entry)) .parts)) (now (t .entry))) ⌝ }
 {
     match nine {
         Place::At(at) => Answer::Refused(9, at),
-        Place::Nowhere => answers::refused_by(10, source_match::rule_10(t, src, tgt), Answer::Accepted(len)),
+        Place::Nowhere => answers::refused_by(
+            10,
+            source_match::rule_10(t, src, tgt),
+            Answer::Accepted(len),
+        ),
     }
 }
 
-fn from_8(t: &[u8], len: usize, src: &[u16], skeys: &[u32], tgt: &[u16], tkeys: &[u32], eight: Place) -> Answer
+fn from_8(
+    t: &[u8],
+    len: usize,
+    src: &[u16],
+    skeys: &[u32],
+    tgt: &[u16],
+    tkeys: &[u32],
+    eight: Place,
+) -> Answer
     requires { ⌜ Markers (now t) (now src) (now skeys) (now tgt) (now tkeys) × (len ≡ length (now t)) × (refusal-at 8 eight ≡ fault-8 (unit (now t) .parts)) ⌝ }
     ensures { λ r. ⌜ answer-meaning r ≡ answer (unless (fault-8 (unit (now (t .entry)) .parts) then fault-9 (unit (now (t .entry)) .parts) then fault-10 (unit (now (t .entry)) .parts)) (now (t .entry))) ⌝ }
 {
     match eight {
         Place::At(at) => Answer::Refused(8, at),
-        Place::Nowhere => from_9(t, len, src, skeys, tgt, tkeys, overlap::rule_9(t, src, skeys, tgt, tkeys)),
+        Place::Nowhere => from_9(
+            t,
+            len,
+            src,
+            skeys,
+            tgt,
+            tkeys,
+            overlap::rule_9(t, src, skeys, tgt, tkeys),
+        ),
     }
 }
 
-fn from_7(t: &[u8], len: usize, src: &[u16], skeys: &[u32], tgt: &[u16], tkeys: &[u32], seven: Place) -> Answer
+fn from_7(
+    t: &[u8],
+    len: usize,
+    src: &[u16],
+    skeys: &[u32],
+    tgt: &[u16],
+    tkeys: &[u32],
+    seven: Place,
+) -> Answer
     requires { ⌜ Markers (now t) (now src) (now skeys) (now tgt) (now tkeys) × (len ≡ length (now t)) × (refusal-at 7 seven ≡ fault-7 (unit (now t) .parts)) ⌝ }
     ensures { λ r. ⌜ answer-meaning r ≡ answer (unless (fault-7 (unit (now (t .entry)) .parts) then fault-8 (unit (now (t .entry)) .parts) then fault-9 (unit (now (t .entry)) .parts) then fault-10 (unit (now (t .entry)) .parts)) (now (t .entry))) ⌝ }
 {
     match seven {
         Place::At(at) => Answer::Refused(7, at),
-        Place::Nowhere => from_8(t, len, src, skeys, tgt, tkeys, letters::rule_8(t, src, skeys, tgt, tkeys)),
+        Place::Nowhere => from_8(
+            t,
+            len,
+            src,
+            skeys,
+            tgt,
+            tkeys,
+            letters::rule_8(t, src, skeys, tgt, tkeys),
+        ),
     }
 }
 
-fn by_markers(t: &[u8], len: usize, src: &[u16], skeys: &[u32], tgt: &[u16], tkeys: &[u32]) -> Answer
+fn by_markers(
+    t: &[u8],
+    len: usize,
+    src: &[u16],
+    skeys: &[u32],
+    tgt: &[u16],
+    tkeys: &[u32],
+) -> Answer
     requires { ⌜ Markers (now t) (now src) (now skeys) (now tgt) (now tkeys) × (len ≡ length (now t)) ⌝ }
     ensures { λ r. ⌜ answer-meaning r ≡ answer (unless (fault-7 (unit (now (t .entry)) .parts) then fault-8 (unit (now (t .entry)) .parts) then fault-9 (unit (now (t .entry)) .parts) then fault-10 (unit (now (t .entry)) .parts)) (now (t .entry))) ⌝ }
 {
-    from_7(t, len, src, skeys, tgt, tkeys, partners::rule_7(t, src, skeys, tgt, tkeys))
+    from_7(
+        t,
+        len,
+        src,
+        skeys,
+        tgt,
+        tkeys,
+        partners::rule_7(t, src, skeys, tgt, tkeys),
+    )
 }
 
 // Rules 7 to 10, with the markers of both sequences.
