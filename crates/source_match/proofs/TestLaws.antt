@@ -1,12 +1,12 @@
 -- The tests of rule 10 on views are the specification's.
 use Prim.Native.Nat.{ℕ, zero, suc, _+_, _-_, _≤_, _<_}
-use mathlib.Core.Path.{_≡_, refl, _∙_, ap, ap₂}
+use mathlib.Core.Path.{_≡_, refl, sym, _∙_, ap, ap₂}
 use mathlib.Core.Bool.{Bool, true, false, not, _&&_, _||_}
 use mathlib.Core.List.{List, [], _∷_}
 use lib.ListN.{length, drop, getD, drop-of-length-le}
 use native.Mathlib.Omega.{arith}
 use Rattle.xliff.specs.Bytes.{any, among}
-use Rattle.xliff.specs.Item.{Content, alike}
+use Rattle.xliff.specs.Item.{half, Content, alike}
 use Rattle.xliff.specs.Rules.{bad-10-source, bad-10-target, unlike-source, bad-copy, of-other-class, starts-id, agrees, same-half, may-copy}
 use lib.Dec.{eqb}
 use Rattle.xliff.specs.Item as spec
@@ -16,6 +16,12 @@ use Rattle.table.specs.declared.Item.{Item}
 use Rattle.views.specs.Views.{viewOf, itemsAt}
 use Rattle.source_match.specs.Ten.{testOf, badTenSource, badTenTarget}
 use Rattle.views.proofs.ViewLaws.{code-same}
+use Prim.Native.Nat.{_/_}
+use borrow.Author.Tests.{eqb-false, ne-eqb, not-true}
+use Rattle.xliff.proofs.lists.Tests.{or-left, or-right}
+use Rattle.views.specs.declared.View.{View}
+use Rattle.keys.specs.Keys.{key}
+use Rattle.keys.proofs.KeyLaws.{id-key}
 
 -- some item from an index on passes
 items-first : (p : spec.Item → Bool) (t os : List ℕ) (i : ℕ) → i < length os → any p (itemsAt t (drop i os)) ≡ p (item-at t (getD os i 0)) || any p (itemsAt t (drop (suc i) os))
@@ -34,6 +40,41 @@ module _ (p : spec.Item → Bool) (t os : List ℕ) (i : ℕ) where
   pub items-end : length os ≤ i → any p (itemsAt t (drop i os)) ≡ false
   unfolding any itemsAt
   items-end h = rw (drop-of-length-le os h)
+
+-- an item with neither id passes no test
+and-off : (k z : Bool) → z ≡ false → k && z ≡ false
+and-off true z e = e
+and-off false z e = refl
+
+and-left : (z w : Bool) → z ≡ false → z && w ≡ false
+and-left z w e = ap (λ (b : Bool). b && w) e
+
+no-test : (k0 k1 k2 k3 s n c h l d : Bool) → k0 && (s && false) || k1 && (s && false && n) || k2 && (c && false && h && l) || k3 && (c && (false && d)) ≡ false
+no-test k0 k1 k2 k3 s n c h l d =
+    let o = and-off s false refl in
+    let p = and-off c false refl in
+    rw (
+      and-off k0 (s && false) o,
+      and-off k1 (s && false && n) (and-left (s && false) n o),
+      and-off k2 (c && false && h && l) (and-left (c && false && h) l (and-left (c && false) h p)),
+      and-off k3 (c && (false && d)) (and-off c (false && d) refl),
+    ) refl
+
+pub far-off : (kind : ℕ) (x : View) (y : spec.Item) → not (eqb (key y / 64) (x .id) || eqb (key y / 64) (x .of)) ≡ true → testOf kind x (viewOf y) ≡ false
+unfolding viewOf
+far-off kind x y e =
+    let o = not-true _ e in
+    let i = id-key y in
+    let a : eqb (id-of y) (x .id) ≡ false = sym (ap (λ (k : ℕ). eqb k (x .id)) i) ∙ or-left (eqb (key y / 64) (x .id)) (eqb (key y / 64) (x .of)) o in
+    let b : eqb (id-of y) (x .of) ≡ false = sym (ap (λ (k : ℕ). eqb k (x .of)) i) ∙ or-right (eqb (key y / 64) (x .id)) (eqb (key y / 64) (x .of)) o in
+    let c : eqb (x .id) (id-of y) ≡ false = ne-eqb (x .id) (id-of y) (λ z. eqb-false (id-of y) (x .id) a (sym z)) in
+    let d : eqb (x .of) (id-of y) ≡ false = ne-eqb (x .of) (id-of y) (λ z. eqb-false (id-of y) (x .of) b (sym z)) in
+    rw (a, c, d)
+    (no-test (eqb kind 0) (eqb kind 1) (eqb kind 2) (eqb kind 3) (not (eqb (class y) 0) && not (eqb (half y) 2)) (not (eqb (x .class) (class y)))
+    (eqb (x .class) (class y)) (eqb (x .half) (half y))
+    (eqb (x .refers) (fields y .dataRef) && (eqb (x .copy) (fields y .canCopy) && (eqb (x .delete) (fields y .canDelete)
+    && (eqb (x .overlap) (fields y .canOverlap) && eqb (x .reorder) (fields y .canReorder)))))
+    (eqb (fields y .canCopy) 89))
 
 -- the tests are the specification's
 pub ten-source-is : (before : Content) (x : spec.Item) (after : Content) → badTenSource (viewOf x) ≡ bad-10-source before x after

@@ -8,7 +8,9 @@ ghost use Prim.Native.Nat.{_+_, _-_, _<_};
 ghost use lib.ListN.{length};
 ghost use Rattle.answers.specs.Answers.{refusal-at, toward};
 ghost use Rattle.xliff.specs.Bytes.{any};
+ghost use Rattle.places.specs.Markers.{item-at};
 ghost use Rattle.views.specs.Views.{viewOf, itemsAt};
+ghost use Rattle.keys.specs.Keys.{key, keysAt};
 ghost use Rattle.source_match.specs.Ten.{testOf, badTenSource, badTenTarget};
 ghost use Rattle.xliff.specs.Sequences.{blamed, first-of};
 ghost use Rattle.xliff.specs.Rules.{bad-10-source, bad-10-target, fault-10};
@@ -34,13 +36,26 @@ fn passes(kind: u8, x: View, y: View) -> bool
         | ((kind == 3) & copies)
 }
 
-// Whether some item passes.
-pub fn any_of(t: &[u8], os: &[u16], kind: u8, x: View) -> bool
+// The same of the item at an offset, whose key is `k`. Only where the ids say that it may pass is the table read.
+fn passes_at(t: &[u8], at: usize, k: u32, kind: u8, x: View) -> bool
+    requires { ⌜ k ≡ key (item-at (now t) at) ⌝ }
+    ensures { λ r. ⌜ r ≡ testOf kind x (viewOf (item-at (now (t .entry)) at)) ⌝ }
+{
+    let id = k / 64;
+    if !((id == (x.id as u32)) | (id == (x.of as u32))) {
+        return false;
+    }
+    passes(kind, x, views::view_at(t, at))
+}
+
+// Whether some item passes; `os` and `keys` are the items' offsets and keys.
+fn any_of(t: &[u8], os: &[u16], keys: &[u32], kind: u8, x: View) -> bool
+    requires { ⌜ now keys ≡ keysAt (now t) (now os) ⌝ }
     ensures { λ r. ⌜ r ≡ any (λ y. testOf kind x (viewOf y)) (itemsAt (now (t .entry)) (now (os .entry))) ⌝ }
 {
     let mut i = 0;
     while i < os.len() {
-        if passes(kind, x, views::view_at(t, views::wide(os[i]))) {
+        if passes_at(t, views::wide(os[i]), keys[i], kind, x) {
             return true;
         }
         i += 1;
@@ -56,13 +71,14 @@ fn bad_copy_in_source(x: View) -> bool
 }
 
 // Rule 10 of a target item.
-fn bad_in_target(t: &[u8], os: &[u16], x: View) -> bool
+fn bad_in_target(t: &[u8], os: &[u16], keys: &[u32], x: View) -> bool
+    requires { ⌜ now keys ≡ keysAt (now t) (now os) ⌝ }
     ensures { λ r. ⌜ r ≡ badTenTarget (itemsAt (now (t .entry)) (now (os .entry))) x ⌝ }
 {
-    let starts = any_of(t, os, 0, x);
-    let class = any_of(t, os, 1, x);
-    let agrees = any_of(t, os, 2, x);
-    let copies = any_of(t, os, 3, x);
+    let starts = any_of(t, os, keys, 0, x);
+    let class = any_of(t, os, keys, 1, x);
+    let agrees = any_of(t, os, keys, 2, x);
+    let copies = any_of(t, os, keys, 3, x);
     let code = views::is_code(x);
     (class | ((code & starts) & (!agrees | !(x.of == 0)))) | (code & (!(x.of == 0) & !copies))
 }
@@ -81,24 +97,29 @@ pub fn ten_source(t: &[u8], os: &[u16]) -> Place
     best
 }
 
-// Rule 10 over the markers of the target sequence, below `start`.
-pub fn ten_target(t: &[u8], src: &[u16], os: &[u16], start: Place) -> Place
+// Rule 10 over the markers of the target sequence, below `start`. Quadratic in the markers: each looks at all keys of the source.
+pub fn ten_target(t: &[u8], src: &[u16], skeys: &[u32], os: &[u16], start: Place) -> Place
+    requires { ⌜ now skeys ≡ keysAt (now t) (now src) ⌝ }
     ensures { λ r. ⌜ refusal-at 10 r ≡ toward 10 start (blamed (bad-10-target (itemsAt (now (t .entry)) (now (src .entry)))) [] (placed-at (now (t .entry)) (now (os .entry)))) ⌝ }
 {
     let mut best = start;
     let mut i = 0;
     while i < os.len() {
         let at = views::wide(os[i]);
-        best = answers::lower_if(bad_in_target(t, src, views::view_at(t, at)), best, at);
+        best = answers::lower_if(
+            bad_in_target(t, src, skeys, views::view_at(t, at)),
+            best,
+            at,
+        );
         i += 1;
     }
     best
 }
 
 // Rule 10, by the offsets of the markers of both sequences.
-pub fn rule_10(t: &[u8], src: &[u16], tgt: &[u16]) -> Place
-    requires { ⌜ Passes (now t) × (now src ≡ offsets true 0 (now t)) × (now tgt ≡ target-offsets (now t) 0 (length (unit (now t) .parts))) ⌝ }
+pub fn rule_10(t: &[u8], src: &[u16], skeys: &[u32], tgt: &[u16]) -> Place
+    requires { ⌜ Passes (now t) × (now src ≡ offsets true 0 (now t)) × (now skeys ≡ keysAt (now t) (now src)) × (now tgt ≡ target-offsets (now t) 0 (length (unit (now t) .parts))) ⌝ }
     ensures { λ r. ⌜ refusal-at 10 r ≡ fault-10 (unit (now (t .entry)) .parts) ⌝ }
 {
-    ten_target(t, src, tgt, ten_source(t, src))
+    ten_target(t, src, skeys, tgt, ten_source(t, src))
 }

@@ -29,7 +29,7 @@ fn from_9(
         Place::At(at) => Answer::Refused(9, at),
         Place::Nowhere => answers::refused_by(
             10,
-            source_match::rule_10(t, src, tgt),
+            source_match::rule_10(t, src, skeys, tgt),
             Answer::Accepted(len),
         ),
     }

@@ -9,4 +9,4 @@ rule-10-spec =
     (tie.spec
     (λ c κs. search needs)
     (λ c κs. search needs)
-    (λ c. rule-10-is (c .before .before .before .before .before .args .t .now) (c .before .before .before .before .before .args .src .now) (c .before .before .before .before .before .args .tgt .now) (c .before .ten-source .result) (c .ten-target .result) (c .before .before .before .before .before .pre .0) (c .before .before .before .before .before .pre .1) (c .before .before .before .before .before .pre .2) (c .before .ten-source .ensures) (c .ten-target .ensures)))
+    (λ c. rule-10-is (c .before .before .before .before .before .before .args .t .now) (c .before .before .before .before .before .before .args .src .now) (c .before .before .before .before .before .before .args .tgt .now) (c .before .ten-source .result) (c .ten-target .result) (c .before .before .before .before .before .before .pre .0) (c .before .before .before .before .before .before .pre .1) (c .before .before .before .before .before .before .pre .3) (c .before .ten-source .ensures) (c .ten-target .ensures)))
