@@ -1,4 +1,5 @@
 // Rule 9: a pair with canOverlap N encloses neither an isolated code nor one half alone of another pair.
+// Throughout, `t` is the table, `src` and `tgt` the offsets of the markers of the source and the target sequence, `skeys` and `tkeys` their keys.
 use answers::Place;
 use views::View;
 ghost use mathlib.Core.Path.{_≡_};

@@ -1,4 +1,5 @@
 // Rule 7: a half without partner.
+// Throughout, `t` is the table, `src` and `tgt` the offsets of the markers of the source and the target sequence, `skeys` and `tkeys` their keys.
 use answers::Place;
 ghost use mathlib.Core.Path.{_≡_};
 ghost use mathlib.Core.Bool.{true, false};

@@ -1,4 +1,5 @@
 // Rule 10: codes of targets match those of the source.
+// Throughout, `t` is the table, `src` and `tgt` the offsets of the markers of the source and the target sequence, `skeys` and `tkeys` their keys.
 use answers::Place;
 use views::View;
 ghost use mathlib.Core.Path.{_≡_};
