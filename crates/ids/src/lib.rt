@@ -147,7 +147,7 @@ fn count_if(k: u32, n: usize) -> usize
     if k == 0 { n } else { n + 1 }
 }
 
-// Rule 6.
+// Rule 6. Quadratic in the ids: each is compared with those before it.
 pub fn rule_6(t: &[u8]) -> Place
     requires { ⌜ Passes (now t) ⌝ }
     ensures { λ r. ⌜ refusal-at 6 r ≡ fault-6 (unit (now (t .entry)) .parts) ⌝ }

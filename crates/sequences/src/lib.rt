@@ -109,7 +109,7 @@ pub fn sources(t: &[u8], out: &mut [u16]) -> usize
     collect(t, true, 0, out, 0)
 }
 
-// The markers of the target sequence, by rising order.
+// The markers of the target sequence, by rising order. Parts times records: one pass over the table for each order.
 pub fn targets(t: &[u8], parts: u16, out: &mut [u16]) -> usize
     requires { ⌜ Passes (now t) × (length (now t) ≤ 8192) × (length (now out) ≡ 1024) × (parts ≤ 64) ⌝ }
     ensures { λ r. ⌜ (take r (now (out .exit)) ≡ target-offsets (now (t .entry)) 0 parts) × (r ≤ 1024) × (length (now (out .exit)) ≡ 1024) ⌝ }
