@@ -1,9 +1,9 @@
 // Pieces written into a lent output.
 ghost use mathlib.Core.Path.{_≡_};
 ghost use mathlib.Core.List.{[], _∷_};
-ghost use Prim.Native.Nat.{_+_, _<_, _≤_};
+ghost use Prim.Native.Nat.{_+_, _-_, _<_, _≤_};
 ghost use lib.ListN.{length};
-ghost use Rattle.writer.specs.Pieces.{lead, overlay};
+ghost use Rattle.writer.specs.Pieces.{lead, overlay, part, numberBytes, markBytes};
 
 // All of `src` at the head of `out`.
 pub fn put(out: &mut [u8], src: &[u8]) -> usize
@@ -25,4 +25,33 @@ pub fn put_byte(out: &mut [u8], at: usize, b: u8) -> usize
 {
     out[at] = b;
     at + 1
+}
+
+// The bytes of `src` from `a` to `b`, from the index `at`; the index behind them.
+pub fn put_range(out: &mut [u8], at: usize, src: &[u8], a: usize, b: usize) -> usize
+    requires { ⌜ (a ≤ b) × (b ≤ length (now src)) × (at + (b - a) ≤ length (now out)) ⌝ }
+    ensures { λ r. ⌜ (r ≡ at + (b - a)) × (now (out .exit) ≡ overlay (now (out .entry)) at (part a b (now (src .entry)))) ⌝ }
+{
+    let n = put(&mut out[at..], &src[a..b]);
+    at + n
+}
+
+// A two-byte number at the index `at`.
+pub fn put_number(out: &mut [u8], at: usize, n: u16) -> usize
+    requires { ⌜ at + 2 ≤ length (now out) ⌝ }
+    ensures { λ r. ⌜ (r ≡ at + 2) × (now (out .exit) ≡ overlay (now (out .entry)) at (numberBytes n)) ⌝ }
+{
+    out[at] = (n / 256) as u8;
+    out[at + 1] = (n % 256) as u8;
+    at + 2
+}
+
+// A mark at the index `at`.
+pub fn put_mark(out: &mut [u8], at: usize, m: &[u8; 2]) -> usize
+    requires { ⌜ at + 2 ≤ length (now out) ⌝ }
+    ensures { λ r. ⌜ (r ≡ at + 2) × (now (out .exit) ≡ overlay (now (out .entry)) at (markBytes (now (m .entry)))) ⌝ }
+{
+    out[at] = m[0];
+    out[at + 1] = m[1];
+    at + 2
 }

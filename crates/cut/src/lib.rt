@@ -1,0 +1,126 @@
+// The two halves of a content that is cut, and two contents joined.
+ghost use mathlib.Core.Path.{_≡_};
+ghost use mathlib.Core.List.{[]};
+ghost use Prim.Native.Nat.{_+_, _-_, _<_, _≤_};
+ghost use lib.ListN.{length};
+ghost use Rattle.writer.specs.Pieces.{lead};
+ghost use Rattle.walk.specs.Kept.{Fair};
+ghost use Rattle.cut.specs.Turned.{startOrEnd, codeOrMark, turnIf, One, CutOne, CutAll, textPiece};
+ghost use Rattle.xliff.specs.Split.{first-items, second-items};
+ghost use Rattle.cut.specs.Halves.{Some, Room, Wrote, Long};
+
+fn start_or_end(b: u8) -> u8
+    ensures { λ r. ⌜ r ≡ startOrEnd b ⌝ }
+{
+    if b == b'O' { b'S' } else { b'E' }
+}
+
+fn code_or_mark(a: u8) -> u8
+    ensures { λ r. ⌜ r ≡ codeOrMark a ⌝ }
+{
+    if a == b'P' { b'C' } else { b'M' }
+}
+
+// A record's bytes at the head of `out`, with the marks of start and end if asked.
+fn put_turned(out: &mut [u8], t: &[u8], turn: bool)
+    requires { ⌜ (4 ≤ length (now t)) × (length (now t) ≤ length (now out)) ⌝ }
+    ensures { λ r. ⌜ now (out .exit) ≡ lead (turnIf turn (now (t .entry))) (now (out .entry)) ⌝ }
+{
+    let n = writer::put(out, t);
+    let a = t[0];
+    let b = t[1];
+    if turn & (((a == b'P') | (a == b'M')) & ((b == b'O') | (b == b'C'))) {
+        let i = writer::put_byte(out, 0, start_or_end(b));
+        let j = writer::put_byte(out, i, code_or_mark(a));
+    }
+}
+
+// One record, turned if its other half stands beyond the cut.
+fn put_cut_one(out: &mut [u8], t: &[u8], beyond: &[u8])
+    requires { ⌜ One (now t) × Fair (now beyond) × (length (now t) ≤ length (now out)) ⌝ }
+    ensures { λ r. ⌜ CutOne (now (t .entry)) (now (beyond .entry)) (now (out .entry)) (now (out .exit)) ⌝ }
+{
+    let turn = walk::has_other(beyond, walk::kind_of(t), walk::number_of(t));
+    put_turned(out, t, turn);
+}
+
+// All records of `a`.
+pub fn put_cut(out: &mut [u8], a: &[u8], beyond: &[u8]) -> usize
+    requires { ⌜ Fair (now a) × Fair (now beyond) × (length (now a) ≤ length (now out)) ⌝ }
+    ensures { λ r. ⌜ (r ≡ length (now (a .entry))) × CutAll (now (a .entry)) (now (beyond .entry)) (now (out .entry)) (now (out .exit)) ⌝ }
+{
+    let mut at: usize = 0;
+    while at < a.len() {
+        let e = at + walk::width_of(&a[at..]);
+        put_cut_one(&mut out[at..], &a[at..e], beyond);
+        at = e;
+    }
+    at
+}
+
+// A text as a record.
+pub fn put_text(out: &mut [u8], t: &[u8]) -> usize
+    requires { ⌜ (length (now t) < 65536) × (4 + length (now t) ≤ length (now out)) ⌝ }
+    ensures { λ r. ⌜ (r ≡ 4 + length (now (t .entry))) × (now (out .exit) ≡ lead (textPiece (now (t .entry))) (now (out .entry))) ⌝ }
+{
+    let i = writer::put_mark(out, 0, b"TX");
+    let j = writer::put_number(out, i, t.len() as u16);
+    let n = writer::put(&mut out[j..], t);
+    j + n
+}
+
+// The first half of a content that is cut at item `k`.
+pub fn put_first(out: &mut [u8], c: &[u8], k: usize) -> usize
+    requires { ⌜ Room (first-items k) (now c) (now out) ⌝ }
+    ensures { λ r. ⌜ Wrote (first-items k) (now (c .entry)) (now (out .entry)) r (now (out .exit)) ⌝ }
+{
+    let p = walk::place_of(c, k);
+    let at = p.at;
+    let into = p.into;
+    let n = put_cut(out, &c[..at], &c[at..]);
+    if into == 0 {
+        return n;
+    }
+    let s = at + 4;
+    let e = s + into;
+    let m = put_text(&mut out[n..], &c[s..e]);
+    n + m
+}
+
+// The second half.
+pub fn put_second(out: &mut [u8], c: &[u8], k: usize) -> usize
+    requires { ⌜ Room (second-items k) (now c) (now out) ⌝ }
+    ensures { λ r. ⌜ Wrote (second-items k) (now (c .entry)) (now (out .entry)) r (now (out .exit)) ⌝ }
+{
+    let p = walk::place_of(c, k);
+    let at = p.at;
+    let into = p.into;
+    if into == 0 {
+        return put_cut(out, &c[at..], &c[..at]);
+    }
+    let e = at + walk::width_of(&c[at..]);
+    let s = at + 4 + into;
+    let n = put_text(out, &c[s..e]);
+    let m = put_cut(&mut out[n..], &c[e..], &c[..at]);
+    n + m
+}
+
+// The lengths of the halves.
+pub fn first_length(c: &[u8], k: usize) -> usize
+    requires { ⌜ Some (now c) ⌝ }
+    ensures { λ r. ⌜ Long (first-items k) (now (c .entry)) r ⌝ }
+{
+    let p = walk::place_of(c, k);
+    if p.into == 0 {
+        return p.at;
+    }
+    p.at + 4 + p.into
+}
+
+pub fn second_length(c: &[u8], k: usize) -> usize
+    requires { ⌜ Some (now c) ⌝ }
+    ensures { λ r. ⌜ Long (second-items k) (now (c .entry)) r ⌝ }
+{
+    let p = walk::place_of(c, k);
+    c.len() - p.at - p.into
+}

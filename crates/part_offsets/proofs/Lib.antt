@@ -1,0 +1,5 @@
+pub mod InsideLaws
+pub mod OffsetLaws
+pub mod TableLaws
+pub mod CheckLaws
+pub mod FoundLaws

@@ -1,0 +1,167 @@
+-- The records of parts: their marks, their widths, one further, the end.
+use Prim.Native.Nat.{ℕ, _+_, _-_, _<_, _≤_}
+use mathlib.Core.Path.{_≡_, refl, sym, ap, ap₂, _∙_}
+use mathlib.Core.Bool.{Bool, true, false, _&&_, true≢false}
+use mathlib.Core.List.{List, [], _∷_, _++_, append-nil}
+use native.Mathlib.Omega.{arith}
+use lib.ListN.{length, getD, take, drop, length-append, length-drop}
+use lib.Seq.{drop-append-seam, take-append-seam, drop-drop}
+use lib.Dec.{eqb}
+use Rattle.xliff.specs.Bytes.{two, gather}
+use Rattle.xliff.specs.Item.{Item, start, end, form-P, form-S, text, character, standalone, isolated, pair, annotation-start, annotation-end, mark}
+use Rattle.xliff.specs.Unit.{segment, ignorable}
+use Rattle.xliff.specs.Encode.{Record, part-head, target-head, text-run, inline, head-bytes, record-bytes, spell}
+use Rattle.xliff.proofs.lists.Tests.{two-value, and-false}
+use Rattle.xliff.proofs.lists.Each.{Each, each-cons}
+use Rattle.xliff.proofs.records.Read.{GoodItem}
+use Rattle.walk.specs.Marks.{marked, number, widthAt}
+use Rattle.walk.proofs.WalkLaws.{item-width, item-least, text-width}
+use Rattle.writer.specs.Pieces.{lead, overlay, numberBytes}
+use Rattle.parts.specs.Parts.{InPart, head-in, target-in, item-in, text-in, widthIn, order-record, One}
+
+-- only SG, IG and TG end in G
+pub item-letter : (x : Item) (s : List ℕ) → GoodItem x → eqb (getD (record-bytes (inline x) ++ s) 1 0) 71 ≡ false
+unfolding record-bytes mark
+item-letter (text c) s g = absurd g
+item-letter (character c) s g = refl
+item-letter (standalone f) s g = refl
+item-letter (isolated start f) s g = refl
+item-letter (isolated end f) s g = refl
+item-letter (pair start form-P f) s g = refl
+item-letter (pair start form-S f) s g = refl
+item-letter (pair end form-P f) s g = refl
+item-letter (pair end form-S f) s g = refl
+item-letter (annotation-start form-P i t) s g = refl
+item-letter (annotation-start form-S i t) s g = refl
+item-letter (annotation-end form-P i) s g = refl
+item-letter (annotation-end form-S i) s g = refl
+
+pub unmarked : (t : List ℕ) (a : ℕ) → eqb (getD t 1 0) 71 ≡ false → marked t a 71 ≡ false
+unmarked t a e = ap (λ (b : Bool). eqb (getD t 0 0) a && b) e ∙ and-false (eqb (getD t 0 0) a)
+
+unmarked-width : (t : List ℕ) → eqb (getD t 1 0) 71 ≡ false → widthIn t ≡ widthAt t
+unfolding widthIn
+unmarked-width t e = rw (unmarked t 83 e, unmarked t 73 e, unmarked t 84 e)
+
+pub record-width : (r : Record) (s : List ℕ) → InPart r → widthIn (record-bytes r ++ s) ≡ length (record-bytes r)
+unfolding widthIn record-bytes head-bytes two
+record-width (part-head (segment i c t)) s head-in = refl
+record-width (part-head (ignorable i)) s head-in = refl
+record-width (target-head q) s (target-in l) = refl
+record-width (inline x) s (item-in g) = unmarked-width (record-bytes (inline x) ++ s) (item-letter x s g) ∙ item-width s x g
+record-width (text-run cs) s (text-in a l) = text-width s cs
+
+pub record-least : (r : Record) → InPart r → 4 ≤ length (record-bytes r)
+unfolding record-bytes head-bytes two
+record-least (part-head (segment i c t)) head-in = omega arith
+record-least (part-head (ignorable i)) head-in = omega arith
+record-least (target-head q) (target-in l) = omega arith
+record-least (inline x) (item-in g) = item-least [] x g
+record-least (text-run cs) (text-in a l) = omega arith
+
+pub one-least : (t : List ℕ) → One t → 4 ≤ length t
+one-least t (r, g, e) = let l : length t ≡ length (record-bytes r) = ap length e in omega (arith, record-least r g)
+
+-- a record marked TG is a target, every other stays
+pub record ATarget (r : Record) : Type 0 where
+  pub order : ℕ
+  pub is : r ≡ target-head order
+  pub small : order < 65535
+
+item-bare : (x : Item) → GoodItem x → marked (record-bytes (inline x)) 84 71 ≡ false
+item-bare x g =
+    unmarked (record-bytes (inline x)) 84
+    (ap (λ (l : List ℕ). eqb (getD l 1 0) 71) (sym (append-nil (record-bytes (inline x)))) ∙ item-letter x [] g)
+
+pub target-marked : (r : Record) → InPart r → marked (record-bytes r) 84 71 ≡ true → ATarget r
+unfolding record-bytes head-bytes
+target-marked (part-head (segment i c t)) head-in h = absurd (true≢false (sym h))
+target-marked (part-head (ignorable i)) head-in h = absurd (true≢false (sym h))
+target-marked (target-head q) (target-in l) h = record { order = q; is = refl; small = l }
+target-marked (inline x) (item-in g) h = absurd (true≢false (sym h ∙ item-bare x g))
+target-marked (text-run cs) (text-in a l) h = absurd (true≢false (sym h))
+
+pub others-stay : (f : ℕ → ℕ) (r : Record) → InPart r → marked (record-bytes r) 84 71 ≡ false → order-record f r ≡ r
+unfolding record-bytes
+others-stay f (part-head h) head-in e = refl
+others-stay f (target-head q) (target-in l) e = absurd (true≢false e)
+others-stay f (inline x) (item-in g) e = refl
+others-stay f (text-run cs) (text-in a l) e = refl
+
+pub order-is : (q : ℕ) → number (record-bytes (target-head q)) ≡ q
+unfolding record-bytes two
+order-is q = two-value q
+
+-- the order written over that of a copy
+pub order-over : (q n : ℕ) (o l m : List ℕ) → l ≡ lead (record-bytes (target-head q)) o → m ≡ overlay l 2 (numberBytes n) → m ≡ lead (record-bytes (target-head n)) o
+unfolding record-bytes two
+order-over q n o l m e f = f ∙ ap (λ (x : List ℕ). overlay x 2 (numberBytes n)) e
+
+pub marked-target : (f : ℕ → ℕ) (r : Record) (b : ATarget r) (t o l m : List ℕ) (n k : ℕ) → t ≡ record-bytes r → n ≡ number t → k ≡ f n
+    → l ≡ lead t o → m ≡ overlay l 2 (numberBytes k) → m ≡ lead (record-bytes (order-record f r)) o
+marked-target f r b t o l m n k e g h i j =
+    let s : t ≡ record-bytes (target-head (b .order)) = e ∙ ap record-bytes (b .is) in
+    let v : k ≡ f (b .order) = h ∙ ap f (g ∙ ap number s ∙ order-is (b .order)) in
+    order-over (b .order) k o l m (i ∙ ap (λ (x : List ℕ). lead x o) s) j
+    ∙ ap (λ (x : ℕ). lead (record-bytes (target-head x)) o) v ∙ ap (λ (x : Record). lead (record-bytes (order-record f x)) o) (sym (b .is))
+
+-- the records rs stand in t from the offset at
+pub record Rest (t : List ℕ) (at : ℕ) (rs : List Record) : Type 0 where
+  pub each : Each InPart rs
+  pub bytes : spell rs ≡ drop at t
+
+-- and the first of them
+pub record Next (t : List ℕ) (at : ℕ) (rs : List Record) : Type 0 where
+  pub first : Record
+  pub others : List Record
+  pub all : rs ≡ first ∷ others
+  pub good : InPart first
+  pub bytes : drop at t ≡ record-bytes first ++ spell others
+  pub width : widthIn (drop at t) ≡ length (record-bytes first)
+  pub least : 4 ≤ widthIn (drop at t)
+  pub enough : 4 ≤ length (drop at t)
+  pub fit : at + widthIn (drop at t) ≤ length t
+  pub rest : Rest t (at + widthIn (drop at t)) others
+
+each-first : (r : Record) (rs : List Record) → Each InPart (r ∷ rs) → InPart r × Each InPart rs
+each-first r rs (each-cons g h) = (g, h)
+
+pub next : (t : List ℕ) (at : ℕ) (rs : List Record) → at < length t → Rest t at rs → Next t at rs
+unfolding spell gather
+next t at [] h m = absurd (let z : 0 ≡ length (drop at t) = ap length (m .bytes) in let y : ⊥ = omega (arith, length-drop at t) in y)
+next t at (r ∷ rs) h m =
+    let (g, k) = each-first r rs (m .each) in
+    let e : drop at t ≡ record-bytes r ++ spell rs = sym (m .bytes) in
+    let w : widthIn (drop at t) ≡ length (record-bytes r) = ap widthIn e ∙ record-width r (spell rs) g in
+    let l : 4 ≤ length (record-bytes r) = record-least r g in
+    let n : length (drop at t) ≡ length (record-bytes r) + length (spell rs) = ap length e ∙ length-append (record-bytes r) (spell rs) in
+    let d = length-drop at t in
+    record {
+      first = r;
+      others = rs;
+      all = refl;
+      good = g;
+      bytes = e;
+      width = w;
+      least = omega arith;
+      enough = omega arith;
+      fit = omega arith;
+      rest = record {
+        each = k;
+        bytes = sym (sym (rw drop-drop) ∙ ap₂ (λ (n : ℕ) (l : List ℕ). drop n l) w e ∙ drop-append-seam (record-bytes r) (spell rs));
+      };
+    }
+
+pub rest-end : (t : List ℕ) (at : ℕ) (rs : List Record) → length t ≤ at → Rest t at rs → rs ≡ []
+unfolding spell gather
+rest-end t at [] h m = refl
+rest-end t at (r ∷ rs) h m =
+    let l : 4 ≤ length (record-bytes r) = record-least r (each-first r rs (m .each) .0) in
+    let z : length (record-bytes r ++ spell rs) ≡ length (drop at t) = ap length (m .bytes) in
+    absurd (let y : ⊥ = omega (arith, length-drop at t, length-append (record-bytes r) (spell rs)) in y)
+
+-- the bytes of the first record
+pub next-slice : (t : List ℕ) (at w : ℕ) (rs : List Record) (n : Next t at rs) → w ≡ widthIn (drop at t) → take (at + w - at) (drop at t) ≡ record-bytes (n .first)
+next-slice t at w rs n e =
+    ap₂ (λ (k : ℕ) (l : List ℕ). take k l) (let z : at + w - at ≡ length (record-bytes (n .first)) = omega (arith, n .width) in z) (n .bytes)
+    ∙ take-append-seam (record-bytes (n .first)) (spell (n .others))

@@ -1,0 +1,60 @@
+// Whole parts copied, with the orders of their targets changed.
+ghost use mathlib.Core.Path.{_≡_};
+ghost use Prim.Native.Nat.{_<_, _≤_};
+ghost use lib.ListN.{length};
+ghost use Rattle.parts.specs.Parts.{SomeParts, WroteParts, moved, widthIn, One, WroteOne};
+
+// The bytes of the record of a part at the head of `t`.
+pub fn width_of(t: &[u8]) -> usize
+    requires { ⌜ 4 ≤ length (now t) ⌝ }
+    ensures { λ r. ⌜ r ≡ widthIn (now (t .entry)) ⌝ }
+{
+    let a = t[0];
+    let b = t[1];
+    if (a == b'S') & (b == b'G') {
+        return 6;
+    }
+    if ((a == b'I') & (b == b'G')) | ((a == b'T') & (b == b'G')) {
+        return 4;
+    }
+    walk::width_of(t)
+}
+
+// The order `n`, one up or down if it is above `q`.
+fn moved_order(n: u16, q: u16, up: bool) -> u16
+    requires { ⌜ n < 65535 ⌝ }
+    ensures { λ r. ⌜ r ≡ moved up q n ⌝ }
+{
+    if n <= q {
+        return n;
+    }
+    if up {
+        return n + 1;
+    }
+    n - 1
+}
+
+// The record `t` of a part, a target's order moved.
+fn put_record(out: &mut [u8], t: &[u8], q: u16, up: bool)
+    requires { ⌜ One (now t) × (length (now t) ≤ length (now out)) ⌝ }
+    ensures { λ r. ⌜ WroteOne (moved up q) (now (t .entry)) (now (out .entry)) (now (out .exit)) ⌝ }
+{
+    let n = writer::put(out, t);
+    if (t[0] == b'T') & (t[1] == b'G') {
+        let e = writer::put_number(out, 2, moved_order(walk::number_of(t), q, up));
+    }
+}
+
+// The parts that stand in `t`, orders above `q` one up or one down, at the head of `out`.
+pub fn put_parts(out: &mut [u8], t: &[u8], q: u16, up: bool) -> usize
+    requires { ⌜ SomeParts (now t) × (length (now t) ≤ length (now out)) ⌝ }
+    ensures { λ r. ⌜ (r ≡ length (now (t .entry))) × WroteParts (moved up q) (now (t .entry)) (now (out .entry)) (now (out .exit)) ⌝ }
+{
+    let mut at: usize = 0;
+    while at < t.len() {
+        let e = at + width_of(&t[at..]);
+        put_record(&mut out[at..], &t[at..e], q, up);
+        at = e;
+    }
+    at
+}

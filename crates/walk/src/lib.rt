@@ -1,0 +1,207 @@
+// A walk over a content that is known to be good.
+ghost use mathlib.Core.Path.{_≡_};
+ghost use mathlib.Core.Bool.{true, false, _&&_};
+ghost use Prim.Native.Nat.{_+_, _-_, _*_, _<_, _≤_};
+ghost use lib.ListN.{length};
+ghost use lib.Dec.{eqb};
+ghost use Rattle.walk.specs.Kept.{Fair};
+ghost use Rattle.walk.specs.Marks.{number, widthAt, kindAt, opposite, Answers, point-width};
+ghost use Rattle.walk.specs.Place.{Text, PassedOver, passText, Begins, PassedOne, PlaceOf};
+
+// Where an item begins: its record's offset, the bytes before it in that record's text, the items that are missing.
+pub struct Place {
+    pub at: usize,
+    pub into: usize,
+    pub left: usize,
+}
+
+fn wide(x: u8) -> u16
+    ensures { λ r. ⌜ (r ≡ x) × (r < 256) ⌝ }
+{
+    x as u16
+}
+
+// The two-byte number behind a mark.
+pub fn number_of(t: &[u8]) -> u16
+    requires { ⌜ 4 ≤ length (now t) ⌝ }
+    ensures { λ r. ⌜ r ≡ number (now (t .entry)) ⌝ }
+{
+    wide(t[2]) * 256 + wide(t[3])
+}
+
+// The bytes of the record at the head of `t`.
+pub fn width_of(t: &[u8]) -> usize
+    requires { ⌜ 4 ≤ length (now t) ⌝ }
+    ensures { λ r. ⌜ r ≡ widthAt (now (t .entry)) ⌝ }
+{
+    let a = t[0];
+    let b = t[1];
+    if (a == b'T') & (b == b'X') {
+        return 4 + number_of(t) as usize;
+    }
+    if (a == b'C') & (b == b'P') {
+        return 6;
+    }
+    if ((a == b'M') & (b == b'O')) | ((a == b'S') & (b == b'M')) {
+        return 5;
+    }
+    if ((a == b'M') & (b == b'C')) | ((a == b'E') & (b == b'M')) {
+        return 4;
+    }
+    12
+}
+
+// Which half of a pair or of an annotation the record at the head of `t` is.
+pub fn kind_of(t: &[u8]) -> u8
+    requires { ⌜ 4 ≤ length (now t) ⌝ }
+    ensures { λ r. ⌜ r ≡ kindAt (now (t .entry)) ⌝ }
+{
+    let a = t[0];
+    let b = t[1];
+    if ((a == b'P') & (b == b'O')) | ((a == b'S') & (b == b'C')) {
+        return 1;
+    }
+    if ((a == b'P') & (b == b'C')) | ((a == b'E') & (b == b'C')) {
+        return 2;
+    }
+    if ((a == b'M') & (b == b'O')) | ((a == b'S') & (b == b'M')) {
+        return 3;
+    }
+    if ((a == b'M') & (b == b'C')) | ((a == b'E') & (b == b'M')) {
+        return 4;
+    }
+    0
+}
+
+fn opposite_kinds(a: u8, b: u8) -> bool
+    ensures { λ r. ⌜ r ≡ opposite a b ⌝ }
+{
+    ((a == 1) & (b == 2)) | ((a == 2) & (b == 1)) | (((a == 3) & (b == 4)) | ((a == 4) & (b == 3)))
+}
+
+// Whether the record at the head of `t` is the other half of one of that kind and id.
+fn other_at(t: &[u8], kind: u8, id: u16) -> bool
+    requires { ⌜ 4 ≤ length (now t) ⌝ }
+    ensures { λ r. ⌜ r ≡ opposite kind (kindAt (now (t .entry))) && eqb id (number (now (t .entry))) ⌝ }
+{
+    opposite_kinds(kind, kind_of(t)) & (id == number_of(t))
+}
+
+// Whether a content has the other half of a record of that kind and id.
+pub fn has_other(c: &[u8], kind: u8, id: u16) -> bool
+    requires { ⌜ Fair (now c) ⌝ }
+    ensures { λ r. ⌜ Answers (now (c .entry)) kind id r ⌝ }
+{
+    let mut at: usize = 0;
+    while at < c.len() {
+        if other_at(&c[at..], kind, id) {
+            return true;
+        }
+        at += width_of(&c[at..]);
+    }
+    false
+}
+
+// The bytes of a code point, told by its first byte.
+fn width_by(b: u8) -> usize
+    ensures { λ r. ⌜ r ≡ point-width b ⌝ }
+{
+    if b < 0x80 {
+        return 1;
+    }
+    if b < 0xE0 {
+        return 2;
+    }
+    if b < 0xF0 {
+        return 3;
+    }
+    4
+}
+
+// Bytes passed over, and code points that were missing.
+struct Passed {
+    bytes: usize,
+    left: usize,
+}
+
+// The first `k` code points of a text passed over.
+fn pass_points(t: &[u8], k: usize) -> Passed
+    requires { ⌜ Text (now t) ⌝ }
+    ensures { λ r. ⌜ PassedOver (now (t .entry)) k r ⌝ }
+{
+    let mut at: usize = 0;
+    let mut left = k;
+    while at < t.len() {
+        if left == 0 {
+            return Passed { bytes: at, left: 0 };
+        }
+        at += width_by(t[at]);
+        left -= 1;
+    }
+    Passed {
+        bytes: at,
+        left: left,
+    }
+}
+
+// The item stands in the record met, behind so many bytes of its text; or the record's width, and the items left.
+enum Pass {
+    Stop(usize),
+    On(usize, usize),
+}
+
+fn pass_text(p: Passed, n: usize) -> Pass
+    requires { ⌜ n < 65536 ⌝ }
+    ensures { λ r. ⌜ r ≡ passText p n ⌝ }
+{
+    if p.bytes < n {
+        Pass::Stop(p.bytes)
+    } else {
+        Pass::On(4 + n, p.left)
+    }
+}
+
+// The record at the head of `t` met with `k` items to pass over.
+fn pass_one(t: &[u8], k: usize) -> Pass
+    requires { ⌜ Begins (now t) ⌝ }
+    ensures { λ r. ⌜ PassedOne (now (t .entry)) k r ⌝ }
+{
+    if (t[0] == b'T') & (t[1] == b'X') {
+        let n = number_of(t) as usize;
+        let e = 4 + n;
+        return pass_text(pass_points(&t[4..e], k), n);
+    }
+    if k == 0 {
+        return Pass::Stop(0);
+    }
+    Pass::On(width_of(t), k - 1)
+}
+
+// Where item number `k` of a content begins.
+pub fn place_of(c: &[u8], k: usize) -> Place
+    requires { ⌜ Fair (now c) ⌝ }
+    ensures { λ r. ⌜ PlaceOf (now (c .entry)) k r ⌝ }
+{
+    let mut at: usize = 0;
+    let mut left = k;
+    while at < c.len() {
+        match pass_one(&c[at..], left) {
+            Pass::Stop(into) => {
+                return Place {
+                    at: at,
+                    into: into,
+                    left: 0,
+                };
+            }
+            Pass::On(w, l) => {
+                at += w;
+                left = l;
+            }
+        }
+    }
+    Place {
+        at: at,
+        into: 0,
+        left: left,
+    }
+}
