@@ -1,0 +1,4 @@
+pub mod ContentLaws
+pub mod SpanLaws
+pub mod PartLaws
+pub mod SearchLaws

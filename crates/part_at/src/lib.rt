@@ -1,0 +1,164 @@
+// Where the parts of a table stand.
+use orders::Order;
+use table::Read;
+use table::Record;
+ghost use mathlib.Core.Path.{_≡_};
+ghost use mathlib.Core.Bool.{true, false};
+ghost use Prim.Native.Nat.{_+_, _-_, _<_};
+ghost use lib.ListN.{drop};
+ghost use Rattle.xliff.specs.Parse.{read, is-part, unit};
+ghost use Rattle.xliff.specs.Focus.{focus};
+ghost use Rattle.places.specs.Passes.{Passes};
+ghost use Rattle.orders.specs.Heads.{orderOf, orderIn};
+ghost use Rattle.part_at.specs.Content.{inContent, isContent, ContentAt, ContentEnds};
+ghost use Rattle.part_at.specs.Stands.{TargetAt, TargetSpans, PartFrom, PartSpans, PartFound};
+
+fn in_content(x: Record) -> bool
+    ensures { λ r. ⌜ r ≡ inContent x ⌝ }
+{
+    match x {
+        Record::Unit(_) => false,
+        Record::UnitEnd => false,
+        Record::Segment(_, _, _) => false,
+        Record::Ignorable(_) => false,
+        Record::Target(_) => false,
+        Record::Text => true,
+        Record::Inline(_) => true,
+    }
+}
+
+fn is_content(r: Read) -> bool
+    ensures { λ x. ⌜ x ≡ isContent r ⌝ }
+{
+    match r {
+        Read::Good(x, _) => in_content(x),
+        Read::Ill => false,
+        Read::Broken(_) => false,
+    }
+}
+
+// The end of the content that starts at an offset.
+pub fn content_end(t: &[u8], start: usize) -> usize
+    requires { ⌜ ContentAt (now t) start ⌝ }
+    ensures { λ r. ⌜ ContentEnds (now (t .entry)) start r ⌝ }
+{
+    let mut at = start;
+    while at < t.len() {
+        let r = table::record_at(t, at);
+        if !is_content(r) {
+            return at;
+        }
+        at += syntax::width_of(r);
+    }
+    at
+}
+
+fn order_in(x: Record) -> Order
+    ensures { λ r. ⌜ r ≡ orderIn x ⌝ }
+{
+    match x {
+        Record::Unit(_) => Order::Not,
+        Record::UnitEnd => Order::Not,
+        Record::Segment(_, _, _) => Order::Not,
+        Record::Ignorable(_) => Order::Not,
+        Record::Target(q) => Order::Is(q),
+        Record::Text => Order::Not,
+        Record::Inline(_) => Order::Not,
+    }
+}
+
+// The order that a TG sets.
+pub fn order_of(r: Read) -> Order
+    ensures { λ x. ⌜ x ≡ orderOf r ⌝ }
+{
+    match r {
+        Read::Good(x, _) => order_in(x),
+        Read::Ill => Order::Not,
+        Read::Broken(_) => Order::Not,
+    }
+}
+
+// The offsets of a part: its SG or IG, its source content, its TG and its end. Without a target the TG's is the end, and the order 0.
+pub struct PartPlace {
+    pub head: usize,
+    pub source: usize,
+    pub target: usize,
+    pub end: usize,
+    pub order: u16,
+    pub has_target: bool,
+}
+
+// The part with these offsets, its target or the next part at `target`.
+fn target_place(t: &[u8], head: usize, source: usize, target: usize) -> PartPlace
+    requires { ⌜ TargetAt (now t) target ⌝ }
+    ensures { λ r. ⌜ (r .head ≡ head) × (r .source ≡ source) × (r .target ≡ target) × TargetSpans (now (t .entry)) target r ⌝ }
+{
+    let r = table::record_at(t, target);
+    let w = syntax::width_of(r);
+    match order_of(r) {
+        Order::Is(q) => {
+            let end = content_end(t, target + w);
+            PartPlace {
+                head: head,
+                source: source,
+                target: target,
+                end: end,
+                order: q,
+                has_target: true,
+            }
+        }
+        Order::Not => PartPlace {
+            head: head,
+            source: source,
+            target: target,
+            end: target,
+            order: 0,
+            has_target: false,
+        },
+    }
+}
+
+// The part whose head stands at an offset.
+fn part_from(t: &[u8], at: usize) -> PartPlace
+    requires { ⌜ PartFrom (now t) at ⌝ }
+    ensures { λ r. ⌜ PartSpans (now (t .entry)) at r ⌝ }
+{
+    let source = at + syntax::width_of(table::record_at(t, at));
+    let target = content_end(t, source);
+    target_place(t, at, source, target)
+}
+
+fn starts_part(t: &[u8], at: usize) -> bool
+    ensures { λ r. ⌜ r ≡ is-part (read (drop at (now (t .entry)))) ⌝ }
+{
+    syntax::is_part(table::record_at(t, at))
+}
+
+pub enum FoundPart {
+    At(PartPlace),
+    Missing,
+}
+
+// The part `n`, counted from 1.
+pub fn part_at(t: &[u8], n: usize) -> FoundPart
+    requires { ⌜ Passes (now t) ⌝ }
+    ensures { λ r. ⌜ PartFound (now (t .entry)) (focus (unit (now (t .entry)) .parts) n) r ⌝ }
+{
+    if n == 0 {
+        return FoundPart::Missing;
+    }
+    let mut at = 3;
+    let mut left = n;
+    while 1 < left {
+        if !starts_part(t, at) {
+            return FoundPart::Missing;
+        }
+        let p = part_from(t, at);
+        at = p.end;
+        left -= 1;
+    }
+    if !starts_part(t, at) {
+        return FoundPart::Missing;
+    }
+    FoundPart::At(part_from(t, at))
+}

@@ -1,0 +1,3 @@
+pub mod HoldLaws
+pub mod CountLaws
+pub mod CutLaws

@@ -1,0 +1,4 @@
+pub mod CountLaws
+pub mod StandLaws
+pub mod AddedLaws
+pub mod SizeLaws
