@@ -13,7 +13,7 @@ use Rattle.xliff.specs.Split.{bad-cut}
 use Rattle.walk.specs.Kept.{Holds}
 use Rattle.part_at.specs.declared.PartPlace.{PartPlace}
 use Rattle.part_at.specs.Stands.{PartStands}
-use Rattle.part_refusals.specs.Refusals.{Standing}
+use Rattle.part_at.specs.Stands.{Standing}
 
 -- the check passes the table, and at the place stands a part
 abbrev pub Checked : List ℕ → PartPlace → Type 0
