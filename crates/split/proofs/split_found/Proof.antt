@@ -1,0 +1,16 @@
+use lib.ListN.{length}
+use Rattle.split.proofs.ChainLaws.{no-part, answers-refused}
+use borrow.Author.Needs.{needs}
+use Rattle.split.proofs.split_found.Statement.{statement}
+use Rattle.split.proofs.split_found.Tie as tie
+
+pub split-found-spec : {M : Type 1} → statement M
+split-found-spec =
+    tie.close
+    (tie.spec
+    (λ c. search needs)
+    (λ c κs. (c .before .before .before .before .before .before .pre .0, rw (c .before .before .found .given .1) at (c .before .before .before .before .before .before .pre .1)))
+    (λ c. search needs)
+    (λ c. search needs)
+    (λ c. search needs)
+    (λ c. answers-refused _ 11 0 (c .before .before .before .before .args .out .now) (no-part (c .before .before .before .before .args .table .now) (c .before .before .before .before .args .n) (c .before .before .before .before .args .cut) (c .before .before .before .before .args .tcut) (c .before .before .before .before .args .id) (length (c .before .before .before .before .args .out .now)) (c .before .before .before .before .pre .0) (rw (c .enum-told .given .1) at (c .before .before .before .before .pre .1)))))
