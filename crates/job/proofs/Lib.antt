@@ -1,2 +1,2 @@
-pub mod JobLaws
 pub mod RunLaws
+pub mod StepLaws

@@ -1,57 +1,32 @@
--- Stepping stones of the job runner: the size of a record by its mark.
-use Prim.Native.Nat.{ℕ, _+_}
-use mathlib.Core.Bool.{Bool, false, cond}
-use mathlib.Core.List.{List, [], _∷_, _++_}
+-- What one request comes to: its line, and the table that it leaves.
+use Prim.Native.Nat.{ℕ, _≤_}
+use mathlib.Core.Path.{_≡_}
+use mathlib.Core.List.{List}
 use lib.ListN.{length, take}
-use lib.Dec.{ltb}
-use Rattle.xliff.specs.Bytes.{two-at, enough}
-use Rattle.xliff.specs.Answer.{refused}
-use Rattle.xliff.specs.Calls.{Call}
-use Rattle.xliff.specs.Desk.{line, table-line}
-use Rattle.table.specs.Number.{marked}
+use Rattle.xliff.specs.Answer.{answer}
+use Rattle.xliff.specs.Calls.{outcome, left}
+use Rattle.xliff.specs.Desk.{line}
+use Rattle.answers.specs.declared.Answer.{Answer}
+use Rattle.answers.specs.declared.Answer.the-variants.{Accepted, Refused}
+use Rattle.writer.specs.Pieces.{lead}
+use Rattle.requests.specs.Requests.{call-of}
+use Rattle.requests.specs.declared.Request.{Request}
+use Rattle.job.specs.declared.Step.{Step}
 
--- no operation runs yet
-abbrev pub none-yet : Call → Bool
-none-yet c = false
+-- an accepted length within the lent output
+abbrev pub FitsIn : Answer → Type 0
+FitsIn (Accepted m) = m ≤ 8192
+FitsIn (Refused n at) = Unit {0}
 
--- what an accepted table of n bytes prints while no operation runs
-unfoldable pub requestLines : ℕ → List ℕ → List ℕ
-requestLines n job = cond (ltb n (length job)) (line (refused 2 n) ++ table-line (take n job)) (table-line (take n job))
+-- the result of an accepted request, else the first n bytes, the table as before it
+abbrev pub kept-table : Answer → ℕ → List ℕ → List ℕ → List ℕ
+kept-table (Accepted m) n table result = take m result
+kept-table (Refused k at) n table result = take n table
 
--- n, if there are so many bytes, else 0
-unfoldable pub wholeOf : ℕ → List ℕ → ℕ
-wholeOf n s = cond (enough n s) n 0
-
--- by the marks of annotations
-unfoldable pub annotationSize : List ℕ → ℕ
-annotationSize s =
-    cond (marked s (77 ∷ 79 ∷ [])) (wholeOf 5 s)
-    (cond (marked s (83 ∷ 77 ∷ [])) (wholeOf 5 s)
-    (cond (marked s (77 ∷ 67 ∷ [])) (wholeOf 4 s)
-    (cond (marked s (69 ∷ 77 ∷ [])) (wholeOf 4 s) 0)))
-
--- by the marks SC EC IS IE
-unfoldable pub pairSize : List ℕ → ℕ
-pairSize s =
-    cond (marked s (83 ∷ 67 ∷ [])) (wholeOf 12 s)
-    (cond (marked s (69 ∷ 67 ∷ [])) (wholeOf 12 s)
-    (cond (marked s (73 ∷ 83 ∷ [])) (wholeOf 12 s)
-    (cond (marked s (73 ∷ 69 ∷ [])) (wholeOf 12 s) (annotationSize s))))
-
--- by the marks TX CP PH PO PC
-unfoldable pub inlineSize : List ℕ → ℕ
-inlineSize s =
-    cond (marked s (84 ∷ 88 ∷ [])) (wholeOf (4 + two-at s 2) s)
-    (cond (marked s (67 ∷ 80 ∷ [])) (wholeOf 6 s)
-    (cond (marked s (80 ∷ 72 ∷ [])) (wholeOf 12 s)
-    (cond (marked s (80 ∷ 79 ∷ [])) (wholeOf 12 s)
-    (cond (marked s (80 ∷ 67 ∷ [])) (wholeOf 12 s) (pairSize s)))))
-
--- by the marks UN UE SG IG TG
-unfoldable pub markedSize : List ℕ → ℕ
-markedSize s =
-    cond (marked s (85 ∷ 78 ∷ [])) (wholeOf 3 s)
-    (cond (marked s (85 ∷ 69 ∷ [])) (wholeOf 2 s)
-    (cond (marked s (83 ∷ 71 ∷ [])) (wholeOf 6 s)
-    (cond (marked s (73 ∷ 71 ∷ [])) (wholeOf 4 s)
-    (cond (marked s (84 ∷ 71 ∷ [])) (wholeOf 4 s) (inlineSize s)))))
+-- a request on the table t: its line at the head of the output, and the table that it leaves
+pub record Performed (r : Request) (t out : List ℕ) (s : Step) (table′ out′ : List ℕ) : Type 0 where
+  pub prints : s .printed ≡ length (line (answer (outcome t (call-of r))))
+  pub wrote : out′ ≡ lead (line (answer (outcome t (call-of r)))) out
+  pub short : s .printed ≤ 48
+  pub leaves : take (s .length) table′ ≡ left t (call-of r)
+  pub fits : s .length ≤ 8192

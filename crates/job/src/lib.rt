@@ -1,187 +1,116 @@
 // The job runner: what the desk program prints for a job.
 use answers::Answer;
+use requests::Asked;
+use requests::Request;
 ghost use mathlib.Core.Path.{_≡_};
-ghost use Prim.Native.Nat.{_+_, _≤_};
-ghost use lib.ListN.{length, take};
-ghost use Rattle.xliff.specs.Bytes.{two-at};
+ghost use mathlib.Core.List.{_++_};
+ghost use Prim.Native.Nat.{_+_, _*_, _<_, _≤_};
+ghost use lib.ListN.{length, take, drop};
+ghost use Rattle.xliff.specs.Answer.{refused};
 ghost use Rattle.xliff.specs.Check.{check};
-ghost use Rattle.xliff.specs.Desk.{whole-size, is-UE, table-length, desk-job, desk-with};
+ghost use Rattle.xliff.specs.Desk.{line, table-line, table-length, answer-requests, desk-job, desk-with};
 ghost use Rattle.answers.specs.Answers.{answer-meaning};
 ghost use Rattle.writer.specs.Pieces.{lead};
-ghost use Rattle.job.specs.Job.{none-yet, requestLines, wholeOf, annotationSize, pairSize, inlineSize, markedSize};
+ghost use Rattle.requests.specs.Requests.{runs};
+ghost use Rattle.job.specs.Job.{FitsIn, kept-table, Performed};
 
-// `n`, if there are so many bytes, else 0.
-fn whole(t: &[u8], n: usize) -> usize
-    ensures { λ r. ⌜ r ≡ wholeOf n (now (t .entry)) ⌝ }
-{
-    if t.len() < n {
-        return 0;
-    }
-    n
+// What a request printed, and the length of the table that it left.
+pub struct Step {
+    pub printed: usize,
+    pub length: usize,
 }
 
-fn text_size(t: &[u8]) -> usize
-    ensures { λ r. ⌜ r ≡ wholeOf (4 + two-at (now (t .entry)) 2) (now (t .entry)) ⌝ }
+// The table behind an answer: the result of an accepted request, else the table as before it. Its length.
+fn keep(table: &mut [u8], n: usize, a: Answer, result: &[u8]) -> usize
+    requires { ⌜ (n ≤ 8192) × (length (now table) ≡ 8192) × (length (now result) ≡ 8192) × FitsIn a ⌝ }
+    ensures { λ r. ⌜ (take r (now (table .exit)) ≡ kept-table a n (now (table .entry)) (now (result .entry))) × (r ≤ 8192) ⌝ }
 {
-    if t.len() < 4 {
-        return 0;
+    match a {
+        Answer::Accepted(m) => writer::put(table, &result[..m]),
+        Answer::Refused(_, _) => n,
     }
-    let n = table::number_at(t, 2) as usize;
-    whole(t, 4 + n)
 }
 
-fn annotation_size(t: &[u8]) -> usize
-    requires { ⌜ 2 ≤ length (now t) ⌝ }
-    ensures { λ r. ⌜ r ≡ annotationSize (now (t .entry)) ⌝ }
+// One request on the table in the first `n` bytes of `table`: its line at the head of `out`, and in `table` the table that it leaves.
+fn answer_request(r: Request, table: &mut [u8], n: usize, out: &mut [u8]) -> Step
+    requires { ⌜ (n ≤ 8192) × (length (now table) ≡ 8192) × (48 ≤ length (now out)) ⌝ }
+    ensures { λ s. ⌜ Performed r (take n (now (table .entry))) (now (out .entry)) s (now (table .exit)) (now (out .exit)) ⌝ }
 {
-    if table::marked_by(t, b"MO") {
-        return whole(t, 5);
+    let mut result = [0u8; 8192];
+    let a = operations::perform(&table[..n], r, &mut result);
+    let printed = lines::put_line(out, a);
+    let length = keep(table, n, a, &result);
+    Step {
+        printed: printed,
+        length: length,
     }
-    if table::marked_by(t, b"SM") {
-        return whole(t, 5);
-    }
-    if table::marked_by(t, b"MC") {
-        return whole(t, 4);
-    }
-    if table::marked_by(t, b"EM") {
-        return whole(t, 4);
-    }
-    0
 }
 
-fn pair_size(t: &[u8]) -> usize
-    requires { ⌜ 2 ≤ length (now t) ⌝ }
-    ensures { λ r. ⌜ r ≡ pairSize (now (t .entry)) ⌝ }
+// The last lines where the request at the offset `at` is unreadable.
+fn put_unreadable(out: &mut [u8], at: usize, t: &[u8]) -> usize
+    requires { ⌜ (length (now t) ≤ 8192) × (16433 ≤ length (now out)) ⌝ }
+    ensures { λ r. ⌜ (r ≡ length (line (refused 2 at) ++ table-line (now (t .entry)))) × (now (out .exit) ≡ lead (line (refused 2 at) ++ table-line (now (t .entry))) (now (out .entry))) × (r ≤ 16433) ⌝ }
 {
-    if table::marked_by(t, b"SC") {
-        return whole(t, 12);
-    }
-    if table::marked_by(t, b"EC") {
-        return whole(t, 12);
-    }
-    if table::marked_by(t, b"IS") {
-        return whole(t, 12);
-    }
-    if table::marked_by(t, b"IE") {
-        return whole(t, 12);
-    }
-    annotation_size(t)
+    let k = lines::put_line(out, Answer::Refused(2, at));
+    k + lines::put_table(&mut out[k..], t)
 }
 
-fn inline_size(t: &[u8]) -> usize
-    requires { ⌜ 2 ≤ length (now t) ⌝ }
-    ensures { λ r. ⌜ r ≡ inlineSize (now (t .entry)) ⌝ }
+// The lines of the requests behind the first `n` bytes of a job, whose table stands at the head of `table`; last the table.
+// No line is longer than 48 bytes and no request shorter than 4.
+fn put_requests(job: &[u8], n: usize, table: &mut [u8], out: &mut [u8]) -> usize
+    requires { ⌜ (n ≤ length (now job)) × (n ≤ 8192) × (length (now job) ≤ 65535) × (length (now table) ≡ 8192) × (length (now out) ≡ 1048576) ⌝ }
+    ensures { λ r. ⌜ (r ≡ length (answer-requests runs (length (now (job .entry))) (take n (now (table .entry))) n (drop n (now (job .entry))))) × (now (out .exit) ≡ lead (answer-requests runs (length (now (job .entry))) (take n (now (table .entry))) n (drop n (now (job .entry)))) (now (out .entry))) ⌝ }
 {
-    if table::marked_by(t, b"TX") {
-        return text_size(t);
-    }
-    if table::marked_by(t, b"CP") {
-        return whole(t, 6);
-    }
-    if table::marked_by(t, b"PH") {
-        return whole(t, 12);
-    }
-    if table::marked_by(t, b"PO") {
-        return whole(t, 12);
-    }
-    if table::marked_by(t, b"PC") {
-        return whole(t, 12);
-    }
-    pair_size(t)
-}
-
-fn marked_size(t: &[u8]) -> usize
-    requires { ⌜ 2 ≤ length (now t) ⌝ }
-    ensures { λ r. ⌜ r ≡ markedSize (now (t .entry)) ⌝ }
-{
-    if table::marked_by(t, b"UN") {
-        return whole(t, 3);
-    }
-    if table::marked_by(t, b"UE") {
-        return whole(t, 2);
-    }
-    if table::marked_by(t, b"SG") {
-        return whole(t, 6);
-    }
-    if table::marked_by(t, b"IG") {
-        return whole(t, 4);
-    }
-    if table::marked_by(t, b"TG") {
-        return whole(t, 4);
-    }
-    inline_size(t)
-}
-
-// The size of the whole record at the head of `t`, by its mark alone; 0 where there is none.
-fn record_size(t: &[u8]) -> usize
-    ensures { λ r. ⌜ r ≡ whole-size (now (t .entry)) ⌝ }
-{
-    if t.len() < 2 {
-        return 0;
-    }
-    marked_size(t)
-}
-
-fn is_end(t: &[u8]) -> bool
-    ensures { λ r. ⌜ r ≡ is-UE (now (t .entry)) ⌝ }
-{
-    if t.len() < 2 {
-        return false;
-    }
-    table::marked_by(t, b"UE")
-}
-
-// The length of the job's table: up to the first UE reached record by record, else all of it.
-fn table_length(job: &[u8]) -> usize
-    ensures { λ r. ⌜ (r ≡ table-length (now (job .entry))) × (r ≤ length (now (job .entry))) ⌝ }
-{
-    let mut at: usize = 0;
+    let mut at = n;
+    let mut m = n;
+    let mut k: usize = 0;
     while at < job.len() {
-        if is_end(&job[at..]) {
-            return at + 2;
+        match requests::request_of(&job[at..]) {
+            Asked::Readable(r, size) => {
+                let s = answer_request(r, table, m, &mut out[k..]);
+                k += s.printed;
+                m = s.length;
+                at += size;
+            }
+            Asked::Unreadable => {
+                return k + put_unreadable(&mut out[k..], at, &table[..m]);
+            }
         }
-        let n = record_size(&job[at..]);
-        if n == 0 {
-            return job.len();
-        }
-        at += n;
     }
-    job.len()
+    k + lines::put_table(&mut out[k..], &table[..m])
 }
 
-// What is printed behind an accepted table's place in the job: its requests' lines and the table. No operation runs yet, so that the first request is unreadable.
-fn put_requests(job: &[u8], n: usize, out: &mut [u8]) -> usize
-    requires { ⌜ (n ≤ length (now job)) × (length (now job) ≤ 65535) × (length (now out) ≡ 262144) ⌝ }
-    ensures { λ r. ⌜ (r ≡ length (requestLines n (now (job .entry)))) × (now (out .exit) ≡ lead (requestLines n (now (job .entry))) (now (out .entry))) ⌝ }
+// The requests of a job whose table, its first `n` bytes, is accepted.
+fn put_accepted(job: &[u8], n: usize, out: &mut [u8]) -> usize
+    requires { ⌜ (n ≤ length (now job)) × (n ≤ 8192) × (length (now job) ≤ 65535) × (length (now out) ≡ 1048576) ⌝ }
+    ensures { λ r. ⌜ (r ≡ length (answer-requests runs (length (now (job .entry))) (take n (now (job .entry))) n (drop n (now (job .entry))))) × (now (out .exit) ≡ lead (answer-requests runs (length (now (job .entry))) (take n (now (job .entry))) n (drop n (now (job .entry)))) (now (out .entry))) ⌝ }
 {
-    if n < job.len() {
-        let k = lines::put_line(out, Answer::Refused(2, n));
-        return k + lines::put_table(&mut out[k..], &job[..n]);
-    }
-    lines::put_table(out, &job[..n])
+    let mut table = [0u8; 8192];
+    let m = writer::put(&mut table, &job[..n]);
+    put_requests(job, m, &mut table, out)
 }
 
 fn put_answers(job: &[u8], n: usize, a: Answer, out: &mut [u8]) -> usize
-    requires { ⌜ (n ≡ table-length (now job)) × (n ≤ length (now job)) × (length (now job) ≤ 65535) × (length (now out) ≡ 262144) × (answer-meaning a ≡ check (take n (now job))) ⌝ }
-    ensures { λ r. ⌜ (r ≡ length (desk-job none-yet (now (job .entry)))) × (now (out .exit) ≡ lead (desk-job none-yet (now (job .entry))) (now (out .entry))) ⌝ }
+    requires { ⌜ (n ≡ table-length (now job)) × (n ≤ length (now job)) × (length (now job) ≤ 65535) × (length (now out) ≡ 1048576) × (answer-meaning a ≡ check (take n (now job))) ⌝ }
+    ensures { λ r. ⌜ (r ≡ length (desk-job runs (now (job .entry)))) × (now (out .exit) ≡ lead (desk-job runs (now (job .entry))) (now (out .entry))) ⌝ }
 {
     match a {
-        Answer::Accepted(_) => put_requests(job, n, out),
+        Answer::Accepted(_) => put_accepted(job, n, out),
         Answer::Refused(k, at) => lines::put_line(out, Answer::Refused(k, at)),
     }
 }
 
 fn run_job(job: &[u8], out: &mut [u8]) -> usize
-    requires { ⌜ (length (now job) ≤ 65535) × (length (now out) ≡ 262144) ⌝ }
-    ensures { λ r. ⌜ (r ≡ length (desk-job none-yet (now (job .entry)))) × (now (out .exit) ≡ lead (desk-job none-yet (now (job .entry))) (now (out .entry))) ⌝ }
+    requires { ⌜ (length (now job) ≤ 65535) × (length (now out) ≡ 1048576) ⌝ }
+    ensures { λ r. ⌜ (r ≡ length (desk-job runs (now (job .entry)))) × (now (out .exit) ≡ lead (desk-job runs (now (job .entry))) (now (out .entry))) ⌝ }
 {
-    let n = table_length(job);
+    let n = job_table::table_length(job);
     put_answers(job, n, table_check::check(&job[..n]), out)
 }
 
 // What the desk program prints for a job, at the head of `out`; its length. No job prints more than `out` holds.
-pub fn run(job: &[u8], out: &mut [u8; 262144]) -> usize
-    ensures { λ r. ⌜ (r ≡ length (desk-with none-yet (now (job .entry)))) × (now (out .exit) ≡ lead (desk-with none-yet (now (job .entry))) (now (out .entry))) ⌝ }
+pub fn run(job: &[u8], out: &mut [u8; 1048576]) -> usize
+    ensures { λ r. ⌜ (r ≡ length (desk-with runs (now (job .entry)))) × (now (out .exit) ≡ lead (desk-with runs (now (job .entry))) (now (out .entry))) ⌝ }
     ensures within { λ r. ⌜ (r ≤ length (now (out .exit))) × (r ≡ length (take r (now (out .exit)))) ⌝ }
 {
     if 65535 < job.len() {

@@ -1,12 +1,12 @@
-use Prim.Native.Nat.{ℕ}
-use mathlib.Core.Path.{_∙_, ap, sym}
-use mathlib.Core.List.{List}
-use native.Mathlib.Omega.{arith}
-use lib.Seq.{length-take-le, take-all}
-use lib.ListN.{length, take}
-use Rattle.writer.specs.Pieces.{lead}
 use Rattle.xliff.specs.Desk.{desk-job, desk-with}
-use Rattle.job.specs.Job.{none-yet}
+use Rattle.requests.specs.Requests.{runs}
+use Rattle.writer.specs.Pieces.{lead}
+use Prim.Native.Nat.{ℕ}
+use mathlib.Core.List.{List}
+use lib.ListN.{length, take}
+use native.Mathlib.Omega.{arith}
+use mathlib.Core.Path.{sym, ap, _∙_}
+use lib.Seq.{length-take-le, take-all}
 use Rattle.job.proofs.RunLaws.{within}
 use borrow.Author.Needs.{needs}
 use Rattle.job.proofs.run.Statement.{statement}
@@ -19,6 +19,6 @@ run-spec =
     (tie.spec
     (λ c. sym (length-take-le 65535 (c .before .before .before .args .job .now) (omega (arith, (c .before .if1 .taken)))))
     (λ c κs. (omega (arith, length-take-le 65535 (c .before .before .before .before .args .job .now) (omega (arith, (c .before .before .if1 .taken)))), search needs))
-    (λ c. ((c .run-job .ensures .0, c .run-job .ensures .1), within (desk-job none-yet (take 65535 (c .before .before .before .before .before .args .job .now))) (c .before .before .before .before .before .args .out .now) (c .run-job .last .1 .0) (c .run-job .result) (c .run-job .ensures .0) (c .run-job .ensures .1)))
+    (λ c. ((c .run-job .ensures .0, c .run-job .ensures .1), within (desk-job runs (take 65535 (c .before .before .before .before .before .args .job .now))) (c .before .before .before .before .before .args .out .now) (c .run-job .last .1 .0) (c .run-job .result) (c .run-job .ensures .0) (c .run-job .ensures .1)))
     (λ c κs. search needs)
-    (λ c. let e = take-all 65535 (c .before .before .before .before .args .job .now) (c .before .before .if1 .left) in let a = c .run-job2 .ensures .0 ∙ ap (λ (l : List ℕ). length (desk-job none-yet l)) (sym e) in let b = c .run-job2 .ensures .1 ∙ ap (λ (l : List ℕ). lead (desk-job none-yet l) (c .before .before .before .before .args .out .now)) (sym e) in ((a, b), within (desk-job none-yet (take 65535 (c .before .before .before .before .args .job .now))) (c .before .before .before .before .args .out .now) (c .run-job2 .last .1 .0) (c .run-job2 .result) a b)))
+    (λ c. let e = take-all 65535 (c .before .before .before .before .args .job .now) ((c .before .before .if1 .left)) in let a = c .run-job2 .ensures .0 ∙ ap (λ (l : List ℕ). length (desk-job runs l)) (sym e) in let b = c .run-job2 .ensures .1 ∙ ap (λ (l : List ℕ). lead (desk-job runs l) (c .before .before .before .before .args .out .now)) (sym e) in ((a, b), within (desk-job runs (take 65535 (c .before .before .before .before .args .job .now))) (c .before .before .before .before .args .out .now) (c .run-job2 .last .1 .0) (c .run-job2 .result) a b)))

@@ -1,6 +1,6 @@
 use Rattle.xliff.specs.Split.{split}
 use Rattle.split_limits.proofs.SizeLaws.{table-passes}
-use Rattle.split.proofs.ChainLaws.{answers-refused, accepted-none, refused-some, on-refused}
+use Rattle.outcomes.proofs.OutcomeLaws.{answers-refused, accepted-none, refused-some, on-refused}
 use borrow.Author.Needs.{needs}
 use Rattle.split.proofs.split_checked.Statement.{statement}
 use Rattle.split.proofs.split_checked.Tie as tie

@@ -1,5 +1,6 @@
 use lib.ListN.{length}
-use Rattle.split.proofs.ChainLaws.{no-part, answers-refused}
+use Rattle.outcomes.proofs.OutcomeLaws.{answers-refused}
+use Rattle.split.proofs.ChainLaws.{no-part}
 use borrow.Author.Needs.{needs}
 use Rattle.split.proofs.split_found.Statement.{statement}
 use Rattle.split.proofs.split_found.Tie as tie

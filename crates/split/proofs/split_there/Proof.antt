@@ -5,7 +5,8 @@ use Rattle.xliff.specs.Split.{split-unit}
 use Rattle.xliff.specs.Parse.{unit}
 use Rattle.split_limits.proofs.SizeLaws.{table-passes}
 use Rattle.split_limits.proofs.StandLaws.{the-table}
-use Rattle.split.proofs.ChainLaws.{refused-12, refused-13, refused-14, refused-15, done, answers-refused, answers-result, fits}
+use Rattle.outcomes.proofs.OutcomeLaws.{answers-refused, answers-result, fits}
+use Rattle.split.proofs.ChainLaws.{refused-12, refused-13, refused-14, refused-15, done}
 use borrow.Author.Needs.{needs}
 use Rattle.split.proofs.split_there.Statement.{statement}
 use Rattle.split.proofs.split_there.Tie as tie

@@ -1,0 +1,4 @@
+pub mod ChainLaws
+pub mod NextLaws
+pub mod GoodLaws
+pub mod WorkLaws

@@ -1,0 +1,3 @@
+pub mod PlaceLaws
+pub mod ResultLaws
+pub mod SizeLaws

@@ -1,0 +1,88 @@
+-- The table with two parts joined, in pieces as they are written.
+use Prim.Native.Nat.{ℕ, _+_, _-_}
+use mathlib.Core.Path.{_≡_, refl, sym, ap, ap₂, _∙_, fun-ext}
+use mathlib.Core.Bool.{false}
+use mathlib.Core.List.{List, [], _∷_, _++_, append-assoc}
+use native.Mathlib.Omega.{arith}
+use lib.ListN.{length, take, drop, length-append}
+use Rattle.xliff.specs.Bytes.{gather}
+use Rattle.xliff.specs.Unit.{Target, no-target, target, Part, XliffUnit}
+use Rattle.xliff.specs.Encode.{record-bytes, part-records, encode}
+use Rattle.xliff.specs.Parse.{unit}
+use Rattle.xliff.specs.Focus.{here, focus, order-target, order-part, order-parts, with-parts}
+use Rattle.xliff.specs.Join.{lower-above, join-targets, join-parts, join-order, join-focus, join-unit}
+use Rattle.xliff.proofs.lists.Tests.{map-append}
+use Rattle.walk.proofs.PlaceLaws.{spell-append}
+use Rattle.writer.proofs.PieceLaws.{tail-is}
+use Rattle.parts.specs.Parts.{moved, ordered}
+use Rattle.part_offsets.specs.Table.{TableOf}
+use Rattle.part_offsets.proofs.OffsetLaws.{bytes-of, bytes-append}
+use Rattle.part_offsets.proofs.TableLaws.{opened, closed, table-pieces, table-opened, table-closed}
+use Rattle.part_at.specs.declared.PartPlace.{PartPlace}
+use Rattle.part_at.specs.Stands.{TargetStands}
+use Rattle.joined_part.specs.Joined.{joined-part, part-bytes}
+use Rattle.join_orders.specs.Falls.{FallsAbove}
+use Rattle.join_result.specs.Result.{Beside, joined-unit, order-of-two, joined-parts}
+
+-- the order of the joined target is that of the first target there is, changed like the others
+module _ (f : ℕ → ℕ) (t : List ℕ) (x y : PartPlace) where
+  target-same : (g h : Target) → TargetStands t x g → TargetStands t y h → order-target f (join-targets g h) ≡ order-target (λ r. f (order-of-two x y)) (join-targets g h)
+  unfolding order-target join-targets
+  target-same no-target no-target a b = refl
+  target-same no-target (target r ys) a b = rw (a .0, b .1)
+  target-same (target q xs) no-target a b = rw (a .0, a .1)
+  target-same (target q xs) (target r ys) a b = rw (a .0, a .1)
+
+  part-same : (p q : Part) → TargetStands t x (p .target) → TargetStands t y (q .target) → order-part f (join-parts p q) ≡ joined-part (f (order-of-two x y)) p q
+  unfolding order-part join-parts joined-part
+  part-same p q a b = ap (λ (g : Target). record { head = join-parts p q .head; source = join-parts p q .source; target = g }) (target-same (p .target) (q .target) a b)
+
+pub parts-long : (o k : ℕ) (b : List Part) (p q : Part) (a : List Part)
+    → length (joined-parts o k b p q a) ≡ length (ordered (moved false o) b) + length (part-bytes k p q) + length (ordered (moved false o) a)
+parts-long o k b p q a =
+    length-append (ordered (moved false o) b ++ part-bytes k p q) (ordered (moved false o) a)
+    ∙ ap (λ (n : ℕ). n + length (ordered (moved false o) a)) (length-append (ordered (moved false o) b) (part-bytes k p q))
+
+module _ (t : List ℕ) (x y : PartPlace) (b : List Part) (p q : Part) (a : List Part) (s : Beside t x y b p q a) (o : ℕ) (falls : FallsAbove t x y o)
+    (k : ℕ) (order : k ≡ lower-above o (order-of-two x y)) where
+  changed : join-order (unit t .parts) (p .target) (q .target) ≡ lower-above o
+  changed = fun-ext (λ r. sym (falls b p (q ∷ a) (b ++ (p ∷ [])) q a (s .first) (s .second) r))
+
+  in-order : join-focus (unit t .parts) (here b p (q ∷ a)) ≡ order-parts (lower-above o) b ++ (joined-part k p q ∷ order-parts (lower-above o) a)
+  unfolding join-focus order-parts
+  in-order =
+      ap (λ (f : ℕ → ℕ). order-parts f (b ++ (join-parts p q ∷ a))) changed
+      ∙ map-append (order-part (lower-above o)) b (join-parts p q ∷ a)
+      ∙ ap (λ (r : Part). order-parts (lower-above o) b ++ (r ∷ order-parts (lower-above o) a))
+      (part-same (lower-above o) t x y p q (s .first .target) (s .second .target) ∙ ap (λ (n : ℕ). joined-part n p q) (sym order))
+
+  parts-are : bytes-of (join-focus (unit t .parts) (here b p (q ∷ a))) ≡ joined-parts o k b p q a
+  unfolding gather
+  parts-are =
+      ap bytes-of in-order
+      ∙ bytes-append (order-parts (lower-above o) b) (joined-part k p q ∷ order-parts (lower-above o) a)
+      ∙ ap (λ (l : List ℕ). ordered (lower-above o) b ++ l) (spell-append (part-records (joined-part k p q)) (gather part-records (order-parts (lower-above o) a)))
+      ∙ sym (append-assoc (ordered (lower-above o) b) (part-bytes k p q) (ordered (lower-above o) a))
+
+  result-pieces : encode (joined-unit (unit t) b p q a) ≡ (opened (unit t) ++ joined-parts o k b p q a) ++ closed
+  unfolding joined-unit with-parts
+  result-pieces = table-pieces (joined-unit (unit t) b p q a) ∙ ap (λ (l : List ℕ). (opened (unit t) ++ l) ++ closed) parts-are
+
+  pub result-long : length (encode (joined-unit (unit t) b p q a)) ≡ 5 + length (joined-parts o k b p q a)
+  unfolding record-bytes
+  result-long =
+      let w : List ℕ = joined-parts o k b p q a in
+      let z : length (encode (joined-unit (unit t) b p q a)) ≡ length ((opened (unit t) ++ w) ++ closed) = ap length result-pieces in
+      omega (arith, length-append (opened (unit t) ++ w) closed, length-append (opened (unit t)) w)
+
+  pub result-is : TableOf t (unit t)
+      → (take 3 t ++ joined-parts o k b p q a) ++ take (length t - (length t - 2)) (drop (length t - 2) t) ≡ encode (joined-unit (unit t) b p q a)
+  result-is h =
+      ap₂ (λ (u w : List ℕ). (u ++ joined-parts o k b p q a) ++ w) (table-opened t (unit t) h)
+      (tail-is (length t - 2) t ∙ table-closed t (unit t) h (length t - 2) refl)
+      ∙ sym result-pieces
+
+-- the result by the number of the first part
+pub join-unit-is : (u : XliffUnit) (n : ℕ) (b : List Part) (p q : Part) (a : List Part) → focus (u .parts) n ≡ here b p (q ∷ a) → join-unit u n ≡ joined-unit u b p q a
+unfolding join-unit joined-unit
+join-unit-is u n b p q a e = ap (λ f. with-parts u (join-focus (u .parts) f)) e

@@ -1,0 +1,18 @@
+use mathlib.Core.Path.{sym, _∙_}
+use Rattle.requests.proofs.RequestLaws.{request-short, request-split, request-join, request-other}
+use borrow.Author.Needs.{needs}
+use Rattle.requests.proofs.request_of.Statement.{statement}
+use Rattle.requests.proofs.request_of.Tie as tie
+
+pub request-of-spec : {M : Type 1} → statement M
+request-of-spec =
+    tie.close
+    (tie.spec
+    (λ c. (request-short (c .before .before .args .s .now) ((c .if1 .taken)), tt))
+    (λ c κs. search needs)
+    (λ c κs. search needs)
+    (λ c. (c .split-of .ensures .0 ∙ request-split (c .before .before .before .before .before .before .args .s .now) ((c .before .before .before .before .if1 .left)) (sym (c .before .before .marked-by .ensures) ∙ (c .before .if2 .taken)), c .split-of .ensures .1))
+    (λ c κs. search needs)
+    (λ c κs. search needs)
+    (λ c. (c .join-of .ensures .0 ∙ request-join (c .before .before .before .before .before .before .before .before .before .args .s .now) ((c .before .before .before .before .before .before .before .if1 .left)) (sym (c .before .before .before .before .before .marked-by .ensures) ∙ (c .before .before .before .before .if2 .left)) (sym (c .before .before .marked-by2 .ensures) ∙ (c .before .if3 .taken)), c .join-of .ensures .1))
+    (λ c. (request-other (c .before .before .before .before .before .before .before .before .args .s .now) ((c .before .before .before .before .before .before .if1 .left)) (sym (c .before .before .before .before .marked-by .ensures) ∙ (c .before .before .before .if2 .left)) (sym (c .before .marked-by2 .ensures) ∙ (c .if3 .left)), tt)))

@@ -1,0 +1,50 @@
+-- A unit of good parts within the limits, as bytes: it passes 1 to 4 and is read back as that unit, whichever of the rules 5 to 10 it meets.
+use Prim.Native.Nat.{ℕ, _≤_}
+use mathlib.Core.Path.{_≡_, sym, ap, subst}
+use mathlib.Core.List.{List, _∷_}
+use native.Mathlib.Omega.{arith}
+use lib.ListN.{length}
+use lib.Dec.{ltb}
+use borrow.Author.Tests.{le-ltb}
+use Rattle.xliff.specs.Unit.{Part, XliffUnit}
+use Rattle.xliff.specs.Encode.{opening, unit-records, encode}
+use Rattle.xliff.specs.Parse.{unit}
+use Rattle.xliff.specs.Check.{too-large}
+use Rattle.xliff.proofs.lists.Tests.{or-none}
+use Rattle.xliff.proofs.records.Read.{GoodRecord}
+use Rattle.xliff.proofs.records.Parse.{AllGood, records-unit}
+use Rattle.xliff.proofs.unit.Valid.{part-heads, GoodParts, unit-runs, heads-unit}
+use Rattle.places.specs.Passes.{Passes}
+
+pub record GoodUnit (v : XliffUnit) : Type 0 where
+  pub letter : GoodRecord (opening (v .canResegment))
+  pub first : Part
+  pub others : List Part
+  pub parts : v .parts ≡ first ∷ others
+  pub good : GoodParts (v .parts)
+  pub size : length (encode v) ≤ 8192
+  pub few : length (unit-records v) ≤ 1024
+  pub few-parts : length (v .parts) ≤ 64
+
+module _ (v : XliffUnit) (g : GoodUnit v) where
+  all-good : AllGood (unit-records v)
+  all-good = unit-runs v (g .first) (g .others) (g .parts) (g .letter) (g .good) .0
+
+  pub read-back : unit (encode v) ≡ v
+  read-back = records-unit v all-good (let z = g .few in omega arith)
+
+  pub result-passes : Passes (encode v)
+  unfolding encode
+  result-passes =
+      record {
+        good = subst (λ (u : XliffUnit). AllGood (unit-records u)) (sym read-back) all-good;
+        bytes = ap encode read-back;
+        few = subst (λ (u : XliffUnit). length (unit-records u) ≤ 1024) (sym read-back) (g .few);
+        few-parts = subst (λ (u : XliffUnit). part-heads (unit-records u) ≤ 64) (sym read-back) (let z = g .few-parts in omega (arith, heads-unit v));
+        good-parts = subst (λ (u : XliffUnit). GoodParts (u .parts)) (sym read-back) (g .good);
+      }
+
+  -- within the limits 15 is only a matter of the room
+  pub only-room : (room : ℕ) → too-large room v ≡ ltb room (length (encode v))
+  unfolding too-large
+  only-room room = rw (le-ltb 8192 (length (encode v)) (g .size), le-ltb 1024 (length (unit-records v)) (g .few), le-ltb 64 (length (v .parts)) (g .few-parts)) (or-none (ltb room (length (encode v))))

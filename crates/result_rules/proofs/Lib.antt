@@ -1,0 +1,2 @@
+pub mod BrokenLaws
+pub mod GoodLaws

@@ -1,0 +1,11 @@
+use Rattle.result_rules.proofs.BrokenLaws.{told}
+use borrow.Author.Needs.{needs}
+use Rattle.result_rules.proofs.breaks_7.Statement.{statement}
+use Rattle.result_rules.proofs.breaks_7.Tie as tie
+
+pub breaks-7-spec : {M : Type 1} → statement M
+breaks-7-spec =
+    tie.close
+    (tie.spec
+    (λ c κs. search needs)
+    (λ c. told (c .first-broken .result) _ (c .first-broken .ensures)))

@@ -1,0 +1,78 @@
+// The rules on markers that the result of an operation may break.
+use answers::Place;
+ghost use mathlib.Core.Path.{_≡_};
+ghost use mathlib.Core.Bool.{cond};
+ghost use mathlib.Core.Option.{none};
+ghost use Prim.Native.Nat.{_≤_};
+ghost use lib.ListN.{length};
+ghost use Rattle.xliff.specs.Answer.{_then_, is-fault, of-result};
+ghost use Rattle.xliff.specs.Parse.{unit};
+ghost use Rattle.xliff.specs.Rules.{fault-7, fault-9};
+ghost use Rattle.places.specs.Passes.{Passes};
+ghost use Rattle.table_check.specs.Markers.{Markers};
+ghost use Rattle.result_rules.specs.Broken.{is-place, broken};
+
+fn is_at(p: Place) -> bool
+    ensures { λ r. ⌜ r ≡ is-place p ⌝ }
+{
+    match p {
+        Place::Nowhere => false,
+        Place::At(_) => true,
+    }
+}
+
+// 7, or 9 if that is asked too, or 0. `src` and `tgt` are the offsets of the markers of the source and the target sequence, `skeys` and `tkeys` their keys.
+fn by_markers(t: &[u8], src: &[u16], skeys: &[u32], tgt: &[u16], tkeys: &[u32], also_9: bool) -> u8
+    requires { ⌜ Markers (now t) (now src) (now skeys) (now tgt) (now tkeys) ⌝ }
+    ensures { λ r. ⌜ broken r ≡ of-result (fault-7 (unit (now (t .entry)) .parts) then cond «also_9» (fault-9 (unit (now (t .entry)) .parts)) none) ⌝ }
+{
+    if is_at(partners::rule_7(t, src, skeys, tgt, tkeys)) {
+        return 7;
+    }
+    if !also_9 {
+        return 0;
+    }
+    if is_at(overlap::rule_9(t, src, skeys, tgt, tkeys)) {
+        return 9;
+    }
+    0
+}
+
+fn narrow(n: usize) -> u16
+    requires { ⌜ n ≤ 64 ⌝ }
+    ensures { λ r. ⌜ r ≡ n ⌝ }
+{
+    n as u16
+}
+
+fn first_broken(t: &[u8], also_9: bool) -> u8
+    requires { ⌜ Passes (now t) × (length (now t) ≤ 8192) ⌝ }
+    ensures { λ r. ⌜ broken r ≡ of-result (fault-7 (unit (now (t .entry)) .parts) then cond «also_9» (fault-9 (unit (now (t .entry)) .parts)) none) ⌝ }
+{
+    let parts = narrow(orders::count_parts(t));
+    let mut src = [0u16; 1024];
+    let mut tgt = [0u16; 1024];
+    let mut skeys = [0u32; 1024];
+    let mut tkeys = [0u32; 1024];
+    let k = sequences::sources(t, &mut src);
+    let m = sequences::targets(t, parts, &mut tgt);
+    keys::keys_at(t, &src[..k], &mut skeys);
+    keys::keys_at(t, &tgt[..m], &mut tkeys);
+    by_markers(t, &src[..k], &skeys[..k], &tgt[..m], &tkeys[..m], also_9)
+}
+
+// Whether a table that passes 1 to 4 breaks rule 7.
+pub fn breaks_7(t: &[u8]) -> bool
+    requires { ⌜ Passes (now t) × (length (now t) ≤ 8192) ⌝ }
+    ensures { λ r. ⌜ r ≡ is-fault (fault-7 (unit (now (t .entry)) .parts)) ⌝ }
+{
+    !(first_broken(t, false) == 0)
+}
+
+// The first of the rules 7 and 9 that a table which passes 1 to 4 breaks, 0 if it breaks neither.
+pub fn rules_7_and_9(t: &[u8]) -> u8
+    requires { ⌜ Passes (now t) × (length (now t) ≤ 8192) ⌝ }
+    ensures { λ r. ⌜ broken r ≡ of-result (fault-7 (unit (now (t .entry)) .parts) then fault-9 (unit (now (t .entry)) .parts)) ⌝ }
+{
+    first_broken(t, true)
+}
