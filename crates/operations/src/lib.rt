@@ -22,5 +22,7 @@ pub fn perform(table: &[u8], r: Request, out: &mut [u8; 8192]) -> Answer
             out,
         ),
         Request::Join(part) => join::join(table, part, out),
+        Request::RemoveTarget(part) => remove_target::remove_target(table, part, out),
+        Request::Rewrite(side, id, form) => rewrite::rewrite(table, side, id, form, out),
     }
 }

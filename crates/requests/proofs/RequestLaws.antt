@@ -54,19 +54,10 @@ lacks-it s n c h = by (enough n s)
     by true = rw h refl
     by false = refl
 
--- the requests for operations that the program lacks
+-- a request for setting a target is for one that it lacks
 set-lacks : (s : List ℕ) (b : Bool) → among (cond b (asked s (7 + two-at s 5) (ST (two-at s 2) (getD s 4 0) (take (two-at s 5) (drop 7 s)) lent)) none) ≡ none
 set-lacks s true = lacks-it s (7 + two-at s 5) (ST (two-at s 2) (getD s 4 0) (take (two-at s 5) (drop 7 s)) lent) refl
 set-lacks s false = refl
-
-others-lack : (s : List ℕ) (x y z : Bool)
-    → among (cond x (cond (enough 7 s) (asked s (7 + two-at s 5) (ST (two-at s 2) (getD s 4 0) (take (two-at s 5) (drop 7 s)) lent)) none)
-    (cond y (asked s 4 (RT (two-at s 2) lent)) (cond z (asked s 6 (RW (getD s 2 0) (two-at s 3) (getD s 5 0) lent)) none)))
-    ≡ none
-others-lack s true y z = set-lacks s (enough 7 s)
-others-lack s false true z = lacks-it s 4 (RT (two-at s 2) lent) refl
-others-lack s false false true = lacks-it s 6 (RW (getD s 2 0) (two-at s 3) (getD s 5 0) lent) refl
-others-lack s false false false = refl
 
 pub request-short : (s : List ℕ) → length s < 2 → none ≡ request-among runs s
 unfolding request-among request enough
@@ -74,23 +65,45 @@ request-short [] h = refl
 request-short (a ∷ []) h = refl
 request-short (a ∷ b ∷ s) h = absurd (omega arith)
 
+-- one mark after the other, as the specification tries them
 pub request-split : (s : List ℕ) → 2 ≤ length s → marked s (83 ∷ 80 ∷ []) ≡ true
     → asked s 10 (SP (two-at s 2) (two-at s 4) (two-at s 6) (two-at s 8) lent) ≡ request-among runs s
 unfolding request-among request enough is
-request-split [] h e = absurd (omega arith)
-request-split (a ∷ []) h e = absurd (omega arith)
-request-split (a ∷ b ∷ s) h e = rw (request-among, e) (sym (has-it (a ∷ b ∷ s) 10 _ refl))
+request-split [] h c = absurd (omega arith)
+request-split (a ∷ []) h c = absurd (omega arith)
+request-split (a ∷ b ∷ s) h c = rw (request-among, c) (sym (has-it (a ∷ b ∷ s) 10 _ refl))
 
 pub request-join : (s : List ℕ) → 2 ≤ length s → marked s (83 ∷ 80 ∷ []) ≡ false → marked s (74 ∷ 78 ∷ []) ≡ true
     → asked s 4 (JN (two-at s 2) lent) ≡ request-among runs s
 unfolding request-among request enough is
-request-join [] h d e = absurd (omega arith)
-request-join (a ∷ []) h d e = absurd (omega arith)
-request-join (a ∷ b ∷ s) h d e = rw (request-among, d, e) (sym (has-it (a ∷ b ∷ s) 4 _ refl))
+request-join [] h c d = absurd (omega arith)
+request-join (a ∷ []) h c d = absurd (omega arith)
+request-join (a ∷ b ∷ s) h c d = rw (request-among, c, d) (sym (has-it (a ∷ b ∷ s) 4 _ refl))
 
-pub request-other : (s : List ℕ) → 2 ≤ length s → marked s (83 ∷ 80 ∷ []) ≡ false → marked s (74 ∷ 78 ∷ []) ≡ false
+pub request-set : (s : List ℕ) → 2 ≤ length s → marked s (83 ∷ 80 ∷ []) ≡ false → marked s (74 ∷ 78 ∷ []) ≡ false → marked s (83 ∷ 84 ∷ []) ≡ true
     → none ≡ request-among runs s
 unfolding request-among request enough is
-request-other [] h d e = absurd (omega arith)
-request-other (a ∷ []) h d e = absurd (omega arith)
-request-other (a ∷ b ∷ s) h d e = rw (request-among, d, e) (sym (others-lack (a ∷ b ∷ s) (is 83 84 a b) (is 82 84 a b) (is 82 87 a b)))
+request-set [] h c d e = absurd (omega arith)
+request-set (a ∷ []) h c d e = absurd (omega arith)
+request-set (a ∷ b ∷ s) h c d e = rw (request-among, c, d, e) (sym (set-lacks (a ∷ b ∷ s) (enough 7 (a ∷ b ∷ s))))
+
+pub request-remove : (s : List ℕ) → 2 ≤ length s → marked s (83 ∷ 80 ∷ []) ≡ false → marked s (74 ∷ 78 ∷ []) ≡ false → marked s (83 ∷ 84 ∷ []) ≡ false → marked s (82 ∷ 84 ∷ []) ≡ true
+    → asked s 4 (RT (two-at s 2) lent) ≡ request-among runs s
+unfolding request-among request enough is
+request-remove [] h c d e f = absurd (omega arith)
+request-remove (a ∷ []) h c d e f = absurd (omega arith)
+request-remove (a ∷ b ∷ s) h c d e f = rw (request-among, c, d, e, f) (sym (has-it (a ∷ b ∷ s) 4 _ refl))
+
+pub request-rewrite : (s : List ℕ) → 2 ≤ length s → marked s (83 ∷ 80 ∷ []) ≡ false → marked s (74 ∷ 78 ∷ []) ≡ false → marked s (83 ∷ 84 ∷ []) ≡ false → marked s (82 ∷ 84 ∷ []) ≡ false → marked s (82 ∷ 87 ∷ []) ≡ true
+    → asked s 6 (RW (getD s 2 0) (two-at s 3) (getD s 5 0) lent) ≡ request-among runs s
+unfolding request-among request enough is
+request-rewrite [] h c d e f g = absurd (omega arith)
+request-rewrite (a ∷ []) h c d e f g = absurd (omega arith)
+request-rewrite (a ∷ b ∷ s) h c d e f g = rw (request-among, c, d, e, f, g) (sym (has-it (a ∷ b ∷ s) 6 _ refl))
+
+pub request-other : (s : List ℕ) → 2 ≤ length s → marked s (83 ∷ 80 ∷ []) ≡ false → marked s (74 ∷ 78 ∷ []) ≡ false → marked s (83 ∷ 84 ∷ []) ≡ false → marked s (82 ∷ 84 ∷ []) ≡ false → marked s (82 ∷ 87 ∷ []) ≡ false
+    → none ≡ request-among runs s
+unfolding request-among request enough is
+request-other [] h c d e f g = absurd (omega arith)
+request-other (a ∷ []) h c d e f g = absurd (omega arith)
+request-other (a ∷ b ∷ s) h c d e f g = rw (request-among, c, d, e, f, g) refl

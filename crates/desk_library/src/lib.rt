@@ -1,0 +1,96 @@
+// The desk's operations for programs in C or Rust. Each returns whether it accepts; `number` is that of the refusal, else 0; `value` is the result's length, or the refusal's place.
+use answers::Answer;
+ghost use mathlib.Core.Path.{_≡_};
+ghost use lib.ListN.{length};
+ghost use Rattle.xliff.specs.Check.{check};
+ghost use Rattle.xliff.specs.Split.{split};
+ghost use Rattle.xliff.specs.Join.{join};
+ghost use Rattle.xliff.specs.RemoveTarget.{remove-target};
+ghost use Rattle.xliff.specs.Rewrite.{rewrite};
+ghost use Rattle.answers.specs.Answers.{answer-meaning};
+ghost use Rattle.desk_library.specs.Told.{told, Tells};
+
+fn tell(a: Answer, number: &mut u8, value: &mut usize) -> bool
+    ensures { λ r. ⌜ told (answer-meaning a) r (now (number .exit)) (now (value .exit)) ⌝ }
+{
+    match a {
+        Answer::Accepted(n) => {
+            *number = 0;
+            *value = n;
+            true
+        }
+        Answer::Refused(n, at) => {
+            *number = n;
+            *value = at;
+            false
+        }
+    }
+}
+
+#[no_mangle]
+pub extern "C" fn xliff_desk_check(table: &[u8], number: &mut u8, value: &mut usize) -> bool
+    ensures { λ r. ⌜ told (check (now (table .entry))) r (now (number .exit)) (now (value .exit)) ⌝ }
+{
+    tell(table_check::check(table), number, value)
+}
+
+#[no_mangle]
+pub extern "C" fn xliff_desk_split(
+    table: &[u8],
+    part: u16,
+    source_cut: u16,
+    target_cut: u16,
+    new_id: u16,
+    out: &mut [u8],
+    number: &mut u8,
+    value: &mut usize,
+) -> bool
+    ensures { λ r. ⌜ Tells (split (now (table .entry)) part «source_cut» «target_cut» «new_id» (length (now (out .entry)))) r (now (number .exit)) (now (value .exit)) (now (out .entry)) (now (out .exit)) ⌝ }
+{
+    let a = split::split(table, part, source_cut, target_cut, new_id, out);
+    tell(a, number, value)
+}
+
+#[no_mangle]
+pub extern "C" fn xliff_desk_join(
+    table: &[u8],
+    part: u16,
+    out: &mut [u8],
+    number: &mut u8,
+    value: &mut usize,
+) -> bool
+    ensures { λ r. ⌜ Tells (join (now (table .entry)) part (length (now (out .entry)))) r (now (number .exit)) (now (value .exit)) (now (out .entry)) (now (out .exit)) ⌝ }
+{
+    let a = join::join(table, part, out);
+    tell(a, number, value)
+}
+
+#[no_mangle]
+pub extern "C" fn xliff_desk_remove_target(
+    table: &[u8],
+    part: u16,
+    out: &mut [u8],
+    number: &mut u8,
+    value: &mut usize,
+) -> bool
+    ensures { λ r. ⌜ Tells (remove-target (now (table .entry)) part (length (now (out .entry)))) r (now (number .exit)) (now (value .exit)) (now (out .entry)) (now (out .exit)) ⌝ }
+{
+    let a = remove_target::remove_target(table, part, out);
+    tell(a, number, value)
+}
+
+#[no_mangle]
+pub extern "C" fn xliff_desk_rewrite(
+    table: &[u8],
+    side: u8,
+    id: u16,
+    form: u8,
+    out: &mut [u8],
+    number: &mut u8,
+    value: &mut usize,
+) -> bool
+    ensures { λ r. ⌜ Tells (rewrite (now (table .entry)) side id form (length (now (out .entry)))) r (now (number .exit)) (now (value .exit)) (now (out .entry)) (now (out .exit)) ⌝ }
+{
+    let a = rewrite::rewrite(table, side, id, form, out);
+    tell(a, number, value)
+}

@@ -1,0 +1,19 @@
+use Rattle.xliff.specs.RemoveTarget.{remove-target}
+use Rattle.split_limits.proofs.SizeLaws.{table-passes}
+use Rattle.outcomes.proofs.OutcomeLaws.{answers-refused, accepted-none, refused-some, on-refused}
+use borrow.Author.Needs.{needs}
+use Rattle.remove_target.proofs.remove_checked.Statement.{statement}
+use Rattle.remove_target.proofs.remove_checked.Tie as tie
+
+pub remove-checked-spec : {M : Type 1} → statement M
+unfolding remove-target
+remove-checked-spec =
+    tie.close
+    (tie.spec
+    (λ c. search needs)
+    (λ c κs. table-passes (c .before .before .before .before .args .table .now) (c .before .before .before .shared-slice-known .given) (accepted-none (c .before .before .before .before .args .table .now) _ (rw (c .enum-told .given .1) at (c .before .before .before .before .pre))))
+    (λ c κs. (accepted-none (c .before .before .before .before .before .before .args .table .now) _ (rw (c .before .before .enum-told .given .1) at (c .before .before .before .before .before .before .pre)), c .before .part-at .ensures))
+    (λ c. search needs)
+    (λ c. search needs)
+    (λ c. search needs)
+    (λ c. answers-refused _ _ _ (c .before .before .before .before .before .args .out .now) (on-refused (c .before .before .before .before .before .args .table .now) _ _ _ _ (refused-some (c .before .before .before .before .before .args .table .now) _ _ (rw (c .before .a .given .1) at (c .before .before .before .before .before .pre))))))

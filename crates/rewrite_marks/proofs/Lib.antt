@@ -1,0 +1,5 @@
+pub mod RecordLaws
+pub mod LengthLaws
+pub mod FormLaws
+pub mod WalkLaws
+pub mod ResultLaws

@@ -1,0 +1,4 @@
+pub mod ChainLaws
+pub mod PartnerLaws
+pub mod ResultLaws
+pub mod TestLaws

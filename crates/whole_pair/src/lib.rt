@@ -1,0 +1,110 @@
+// The complete pair or annotation of an id on one side of a unit.
+ghost use mathlib.Core.Path.{_≡_};
+ghost use mathlib.Core.Bool.{not};
+ghost use Prim.Native.Nat.{_<_, _≤_};
+ghost use lib.ListN.{length};
+ghost use lib.Dec.{eqb};
+ghost use Rattle.xliff.specs.Unit.{source-sequence, target-sequence};
+ghost use Rattle.xliff.specs.Parse.{unit};
+ghost use Rattle.xliff.specs.Rules.{end-letter};
+ghost use Rattle.xliff.specs.Rewrite.{side-sequence, find-whole};
+ghost use Rattle.places.specs.Passes.{Passes};
+ghost use Rattle.views.specs.Views.{itemsAt};
+ghost use Rattle.keys.specs.Keys.{keysAt};
+ghost use Rattle.halves.specs.Nearest.{next};
+ghost use Rattle.whole_pair.specs.Pairs.{pairOf, startsAt};
+
+// Whether its start has the mark of pc or mrk; whether its end's canReorder is not the PC letter.
+pub enum FoundPair {
+    Complete(bool, bool),
+    Missing,
+}
+
+fn wide(x: u16) -> u32
+    ensures { λ r. ⌜ r ≡ x ⌝ }
+{
+    x as u32
+}
+
+fn narrow(n: usize) -> u16
+    requires { ⌜ n ≤ 64 ⌝ }
+    ensures { λ r. ⌜ r ≡ n ⌝ }
+{
+    n as u16
+}
+
+// The index of the first start half of the id; the number of markers where there is none.
+fn find_start(ks: &[u32], id: u32) -> usize
+    ensures { λ r. ⌜ (r ≡ next (startsAt (now (ks .entry)) id) 0 (length (now (ks .entry)))) × (r ≤ length (now (ks .entry))) ⌝ }
+{
+    let mut i: usize = 0;
+    while i < ks.len() {
+        let k = ks[i];
+        if (k % 8 / 2 == 1) & (k / 64 == id) {
+            return i;
+        }
+        i += 1;
+    }
+    i
+}
+
+// "the end's canReorder is not the PC letter": N for F and else equal to the start's.
+fn is_unfit(start: u8, end: u8) -> bool
+    ensures { λ r. ⌜ r ≡ not (eqb end (end-letter start)) ⌝ }
+{
+    if start == b'F' {
+        return !(end == b'N');
+    }
+    !(end == start)
+}
+
+// Its start and the other half after it, among markers with these offsets and keys.
+fn pair_of(t: &[u8], os: &[u16], ks: &[u32], id: u16) -> FoundPair
+    requires { ⌜ now ks ≡ keysAt (now t) (now os) ⌝ }
+    ensures { λ r. ⌜ r ≡ pairOf (find-whole id (itemsAt (now (t .entry)) (now (os .entry)))) ⌝ }
+{
+    let i = find_start(ks, wide(id));
+    if ks.len() <= i {
+        return FoundPair::Missing;
+    }
+    let j = halves::half_after(ks, i);
+    if ks.len() <= j {
+        return FoundPair::Missing;
+    }
+    let start = views::view_at(t, views::wide(os[i]));
+    let end = views::view_at(t, views::wide(os[j]));
+    FoundPair::Complete(start.pform, is_unfit(start.reorder, end.reorder))
+}
+
+fn in_source(t: &[u8], id: u16) -> FoundPair
+    requires { ⌜ Passes (now t) × (length (now t) ≤ 8192) ⌝ }
+    ensures { λ r. ⌜ r ≡ pairOf (find-whole id (source-sequence (unit (now (t .entry)) .parts))) ⌝ }
+{
+    let mut os = [0u16; 1024];
+    let mut ks = [0u32; 1024];
+    let n = sequences::sources(t, &mut os);
+    keys::keys_at(t, &os[..n], &mut ks);
+    pair_of(t, &os[..n], &ks[..n], id)
+}
+
+fn in_target(t: &[u8], parts: u16, id: u16) -> FoundPair
+    requires { ⌜ Passes (now t) × (length (now t) ≤ 8192) × (parts ≡ length (unit (now t) .parts)) × (parts ≤ 64) ⌝ }
+    ensures { λ r. ⌜ r ≡ pairOf (find-whole id (target-sequence (unit (now (t .entry)) .parts))) ⌝ }
+{
+    let mut os = [0u16; 1024];
+    let mut ks = [0u32; 1024];
+    let n = sequences::targets(t, parts, &mut os);
+    keys::keys_at(t, &os[..n], &mut ks);
+    pair_of(t, &os[..n], &ks[..n], id)
+}
+
+// The pair or annotation of the id on a side. Linear in the markers but for the target sequence, which takes one pass over the table for each order.
+pub fn find(t: &[u8], side: u8, id: u16) -> FoundPair
+    requires { ⌜ Passes (now t) × (length (now t) ≤ 8192) ⌝ }
+    ensures { λ r. ⌜ r ≡ pairOf (find-whole id (side-sequence side (unit (now (t .entry)) .parts))) ⌝ }
+{
+    if side == b'S' {
+        return in_source(t, id);
+    }
+    in_target(t, narrow(orders::count_parts(t)), id)
+}
