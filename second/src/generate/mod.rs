@@ -1,6 +1,7 @@
 //! Seeded jobs for the comparison: valid, nearly valid and damaged tables, limits, and requests.
 
 mod changes;
+mod cuts;
 mod damage;
 mod inline;
 mod limits;
@@ -15,6 +16,7 @@ mod unit;
 use crate::operations::Operation;
 use crate::rules::check;
 
+pub use cuts::every_cut;
 pub use random::Random;
 pub use unit::{drafted, valid_table};
 

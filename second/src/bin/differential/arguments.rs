@@ -5,7 +5,7 @@ use std::path::PathBuf;
 use second::operations::Operation;
 
 pub const USAGE: &str = "differential DESK_PROGRAM [--jobs N] [--seed S] \
-    [--operations SP,JN,ST,RT,RW] [--vectors FILE]";
+    [--operations SP,JN,ST,RT,RW] [--vectors FILE]..";
 
 pub struct Arguments {
     pub program: PathBuf,
@@ -13,7 +13,7 @@ pub struct Arguments {
     pub seed: u64,
     /// The operations that the desk program has.
     pub operations: Vec<Operation>,
-    pub vectors: Option<PathBuf>,
+    pub vectors: Vec<PathBuf>,
 }
 
 pub fn read(mut words: impl Iterator<Item = String>) -> Result<Arguments, String> {
@@ -23,7 +23,7 @@ pub fn read(mut words: impl Iterator<Item = String>) -> Result<Arguments, String
         jobs: 10_000,
         seed: 20_260_101,
         operations: Vec::new(),
-        vectors: None,
+        vectors: Vec::new(),
     };
     while let Some(option) = words.next() {
         let value = words.next().ok_or(format!("{option} without a value"))?;
@@ -31,7 +31,7 @@ pub fn read(mut words: impl Iterator<Item = String>) -> Result<Arguments, String
             "--jobs" => arguments.jobs = number(&value)?,
             "--seed" => arguments.seed = number(&value)?,
             "--operations" => arguments.operations = operations(&value)?,
-            "--vectors" => arguments.vectors = Some(PathBuf::from(value)),
+            "--vectors" => arguments.vectors.push(PathBuf::from(value)),
             _ => return Err(format!("unknown option {option}")),
         }
     }

@@ -11,7 +11,8 @@ use std::sync::Mutex;
 use arguments::Arguments;
 use compare::{compare, Case};
 use second::desk::desk;
-use second::generate::{job, Kind};
+use second::generate::{every_cut, job, Kind};
+use second::operations::Operation;
 use second::tally::Tally;
 
 fn main() -> ExitCode {
@@ -22,18 +23,17 @@ fn main() -> ExitCode {
             return ExitCode::from(2);
         }
     };
-    let (vectors, passed_over) = match &arguments.vectors {
-        None => (Vec::new(), 0),
-        Some(path) => match vectors::read(path, &arguments.operations) {
-            Ok(read) => read,
-            Err(error) => {
-                eprintln!("{error}");
-                return ExitCode::from(2);
-            }
-        },
+    let (vectors, passed_over) = match vectors::read_all(&arguments.vectors, &arguments.operations)
+    {
+        Ok(read) => read,
+        Err(error) => {
+            eprintln!("{error}");
+            return ExitCode::from(2);
+        }
     };
     let results = Results::default();
     let outcome = compare_generated(&arguments, &results)
+        .and_then(|()| compare_cuts(&arguments, &results))
         .and_then(|()| compare_vectors(&arguments, vectors, &results));
     results.print(&arguments, passed_over, outcome)
 }
@@ -43,6 +43,7 @@ fn main() -> ExitCode {
 struct Results {
     tally: Mutex<Tally>,
     kinds: Mutex<[usize; Kind::ALL.len()]>,
+    cuts: Mutex<usize>,
     vectors: Mutex<usize>,
 }
 
@@ -56,6 +57,21 @@ fn compare_generated(arguments: &Arguments, results: &Results) -> Result<(), Str
     compare(&arguments.program, arguments.jobs, case, |case| {
         let place = Kind::ALL.iter().position(|kind| Some(*kind) == case.kind);
         results.kinds.lock().unwrap()[place.expect("a known kind")] += 1;
+        results.tally.lock().unwrap().count(&case.expected);
+    })
+}
+
+/// Small units cut at every position, if the desk can split.
+fn compare_cuts(arguments: &Arguments, results: &Results) -> Result<(), String> {
+    let operations = &arguments.operations;
+    let jobs = if operations.contains(&Operation::Split) { every_cut() } else { Vec::new() };
+    let case = |number: usize| {
+        let job = jobs[number].clone();
+        let name = format!("cut {number} of the small units");
+        Case { name, kind: None, expected: desk(&job, operations), job }
+    };
+    compare(&arguments.program, jobs.len(), case, |case| {
+        *results.cuts.lock().unwrap() += 1;
         results.tally.lock().unwrap().count(&case.expected);
     })
 }
@@ -81,7 +97,8 @@ impl Results {
     ) -> ExitCode {
         let kinds = *self.kinds.lock().unwrap();
         let vectors = *self.vectors.lock().unwrap();
-        let passed = kinds.iter().sum::<usize>() + vectors;
+        let cuts = *self.cuts.lock().unwrap();
+        let passed = kinds.iter().sum::<usize>() + cuts + vectors;
         if let Err(difference) = outcome {
             println!("{difference}");
             println!("{passed} passed, 1 failed");
@@ -91,9 +108,10 @@ impl Results {
         for (kind, count) in Kind::ALL.iter().zip(kinds) {
             println!("  {:<34}{count:>6}", kind.name());
         }
+        println!("  {:<34}{cuts:>6}", "small units, cut at every position");
         println!("answers, of all printed lines (of a job at most the first 100):");
         print!("{}", self.tally.lock().unwrap().report());
-        if arguments.vectors.is_some() {
+        if !arguments.vectors.is_empty() {
             println!("vectors: {vectors} passed, {passed_over} passed over (operation not there)");
         }
         println!("{passed} passed, 0 failed");

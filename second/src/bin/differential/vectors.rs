@@ -1,6 +1,6 @@
 //! Jobs with their expected output from a file: two words in hexadecimal a line.
 
-use std::path::Path;
+use std::path::{Path, PathBuf};
 
 use second::desk::{from_hexadecimal, job_of, read_request, table_length};
 use second::operations::Operation;
@@ -8,8 +8,19 @@ use second::rules::check;
 
 use crate::compare::Case;
 
-/// The vectors that a desk with these operations can be asked for, and how many are passed over.
-pub fn read(path: &Path, operations: &[Operation]) -> Result<(Vec<Case>, usize), String> {
+/// The vectors of all files that a desk with these operations can be asked for, and how many
+/// are passed over.
+pub fn read_all(paths: &[PathBuf], operations: &[Operation]) -> Result<(Vec<Case>, usize), String> {
+    let (mut cases, mut passed_over) = (Vec::new(), 0);
+    for path in paths {
+        let (more, over) = read(path, operations)?;
+        cases.extend(more);
+        passed_over += over;
+    }
+    Ok((cases, passed_over))
+}
+
+fn read(path: &Path, operations: &[Operation]) -> Result<(Vec<Case>, usize), String> {
     let shown = path.display();
     let file = std::fs::read_to_string(path).map_err(|error| format!("{shown}: {error}"))?;
     let (mut cases, mut passed_over) = (Vec::new(), 0);

@@ -1,0 +1,56 @@
+//! The functions of the static library. A slice is its address and its length; each returns
+//! whether it accepts, and tells the number of a refusal and the length or the place.
+
+extern "C" {
+    pub fn xliff_desk_check(
+        table: *const u8,
+        length: usize,
+        number: *mut u8,
+        value: *mut usize,
+    ) -> bool;
+
+    pub fn xliff_desk_split(
+        table: *const u8,
+        length: usize,
+        part: u16,
+        source_cut: u16,
+        target_cut: u16,
+        new_id: u16,
+        out: *mut u8,
+        room: usize,
+        number: *mut u8,
+        value: *mut usize,
+    ) -> bool;
+
+    pub fn xliff_desk_join(
+        table: *const u8,
+        length: usize,
+        part: u16,
+        out: *mut u8,
+        room: usize,
+        number: *mut u8,
+        value: *mut usize,
+    ) -> bool;
+
+    pub fn xliff_desk_remove_target(
+        table: *const u8,
+        length: usize,
+        part: u16,
+        out: *mut u8,
+        room: usize,
+        number: *mut u8,
+        value: *mut usize,
+    ) -> bool;
+
+    pub fn xliff_desk_rewrite(
+        table: *const u8,
+        length: usize,
+        side: u8,
+        id: u16,
+        form: u8,
+        out: *mut u8,
+        room: usize,
+        number: *mut u8,
+        value: *mut usize,
+    ) -> bool;
+}
