@@ -9,32 +9,50 @@ use lib.Dec.{eqb}
 use Rattle.xliff.specs.Item.{class}
 use Rattle.xliff.specs.Encode as encode
 use Rattle.xliff.specs.Encode.{opening, closing, part-head, target-head, text-run, inline, ill-text, broken, record-bytes, unit-records}
-use Rattle.xliff.specs.Parse.{read, unit}
+use Rattle.xliff.specs.Parse.{unit}
 use Rattle.xliff.specs.Sequences.{Placed}
 use Rattle.xliff.proofs.lists.Tests.{and-false, or-none}
 use Rattle.places.specs.Passes.{Passes}
 use Rattle.places.specs.Found.{found, found-at, state-after, marker}
-use Rattle.places.specs.Markers.{item-in, item-at}
+use Rattle.places.specs.Markers.{item-in, is-marked}
 use Rattle.places.proofs.Places.{At, at-end}
-use Rattle.table.specs.Meaning.{meaning, width, body}
+use Rattle.table.specs.Meaning.{record-meaning, meaning, body}
+use Rattle.table.specs.declared.Record.{Record}
 use Rattle.table.specs.declared.Record.the-variants.{Unit as UnitStart, UnitEnd, Segment, Ignorable, Target, Text, Inline}
 use Rattle.table.specs.declared.Read.{Read}
 use Rattle.table.specs.declared.Read.the-variants.{Good, Ill, Broken}
-use Rattle.orders.proofs.WalkLaws.{Stepped}
+use Rattle.glance.specs.declared.Glance.{Glance}
+use Rattle.glance.specs.Glances.{headIn, markerIn}
+use Rattle.orders.proofs.WalkLaws.{Walked}
+use Rattle.sequences.proofs.GlanceLaws.{item-marked}
 use Rattle.contents.specs.Contents.{marker-offset, no-offset, barred-found, barred}
 use Rattle.contents.specs.Heads.{head-kind, headOf, insideAfter, isFound}
 
+pub head-in : (cs : List ℕ) (x : Record) → headIn x ≡ head-kind (record-meaning cs x)
+unfolding head-kind
+head-in cs (UnitStart c) = refl
+head-in cs UnitEnd = refl
+head-in cs (Segment i c s) = refl
+head-in cs (Ignorable i) = refl
+head-in cs (Target q) = refl
+head-in cs Text = refl
+head-in cs (Inline i) = refl
+
 pub head-same : (cs : List ℕ) (r : Read) → headOf r ≡ head-kind (meaning cs r)
 unfolding head-kind
-head-same cs (Good (UnitStart c) w) = refl
-head-same cs (Good UnitEnd w) = refl
-head-same cs (Good (Segment i c s) w) = refl
-head-same cs (Good (Ignorable i) w) = refl
-head-same cs (Good (Target q) w) = refl
-head-same cs (Good Text w) = refl
-head-same cs (Good (Inline i) w) = refl
+head-same cs (Good x w) = head-in cs x
 head-same cs Ill = refl
 head-same cs (Broken b) = refl
+
+marker-in : (cs : List ℕ) (x : Record) → markerIn x ≡ is-marked (item-in (record-meaning cs x))
+unfolding is-marked item-in class
+marker-in cs (UnitStart c) = refl
+marker-in cs UnitEnd = refl
+marker-in cs (Segment i c s) = refl
+marker-in cs (Ignorable i) = refl
+marker-in cs (Target q) = refl
+marker-in cs Text = refl
+marker-in cs (Inline i) = item-marked i
 
 module _ (targets inside : Bool) where
   abbrev at-record : ℕ → encode.Record → List ℕ
@@ -43,8 +61,8 @@ module _ (targets inside : Bool) where
   abbrev after-record : encode.Record → Bool
   after-record r = state-after true (λ q. targets) (λ h at. at ∷ []) (λ q at. at ∷ []) marker-offset no-offset inside r
 
-  found-is : (at : ℕ) (r : encode.Record) → at-record at r ≡ cond (isFound (head-kind r) inside (class (item-in r))) (at ∷ []) []
-  unfolding found-at head-kind item-in class marker-offset marker
+  found-is : (at : ℕ) (r : encode.Record) → at-record at r ≡ cond (isFound (head-kind r) inside (is-marked (item-in r))) (at ∷ []) []
+  unfolding found-at head-kind item-in is-marked class marker-offset marker
   found-is at (opening c) = rw (and-false inside)
   found-is at closing = rw (and-false inside)
   found-is at (part-head h) = refl
@@ -70,24 +88,26 @@ module _ (targets inside : Bool) where
   after-is (broken b) = refl
 
   found-one : (at : ℕ) (r : encode.Record) → length (at-record at r) ≤ 1
-  found-one at r = rw (found-is at r) (by (isFound (head-kind r) inside (class (item-in r))))
+  found-one at r = rw (found-is at r) (by (isFound (head-kind r) inside (is-marked (item-in r))))
     where
       by : (b : Bool) → length (cond b (at ∷ []) []) ≤ 1
       by true = omega arith
       by false = omega arith
 
   -- one record further
-  pub barred-step : (t : List ℕ) (at : ℕ) (rs : List encode.Record) (r : Read) (s : Stepped t at rs r) (head w : ℕ) (b after : Bool)
-      → head ≡ headOf r → w ≡ width r → b ≡ isFound head inside (class (item-at t at)) → after ≡ insideAfter targets head inside → read (drop at t) ≡ s .first
-      → barred-found targets inside at rs ≡ cond b (at ∷ []) [] ++ barred-found targets after (at + w) (s .others)
-  unfolding found item-at
-  barred-step t at rs r s head w b after h v e f g =
-      let k : head ≡ head-kind (s .first) = h ∙ head-same (body (drop at t)) r ∙ ap head-kind (s .means) in
-      ap (barred-found targets inside at) (s .split)
-      ∙ ap₂ (λ (l : List ℕ) (p : Bool). l ++ barred-found targets p (at + length (record-bytes (s .first))) (s .others))
-      (found-is at (s .first) ∙ ap₂ (λ (n : ℕ) (x : encode.Record). cond (isFound n inside (class (item-in x))) (at ∷ []) []) (sym k) (sym g) ∙ ap (λ (c : Bool). cond c (at ∷ []) []) (sym e))
-      (after-is (s .first) ∙ ap (λ (n : ℕ). insideAfter targets n inside) (sym k) ∙ sym f)
-      ∙ ap (λ (j : ℕ). cond b (at ∷ []) [] ++ barred-found targets after (at + j) (s .others)) (sym (v ∙ s .wide))
+  pub barred-step : (t : List ℕ) (at : ℕ) (rs : List encode.Record) (g : Glance) (v : Walked t at rs g) (b after : Bool)
+      → b ≡ isFound (g .head) inside (g .marker) → after ≡ insideAfter targets (g .head) inside
+      → barred-found targets inside at rs ≡ cond b (at ∷ []) [] ++ barred-found targets after (at + g .width) (v .step .others)
+  unfolding found
+  barred-step t at rs g v b after e f =
+      let x = v .step .first in
+      let k : g .head ≡ head-kind x = ap (λ (h : Glance). h .head) (v .is) ∙ head-in (body (drop at t)) (v .the) ∙ ap head-kind (v .step .means) in
+      let m : g .marker ≡ is-marked (item-in x) = ap (λ (h : Glance). h .marker) (v .is) ∙ marker-in (body (drop at t)) (v .the) ∙ ap (λ (r : encode.Record). is-marked (item-in r)) (v .step .means) in
+      ap (barred-found targets inside at) (v .step .split)
+      ∙ ap₂ (λ (l : List ℕ) (p : Bool). l ++ barred-found targets p (at + length (record-bytes x)) (v .step .others))
+      (found-is at x ∙ ap₂ (λ (n : ℕ) (c : Bool). cond (isFound n inside c) (at ∷ []) []) (sym k) (sym m) ∙ ap (λ (c : Bool). cond c (at ∷ []) []) (sym e))
+      (after-is x ∙ ap (λ (n : ℕ). insideAfter targets n inside) (sym k) ∙ sym f)
+      ∙ ap (λ (j : ℕ). cond b (at ∷ []) [] ++ barred-found targets after (at + j) (v .step .others)) (sym (v .wide ∙ v .step .wide))
 
   pub barred-end : (t : List ℕ) (at : ℕ) (rs : List encode.Record) → At t at rs → length t ≤ at → barred-found targets inside at rs ≡ []
   unfolding found

@@ -4,10 +4,9 @@ use mathlib.Core.Bool.{Bool, not, _&&_, _||_}
 use lib.Dec.{eqb}
 use Rattle.xliff.specs.Encode as encode
 use Rattle.xliff.specs.Encode.{opening, closing, part-head, target-head, text-run, inline, ill-text, broken}
-use Rattle.table.specs.declared.Record.{Record}
-use Rattle.table.specs.declared.Record.the-variants.{Unit as UnitStart, UnitEnd, Segment, Ignorable, Target, Text, Inline}
 use Rattle.table.specs.declared.Read.{Read}
 use Rattle.table.specs.declared.Read.the-variants.{Good, Ill, Broken}
+use Rattle.glance.specs.Glances.{headIn}
 
 unfoldable pub head-kind : encode.Record → ℕ
 head-kind (opening c) = 2
@@ -20,15 +19,6 @@ head-kind ill-text = 2
 head-kind (broken b) = 2
 
 -- the code's cases; HeadLaws has that they are head-kind
-abbrev pub headIn : Record → ℕ
-headIn (UnitStart c) = 2
-headIn UnitEnd = 2
-headIn (Segment i c s) = 0
-headIn (Ignorable i) = 0
-headIn (Target q) = 1
-headIn Text = 2
-headIn (Inline i) = 2
-
 abbrev pub headOf : Read → ℕ
 headOf (Good x w) = headIn x
 headOf Ill = 2
@@ -39,5 +29,5 @@ abbrev pub insideAfter : Bool → ℕ → Bool → Bool
 insideAfter targets head inside = eqb head 0 || (eqb head 1 && targets || eqb head 2 && inside)
 
 -- a head, or a marker of such a content
-abbrev pub isFound : ℕ → Bool → ℕ → Bool
-isFound head inside class = not (eqb head 2) || inside && not (eqb class 0)
+abbrev pub isFound : ℕ → Bool → Bool → Bool
+isFound head inside marker = not (eqb head 2) || inside && marker

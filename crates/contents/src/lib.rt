@@ -7,11 +7,10 @@ ghost use mathlib.Core.List.{[]};
 ghost use Prim.Native.Nat.{_+_, _-_, _<_, _≤_};
 ghost use lib.ListN.{length, take, drop};
 ghost use lib.Dec.{eqb};
-ghost use Rattle.xliff.specs.Item.{class};
 ghost use Rattle.xliff.specs.Parse.{read};
 ghost use Rattle.places.specs.Passes.{Passes};
-ghost use Rattle.places.specs.Markers.{item-at};
-ghost use Rattle.contents.specs.Heads.{headIn, headOf, insideAfter, isFound};
+ghost use Rattle.glance.specs.Glances.{headIn};
+ghost use Rattle.contents.specs.Heads.{headOf, insideAfter, isFound};
 ghost use Rattle.contents.specs.Contents.{barred, bar-key, barKeys};
 
 fn head_in(x: Record) -> u8
@@ -47,11 +46,10 @@ fn inside_after(targets: bool, head: u8, inside: bool) -> bool
 }
 
 // Whether a record is a head, or a marker of a content that is asked for.
-fn is_found(t: &[u8], at: usize, head: u8, inside: bool) -> bool
-    ensures { λ r. ⌜ r ≡ isFound head inside (class (item-at (now (t .entry)) at)) ⌝ }
+fn is_found(head: u8, inside: bool, marker: bool) -> bool
+    ensures { λ r. ⌜ r ≡ isFound head inside marker ⌝ }
 {
-    let v = views::view_at(t, at);
-    !(head == 2) | (inside & !(v.class == 0))
+    !(head == 2) | (inside & marker)
 }
 
 // The offsets of the heads (SG, IG, TG) and of the markers of source contents and, where `targets`, of target contents, in table order.
@@ -63,11 +61,10 @@ pub fn contents(t: &[u8], targets: bool, out: &mut [u16]) -> usize
     let mut inside = false;
     let mut m: usize = 0;
     while at < t.len() {
-        let r = table::record_of(&t[at..]);
-        let head = head_of(r);
-        m = sequences::put_if(is_found(t, at, head, inside), out, m, at as u16);
-        inside = inside_after(targets, head, inside);
-        at += syntax::width_of(r);
+        let g = glance::glance_of(&t[at..]);
+        m = sequences::put_if(is_found(g.head, inside, g.marker), out, m, at as u16);
+        inside = inside_after(targets, g.head, inside);
+        at += g.width;
     }
     m
 }
@@ -86,7 +83,8 @@ fn bar_key(t: &[u8], at: usize) -> u32
     if t.len() < at {
         return 0;
     }
-    key_by(head_of(table::record_of(&t[at..])), keys::key_at(t, at))
+    let r = table::known_of(&t[at..]);
+    key_by(head_of(r), keys::key_of(views::read_view(r)))
 }
 
 // The keys of the heads and markers at some offsets, at the front of `out`.

@@ -1,9 +1,14 @@
 -- The scans for the nearest index that passes a test, one step each.
-use Prim.Native.Nat.{ℕ, zero, suc, _+_, _-_, _≤_, _<_}
+use Prim.Native.Nat.{ℕ, zero, suc, _+_, _-_, _/_, _≤_, _<_}
 use mathlib.Core.Path.{_≡_, refl, ap, _∙_, subst}
 use mathlib.Core.Bool.{Bool, true, false, cond}
+use mathlib.Core.List.{List}
 use native.Mathlib.Omega.{arith}
-use Rattle.halves.specs.Nearest.{next, previous}
+use lib.ListN.{length, getD}
+use lib.Dec.{eqb}
+use Rattle.xliff.proofs.lists.Tests.{and-false}
+use Rattle.keys.specs.Keys.{halfKey, otherKey}
+use Rattle.halves.specs.Nearest.{next, previous, others, half-before, half-after}
 
 module _ (p : ℕ → Bool) (m j : ℕ) where
   pub next-hit : j < m → p j ≡ true → next p j (m - j) ≡ j
@@ -81,3 +86,26 @@ module _ (p q : ℕ → Bool) where
     where
       by : (b c : Bool) → b ≡ c → previous p i ≡ previous q i → cond b (suc i) (previous p i) ≡ cond c (suc i) (previous q i)
       by b c e ih = rw (e, ih)
+
+-- what is no half has no other half
+no-other : (x y : ℕ) → halfKey x ≡ 0 → otherKey x y ≡ false
+no-other x y e = rw (e, and-false (eqb (x / 8) (y / 8)))
+
+previous-never : (p : ℕ → Bool) → ((k : ℕ) → p k ≡ false) → (i : ℕ) → previous p i ≡ 0
+unfolding previous
+previous-never p h zero = refl
+previous-never p h (suc i) = rw (h i) (previous-never p h i)
+
+next-never : (p : ℕ → Bool) → ((k : ℕ) → p k ≡ false) → (a n : ℕ) → next p a n ≡ a + n
+unfolding next
+next-never p h a zero = omega arith
+next-never p h a (suc n) = rw (h a) (next-never p h (suc a) n ∙ (let z : suc a + n ≡ a + suc n = omega arith in z))
+
+pub no-half-before : (keys : List ℕ) (i : ℕ) → halfKey (getD keys i 0) ≡ 0 → half-before keys i ≡ 0
+unfolding half-before
+no-half-before keys i e = previous-never (others keys i) (λ k. no-other (getD keys i 0) (getD keys k 0) e) i
+
+pub no-half-after : (keys : List ℕ) (i : ℕ) → i < length keys → halfKey (getD keys i 0) ≡ 0 → half-after keys i ≡ length keys
+unfolding half-after
+no-half-after keys i l e =
+    next-never (others keys i) (λ k. no-other (getD keys i 0) (getD keys k 0) e) (suc i) (length keys - suc i) ∙ (let z : suc i + (length keys - suc i) ≡ length keys = omega arith in z)

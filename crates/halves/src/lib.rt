@@ -4,9 +4,8 @@ ghost use Prim.Native.Nat.{_<_, _≤_};
 ghost use lib.ListN.{length};
 ghost use Rattle.halves.specs.Nearest.{half-before, half-after};
 
-// The index of the nearest other half before that at `i`, plus one; 0 where there is none.
 // Linear in the markers before `i`: a scan of their keys.
-pub fn half_before(keys: &[u32], i: usize) -> usize
+fn scan_before(keys: &[u32], i: usize) -> usize
     requires { ⌜ i < length (now keys) ⌝ }
     ensures { λ r. ⌜ (r ≡ half-before (now (keys .entry)) i) × (r ≤ i) ⌝ }
 {
@@ -20,9 +19,8 @@ pub fn half_before(keys: &[u32], i: usize) -> usize
     0
 }
 
-// The index of the nearest other half after that at `i`; the number of markers where there is none.
 // Linear in the markers after `i`: a scan of their keys.
-pub fn half_after(keys: &[u32], i: usize) -> usize
+fn scan_after(keys: &[u32], i: usize) -> usize
     requires { ⌜ i < length (now keys) ⌝ }
     ensures { λ r. ⌜ (r ≡ half-after (now (keys .entry)) i) × (i < r) × (r ≤ length (now (keys .entry))) ⌝ }
 {
@@ -34,4 +32,26 @@ pub fn half_after(keys: &[u32], i: usize) -> usize
         j += 1;
     }
     j
+}
+
+// The index of the nearest other half before that at `i`, plus one; 0 where there is none. What is no half has none.
+pub fn half_before(keys: &[u32], i: usize) -> usize
+    requires { ⌜ i < length (now keys) ⌝ }
+    ensures { λ r. ⌜ (r ≡ half-before (now (keys .entry)) i) × (r ≤ i) ⌝ }
+{
+    if keys::half_of(keys[i]) == 0 {
+        return 0;
+    }
+    scan_before(keys, i)
+}
+
+// The index of the nearest other half after that at `i`; the number of markers where there is none.
+pub fn half_after(keys: &[u32], i: usize) -> usize
+    requires { ⌜ i < length (now keys) ⌝ }
+    ensures { λ r. ⌜ (r ≡ half-after (now (keys .entry)) i) × (i < r) × (r ≤ length (now (keys .entry))) ⌝ }
+{
+    if keys::half_of(keys[i]) == 0 {
+        return keys.len();
+    }
+    scan_after(keys, i)
 }

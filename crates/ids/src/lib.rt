@@ -112,9 +112,12 @@ fn owner_of(o: u32, r: Read) -> u32
 fn clash_with(a: u32, b: u32) -> bool
     ensures { λ r. ⌜ r ≡ clashTest a b ⌝ }
 {
+    if a % 65536 != b % 65536 {
+        return false;
+    }
     let m = a / 65536;
     let n = b / 65536;
-    (a % 65536 == b % 65536) & !(((m == 2) & (n == 3)) | ((m == 3) & (n == 2)))
+    !(((m == 2) & (n == 3)) | ((m == 3) & (n == 2)))
 }
 
 // Whether `k` clashes with an earlier one.
@@ -157,7 +160,7 @@ pub fn rule_6(t: &[u8]) -> Place
     let mut o: u32 = 2;
     let mut at: usize = 0;
     while at < t.len() {
-        let r = table::record_of(&t[at..]);
+        let r = table::known_of(&t[at..]);
         let k = key_of(o, r);
         if clash_if(&keys[..n], k) {
             return Place::At(at);

@@ -13,7 +13,7 @@ fn bit(b: bool) -> u32
     if b { 1 } else { 0 }
 }
 
-fn key_of(v: View) -> u32
+pub fn key_of(v: View) -> u32
     ensures { λ r. ⌜ r ≡ keyOf v ⌝ }
 {
     (v.id as u32) * 64 + ((v.class as u32) * 8 + ((v.half as u32) * 2 + bit(v.pform)))

@@ -19,12 +19,15 @@ use Rattle.places.proofs.Places.{At, at-end}
 use Rattle.places.specs.Found.{found, found-at, state-after, orders-found, first-bad-in}
 use Rattle.places.proofs.Found.{rule-5-found}
 use Rattle.table.specs.Meaning.{meaning, width, body}
+use Rattle.table.specs.declared.Record.{Record}
 use Rattle.table.specs.declared.Record.the-variants.{Unit as UnitStart, UnitEnd, Segment, Ignorable, Target, Text, Inline}
 use Rattle.table.specs.declared.Read.{Read}
 use Rattle.table.specs.declared.Read.the-variants.{Good, Ill, Broken}
-use Rattle.orders.specs.Heads.{orderOf}
+use Rattle.glance.specs.declared.Glance.{Glance}
+use Rattle.glance.specs.Glances.{headIn, orderNumber}
+use Rattle.orders.specs.Heads.{orderIn, orderOf, orderBy}
 use Rattle.orders.specs.declared.Order.the-variants.{Is, Not}
-use Rattle.orders.proofs.WalkLaws.{Stepped}
+use Rattle.orders.proofs.WalkLaws.{Stepped, Walked}
 
 is-not : {A : Type 0} {q : ℕ} → Not ≡ Is q → A
 is-not e = absurd (let z : _≡_ {A = ℕ} 0 1 = cc in omega arith)
@@ -55,6 +58,18 @@ order-none cs (Good Text w) at qs e = refl
 order-none cs (Good (Inline i) w) at qs e = refl
 order-none cs Ill at qs e = refl
 order-none cs (Broken b) at qs e = refl
+
+order-in : (x : Record) → orderIn x ≡ cond (eqb (headIn x) 1) (Is (orderNumber x)) Not
+order-in (UnitStart c) = refl
+order-in UnitEnd = refl
+order-in (Segment i c s) = refl
+order-in (Ignorable i) = refl
+order-in (Target q) = refl
+order-in Text = refl
+order-in (Inline i) = refl
+
+pub order-walked : (t : List ℕ) (at : ℕ) (rs : List encode.Record) (g : Glance) (v : Walked t at rs g) → orderOf (Good (v .the) (v .size)) ≡ orderBy g
+order-walked t at rs g v = order-in (v .the) ∙ ap (λ (h : Glance). orderBy h) (sym (v .is))
 
 module _ (t : List ℕ) (at : ℕ) (rs : List encode.Record) (r : Read) (s : Stepped t at rs r) (n : ℕ) (us : List ℕ) where
   pub orders-skip : orderOf r ≡ Not → first-bad-in n us (orders-found at rs) ≡ first-bad-in n us (orders-found (at + width r) (s .others))

@@ -1,7 +1,6 @@
 // The number of parts, and rule 5.
 use answers::Place;
-use table::Read;
-use table::Record;
+use glance::Glance;
 ghost use mathlib.Core.Path.{_≡_};
 ghost use mathlib.Core.Bool.{true, cond, _||_};
 ghost use Prim.Native.Nat.{_+_, _-_, _<_, _≤_};
@@ -11,7 +10,7 @@ ghost use Rattle.answers.specs.Answers.{refusal-at};
 ghost use Rattle.xliff.specs.Parse.{unit};
 ghost use Rattle.xliff.specs.Rules.{fault-5};
 ghost use Rattle.places.specs.Passes.{Passes};
-ghost use Rattle.orders.specs.Heads.{orderOf, orderIn};
+ghost use Rattle.orders.specs.Heads.{orderBy};
 
 fn plus_if(b: bool, n: usize) -> usize
     requires { ⌜ n < 65536 ⌝ }
@@ -28,9 +27,9 @@ pub fn count_parts(t: &[u8]) -> usize
     let mut at = 0;
     let mut n = 0;
     while at < t.len() {
-        let r = table::record_of(&t[at..]);
-        n = plus_if(syntax::is_part(r), n);
-        at += syntax::width_of(r);
+        let g = glance::glance_of(&t[at..]);
+        n = plus_if(g.head == 0, n);
+        at += g.width;
     }
     n
 }
@@ -40,28 +39,14 @@ pub enum Order {
     Not,
 }
 
-fn order_in(x: Record) -> Order
-    ensures { λ r. ⌜ r ≡ orderIn x ⌝ }
+// The order that a record sets.
+fn order_of(g: Glance) -> Order
+    ensures { λ x. ⌜ x ≡ orderBy g ⌝ }
 {
-    match x {
-        Record::Unit(_) => Order::Not,
-        Record::UnitEnd => Order::Not,
-        Record::Segment(_, _, _) => Order::Not,
-        Record::Ignorable(_) => Order::Not,
-        Record::Target(q) => Order::Is(q),
-        Record::Text => Order::Not,
-        Record::Inline(_) => Order::Not,
+    if g.head == 1 {
+        return Order::Is(g.order);
     }
-}
-
-fn order_of(r: Read) -> Order
-    ensures { λ x. ⌜ x ≡ orderOf r ⌝ }
-{
-    match r {
-        Read::Good(x, _) => order_in(x),
-        Read::Ill => Order::Not,
-        Read::Broken(_) => Order::Not,
-    }
+    Order::Not
 }
 
 fn bad_order(n: usize, used: &[u8; 65], k: usize) -> bool
@@ -82,9 +67,9 @@ pub fn rule_5(t: &[u8], n: usize) -> Place
     let mut used = [0u8; 65];
     let mut at = 0;
     while at < t.len() {
-        let r = table::record_of(&t[at..]);
-        let w = syntax::width_of(r);
-        match order_of(r) {
+        let g = glance::glance_of(&t[at..]);
+        let w = g.width;
+        match order_of(g) {
             Order::Is(q) => {
                 let k = q as usize;
                 if bad_order(n, &used, k) {

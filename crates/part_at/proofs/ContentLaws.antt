@@ -7,13 +7,17 @@ use native.Mathlib.Omega.{arith}
 use lib.ListN.{length, drop, length-append}
 use Rattle.xliff.specs.Bytes.{gather}
 use Rattle.xliff.specs.Encode as encode
-use Rattle.xliff.specs.Encode.{text-run, inline, record-bytes, spell}
-use Rattle.xliff.specs.Parse.{read}
+use Rattle.xliff.specs.Encode.{text-run, inline, ill-text, record-bytes, spell}
+use Rattle.xliff.specs.Parse.{read, is-part}
+use Rattle.syntax.specs.Stages.{isPart}
+use Rattle.syntax.proofs.StepLaws.{part-same}
 use Rattle.places.proofs.Places.{At, at-next, at-more, Inner, text-inner, inline-inner}
+use Rattle.table.specs.Known.{Known, same-record, some-text}
 use Rattle.table.specs.Meaning.{meaning, width, body}
 use Rattle.table.specs.declared.Record.the-variants.{Unit as UnitStart, UnitEnd, Segment, Ignorable, Target, Text, Inline}
 use Rattle.table.specs.declared.Read.{Read}
 use Rattle.table.specs.declared.Read.the-variants.{Good, Ill, Broken}
+use Rattle.orders.proofs.WalkLaws.{known-read}
 use Rattle.part_at.specs.Content.{is-content, isContent, outer, ContentAt}
 
 pub content-same : (cs : List ℕ) (r : Read) → isContent r ≡ is-content (meaning cs r)
@@ -30,7 +34,15 @@ content-same cs (Broken b) = refl
 
 -- what the reader says of the record at an offset
 abbrev pub Means : List ℕ → ℕ → Read → Type 0
-Means t at r = (meaning (body (drop at t)) r ≡ read (drop at t)) × (width r ≡ length (record-bytes (read (drop at t))))
+Means t at r = Known (drop at t) r
+
+part-text : (w : ℕ) → isPart (Good Text w) ≡ is-part ill-text
+unfolding is-part
+part-text w = refl
+
+pub part-known : (t : List ℕ) (r : Read) → Known t r → isPart r ≡ is-part (read t)
+part-known t r (same-record p q) = part-same (body t) r ∙ ap is-part p
+part-known t _ (some-text {w} e) = part-text w ∙ ap is-part (sym e)
 
 -- it is the first of the records there
 pub record First (t : List ℕ) (at : ℕ) (x : encode.Record) (rs : List encode.Record) (r : Read) : Type 0 where
@@ -41,8 +53,9 @@ pub record First (t : List ℕ) (at : ℕ) (x : encode.Record) (rs : List encode
   pub then : At t (at + width r) rs
 
 pub first-read : (t : List ℕ) (at : ℕ) (x : encode.Record) (rs : List encode.Record) (r : Read) → At t at (x ∷ rs) → Means t at r → First t at x rs r
-first-read t at x rs r a m =
+first-read t at x rs r a k =
     let n = at-next t at x rs a in
+    let m = known-read t at (x ∷ rs) r a (omega (arith, n .moves, n .fits)) k in
     let w : width r ≡ length (record-bytes x) = m .1 ∙ ap (λ (y : encode.Record). length (record-bytes y)) (n .reads) in
     record {
       means = m .0 ∙ n .reads;

@@ -44,7 +44,7 @@ pub fn content_end(t: &[u8], start: usize) -> usize
 {
     let mut at = start;
     while at < t.len() {
-        let r = table::record_at(t, at);
+        let r = table::known_at(t, at);
         if !is_content(r) {
             return at;
         }
@@ -93,7 +93,7 @@ fn target_place(t: &[u8], head: usize, source: usize, target: usize) -> PartPlac
     requires { ⌜ TargetAt (now t) target ⌝ }
     ensures { λ r. ⌜ (r .head ≡ head) × (r .source ≡ source) × (r .target ≡ target) × TargetSpans (now (t .entry)) target r ⌝ }
 {
-    let r = table::record_at(t, target);
+    let r = table::known_at(t, target);
     let w = syntax::width_of(r);
     match order_of(r) {
         Order::Is(q) => {
@@ -123,7 +123,7 @@ fn part_from(t: &[u8], at: usize) -> PartPlace
     requires { ⌜ PartFrom (now t) at ⌝ }
     ensures { λ r. ⌜ PartSpans (now (t .entry)) at r ⌝ }
 {
-    let source = at + syntax::width_of(table::record_at(t, at));
+    let source = at + syntax::width_of(table::known_at(t, at));
     let target = content_end(t, source);
     target_place(t, at, source, target)
 }
@@ -131,7 +131,7 @@ fn part_from(t: &[u8], at: usize) -> PartPlace
 fn starts_part(t: &[u8], at: usize) -> bool
     ensures { λ r. ⌜ r ≡ is-part (read (drop at (now (t .entry)))) ⌝ }
 {
-    syntax::is_part(table::record_at(t, at))
+    syntax::is_part(table::known_at(t, at))
 }
 
 pub enum FoundPart {

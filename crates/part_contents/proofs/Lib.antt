@@ -1,3 +1,1 @@
 pub mod HoldLaws
-pub mod CountLaws
-pub mod CutLaws

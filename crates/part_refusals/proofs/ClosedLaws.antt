@@ -21,7 +21,7 @@ use Rattle.table.specs.declared.Read.{Read}
 use Rattle.table.specs.declared.Read.the-variants.{Good, Ill, Broken}
 use Rattle.part_at.specs.declared.PartPlace.{PartPlace}
 use Rattle.part_at.specs.Stands.{Standing, PartStands, TargetStands}
-use Rattle.part_at.proofs.ContentLaws.{Means}
+use Rattle.part_at.proofs.ContentLaws.{Means, first-read}
 use Rattle.part_refusals.specs.Refusals.{closedBy, ClosedIs, BadOrdersAre}
 
 -- by the record's meaning
@@ -58,8 +58,8 @@ unit-letter t b p a place s =
 pub closed-is : (t : List ℕ) (place : PartPlace) (u : ℕ) (r : Read) → u ≡ getD t 2 0 → Means t (place .head) r → ClosedIs t place (closedBy u r)
 unfolding is-closed part-records
 closed-is t place u r e m b p a s =
-    let n = at-next t (place .head) (part-head (p .head)) (content-records (p .source) ++ target-records (p .target) ++ (gather part-records a ++ (closing ∷ []))) (s .records) in
-    closed-same u (body (drop (place .head) t)) r ∙ ap (closed-at u) (m .0 ∙ n .reads)
+    let f = first-read t (place .head) (part-head (p .head)) (content-records (p .source) ++ target-records (p .target) ++ (gather part-records a ++ (closing ∷ []))) r (s .records) m in
+    closed-same u (body (drop (place .head) t)) r ∙ ap (closed-at u) (f .means)
     ∙ ap (λ (c : ℕ). eqb (resolved c (p .head)) 78) (e ∙ unit-letter t b p a place s)
 
 -- the orders, by the targets

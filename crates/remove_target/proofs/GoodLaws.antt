@@ -1,24 +1,23 @@
 -- The unit without the target: its parts are good, and it is within the limits.
 use Prim.Native.Nat.{ℕ, _+_, _≤_}
-use mathlib.Core.Path.{_≡_, refl, ap, _∙_, subst}
+use mathlib.Core.Path.{_≡_, ap, _∙_, subst}
 use mathlib.Core.List.{List, [], _∷_, _++_}
 use mathlib.Core.Option.{none}
 use native.Mathlib.Omega.{arith}
 use lib.ListN.{length, getD, length-append}
 use mir.Val.{Fits}
 use mir.Syntax.{w8}
-use Rattle.xliff.specs.Bytes.{'I', among, gather}
-use Rattle.xliff.specs.Unit.{Head, segment, ignorable, Part, XliffUnit}
+use Rattle.xliff.specs.Bytes.{gather}
+use Rattle.xliff.specs.Unit.{Part, XliffUnit}
 use Rattle.xliff.specs.Encode.{Record, closing, content-records, target-records, part-records, unit-records}
 use Rattle.xliff.specs.Parse.{unit}
 use Rattle.xliff.specs.Check.{Valid, table-refusal}
 use Rattle.xliff.specs.Focus.{with-parts}
-use Rattle.xliff.specs.SetTarget.{with-state}
 use Rattle.xliff.specs.RemoveTarget.{remove-focus}
 use Rattle.xliff.proofs.lists.Each.{each-cons, each-append, each-apart}
 use Rattle.xliff.proofs.lists.Tests.{gather-append}
-use Rattle.xliff.proofs.records.Read.{GoodHead}
 use Rattle.xliff.proofs.unit.Valid.{GoodParts, heads-unit}
+use Rattle.xliff.proofs.operations.RemoveValid.{initial-good}
 use Rattle.xliff.proofs.unit.Result.{Sent, sent}
 use Rattle.xliff.proofs.operations.SetValid.{some-part}
 use Rattle.part_at.specs.declared.PartPlace.{PartPlace}
@@ -28,11 +27,6 @@ use Rattle.split_limits.proofs.SizeLaws.{small-table, table-passes}
 use Rattle.result_rules.proofs.GoodLaws.{GoodUnit}
 use Rattle.removed_target.specs.Removed.{removed-unit}
 use Rattle.removed_target.proofs.RemovedLaws.{bared, in-order, removed-long}
-
-initial-good : (h : Head) → GoodHead h → GoodHead (with-state 'I' h)
-unfolding with-state among
-initial-good (segment i c s) g = (g .0, refl)
-initial-good (ignorable i) g = tt
 
 -- the records of parts
 abbrev count : List Part → ℕ

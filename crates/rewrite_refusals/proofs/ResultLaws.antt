@@ -1,29 +1,27 @@
 -- The rewritten table passes 2, 3 and 4, and breaks rule 7 where the halves are partners in no content.
 use Prim.Native.Nat.{ℕ, _≤_}
 use mathlib.Core.Path.{_≡_, refl, sym, ap, _∙_}
-use mathlib.Core.Bool.{Bool, true, false, not, cond}
-use mathlib.Core.List.{List, [], _∷_, map}
+use mathlib.Core.Bool.{Bool, true, false, not}
+use mathlib.Core.List.{List, map}
 use mathlib.Core.Option.{Option, none, some}
 use native.Mathlib.Omega.{arith}
 use lib.ListN.{length}
-use lib.Dec.{eqb, ltb}
+use lib.Dec.{ltb}
 use borrow.Author.Tests.{ltb-false, le-ltb}
-use Rattle.xliff.specs.Bytes.{'P', 'S', Bytes, among}
+use Rattle.xliff.specs.Bytes.{'P', Bytes, among}
 use Rattle.xliff.specs.Answer.{Refusal, is-fault}
-use Rattle.xliff.specs.Item.{Item, Form, form-P, in-form}
-use Rattle.xliff.specs.Unit.{Target, no-target, target, Part, XliffUnit}
+use Rattle.xliff.specs.Item.{Form, form-P}
+use Rattle.xliff.specs.Unit.{XliffUnit}
 use Rattle.xliff.specs.Encode.{encode}
 use Rattle.xliff.specs.Parse.{unit, most-bytes}
-use Rattle.xliff.specs.Rules.{half-of-id, fault-6, fault-7, fault-6-to-10}
+use Rattle.xliff.specs.Rules.{fault-6, fault-7, fault-6-to-10}
 use Rattle.xliff.specs.Check.{Valid, table-refusal, too-large}
 use Rattle.xliff.specs.Focus.{with-parts}
-use Rattle.xliff.specs.Rewrite.{form-of, rewrite-item, rewrite-target, rewrite-part, rewrite-unit, Whole, unfit-letter}
-use Rattle.xliff.proofs.lists.Each.{each-nil, each-cons, each-map}
+use Rattle.xliff.specs.Rewrite.{form-of, rewrite-item, rewrite-part, rewrite-unit, Whole, unfit-letter}
 use Rattle.xliff.proofs.lists.Tests.{none-some, or-both}
-use Rattle.xliff.proofs.unit.Valid.{GoodIn, GoodTarget, GoodPart, GoodParts, heads-unit}
+use Rattle.xliff.proofs.unit.Valid.{heads-unit}
 use Rattle.xliff.proofs.unit.Result.{Sent, sent, then-left, then-right, applies-none}
-use Rattle.xliff.proofs.rules.Starts.{good-form}
-use Rattle.xliff.proofs.operations.RewriteValid.{rewrite-accepted}
+use Rattle.xliff.proofs.operations.RewriteValid.{good-parts, rewrite-accepted}
 use Rattle.places.specs.Passes.{Passes}
 use Rattle.places.proofs.Places.{passes}
 use Rattle.result_rules.proofs.GoodLaws.{GoodUnit, read-back, only-room}
@@ -31,30 +29,6 @@ use Rattle.rewrite_marks.proofs.LengthLaws.{length-kept, records-kept, parts-ke
 use Rattle.rewrite_refusals.specs.Asked.{apart, fails-to-P, Asked}
 use Rattle.rewrite_refusals.proofs.ChainLaws.{done}
 use Rattle.rewrite_refusals.proofs.PartnerLaws.{partners-there}
-
--- good as bytes
-good-item : (i : ℕ) (w : Form) (x : Item) → GoodIn x → GoodIn (rewrite-item i w x)
-unfolding rewrite-item
-good-item i w x g = by (half-of-id i x)
-  where
-    by : (b : Bool) → GoodIn (cond b (in-form w x) x)
-    by true = good-form w x g
-    by false = g
-
-good-target : (i : ℕ) (w : Form) (g : Target) → GoodTarget g → GoodTarget (rewrite-target (rewrite-item i w) g)
-unfolding rewrite-target
-good-target i w no-target g = tt
-good-target i w (target q xs) g = each-map (rewrite-item i w) (good-item i w) xs g
-
-good-parts : (side i : ℕ) (w : Form) (ps : List Part) → GoodParts ps → GoodParts (map (rewrite-part side (rewrite-item i w)) ps)
-unfolding rewrite-part
-good-parts side i w [] each-nil = each-nil
-good-parts side i w (p ∷ ps) (each-cons g h) = each-cons (by (eqb side 'S')) (good-parts side i w ps h)
-  where
-    by : (b : Bool) → GoodPart (cond b (record { head = p .head; source = map (rewrite-item i w) (p .source); target = p .target })
-        (record { head = p .head; source = p .source; target = rewrite-target (rewrite-item i w) (p .target) }))
-    by true = record { head = g .head; source = each-map (rewrite-item i w) (good-item i w) (p .source) (g .source); target = g .target }
-    by false = record { head = g .head; source = g .source; target = good-target i w (p .target) (g .target) }
 
 module _ (t : List ℕ) (b : Bytes t) (v : table-refusal t ≡ none) where
   pub small : length t ≤ 8192

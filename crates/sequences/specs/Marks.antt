@@ -1,7 +1,7 @@
 -- What is a marker, and where.
 use Prim.Native.Nat.{ℕ, _-_}
 use mathlib.Core.Path.{_≡_}
-use mathlib.Core.Bool.{Bool, false, not, _&&_, cond}
+use mathlib.Core.Bool.{Bool, false, not, _&&_, _||_, cond}
 use mathlib.Core.List.{List, [], _∷_, map}
 use lib.Dec.{eqb}
 use Rattle.xliff.specs.Item.{class}
@@ -9,7 +9,7 @@ use Rattle.xliff.specs.Encode.{unit-records}
 use Rattle.xliff.specs.Parse.{unit}
 use Rattle.xliff.specs.Sequences.{Placed}
 use Rattle.places.specs.Found.{found-at, marker, no-marker, marks-found}
-use Rattle.table.specs.Meaning.{item, record-meaning, meaning}
+use Rattle.table.specs.Meaning.{item, meaning}
 use Rattle.table.specs.declared.Item.{Item}
 use Rattle.table.specs.declared.Record.{Record}
 use Rattle.table.specs.declared.Record.the-variants.{Unit as UnitStart, UnitEnd, Segment, Ignorable, Target, Text, Inline}
@@ -22,11 +22,7 @@ ItemMarked i b = b ≡ not (eqb (class (item i)) 0)
 abbrev pub places : List Placed → List ℕ
 places ps = map (λ p. p .at) ps
 
--- the offset of the record is a marker's
-abbrev pub RecordMarked : Bool → Record → Bool → Type 0
-RecordMarked inside x b = (source : Bool) (q : ℕ) (cs : List ℕ) (at : ℕ)
-    → places (found-at source (λ k. not source && eqb q k) (λ h at. []) (λ k at. []) marker no-marker inside at (record-meaning cs x)) ≡ cond b (at ∷ []) []
-
+-- the offset of what was read is a marker's
 abbrev pub ReadMarked : Bool → Read → Bool → Type 0
 ReadMarked inside r b = (source : Bool) (q : ℕ) (cs : List ℕ) (at : ℕ)
     → places (found-at source (λ k. not source && eqb q k) (λ h at. []) (λ k at. []) marker no-marker inside at (meaning cs r)) ≡ cond b (at ∷ []) []
@@ -44,6 +40,10 @@ abbrev pub insideOf : Bool → ℕ → Bool → Read → Bool
 insideOf source q inside (Good x w) = insideIn source q inside x
 insideOf source q inside Ill = inside
 insideOf source q inside (Broken b) = inside
+
+-- what follows a head (0 for SG and IG, 1 for TG, 2 for all else) is of a source content
+abbrev pub insideSource : ℕ → Bool → Bool
+insideSource head inside = eqb head 0 || eqb head 2 && inside
 
 -- the offsets of the markers of the source sequence, or of the targets of order q
 unfoldable pub offsets : Bool → ℕ → List ℕ → List ℕ

@@ -3,7 +3,7 @@ use Prim.Native.Nat.{ℕ, zero, suc, _+_, _-_, _≤_, _<_}
 use mathlib.Core.Path.{_≡_, refl, sym, _∙_, ap, ap₂}
 use mathlib.Core.Bool.{Bool, true, false, not, _&&_, _||_}
 use mathlib.Core.List.{List, [], _∷_}
-use lib.ListN.{length, drop, getD, drop-of-length-le}
+use lib.ListN.{length, drop, getD}
 use native.Mathlib.Omega.{arith}
 use Rattle.xliff.specs.Bytes.{any, among}
 use Rattle.xliff.specs.Item.{half, Content, alike}
@@ -24,22 +24,11 @@ use Rattle.keys.specs.Keys.{key}
 use Rattle.keys.proofs.KeyLaws.{id-key}
 
 -- some item from an index on passes
-items-first : (p : spec.Item → Bool) (t os : List ℕ) (i : ℕ) → i < length os → any p (itemsAt t (drop i os)) ≡ p (item-at t (getD os i 0)) || any p (itemsAt t (drop (suc i) os))
+pub items-first : (p : spec.Item → Bool) (t os : List ℕ) (i : ℕ) → i < length os → any p (itemsAt t (drop i os)) ≡ p (item-at t (getD os i 0)) || any p (itemsAt t (drop (suc i) os))
 unfolding any itemsAt
 items-first p t [] i h = absurd (omega arith)
 items-first p t (o ∷ os) zero h = refl
 items-first p t (o ∷ os) (suc i) h = items-first p t os i (omega arith)
-
-module _ (p : spec.Item → Bool) (t os : List ℕ) (i : ℕ) where
-  pub items-on : i < length os → p (item-at t (getD os i 0)) ≡ true → any p (itemsAt t (drop i os)) ≡ true
-  items-on h e = items-first p t os i h ∙ rw e
-
-  pub items-off : i < length os → p (item-at t (getD os i 0)) ≡ false → any p (itemsAt t (drop i os)) ≡ any p (itemsAt t (drop (i + 1) os))
-  items-off h e = items-first p t os i h ∙ rw e (ap (λ (k : ℕ). any p (itemsAt t (drop k os))) (let z : suc i ≡ i + 1 = omega arith in z))
-
-  pub items-end : length os ≤ i → any p (itemsAt t (drop i os)) ≡ false
-  unfolding any itemsAt
-  items-end h = rw (drop-of-length-le os h)
 
 -- an item with neither id passes no test
 and-off : (k z : Bool) → z ≡ false → k && z ≡ false

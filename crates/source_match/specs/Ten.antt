@@ -7,6 +7,7 @@ use Rattle.xliff.specs.Item as spec
 use Rattle.xliff.specs.Bytes.{any}
 use Rattle.views.specs.Views.{viewOf, isCode}
 use Rattle.views.specs.declared.View.{View}
+use Rattle.source_match.specs.declared.Matches.{Matches}
 
 -- rule 10 on views
 abbrev pub startsId : View → View → Bool
@@ -23,6 +24,28 @@ mayCopy x y = eqb (x .class) (y .class) && (eqb (x .of) (y .id) && eqb (y .copy)
 abbrev pub testOf : ℕ → View → View → Bool
 testOf kind x y =
     eqb kind 0 && startsId x y || eqb kind 1 && (startsId x y && not (eqb (x .class) (y .class))) || eqb kind 2 && agreesWith x y || eqb kind 3 && mayCopy x y
+
+-- the four tests of one item, and whether some item passes each
+abbrev pub matchesOf : View → View → Matches
+matchesOf x y = record { starts = testOf 0 x y; differs = testOf 1 x y; agrees = testOf 2 x y; copies = testOf 3 x y }
+
+abbrev pub joined : Matches → Matches → Matches
+joined f g =
+    record {
+      starts = f .starts || g .starts;
+      differs = f .differs || g .differs;
+      agrees = f .agrees || g .agrees;
+      copies = f .copies || g .copies;
+    }
+
+unfoldable pub matchesIn : View → List spec.Item → Matches
+matchesIn x ys =
+    record {
+      starts = any (λ y. testOf 0 x (viewOf y)) ys;
+      differs = any (λ y. testOf 1 x (viewOf y)) ys;
+      agrees = any (λ y. testOf 2 x (viewOf y)) ys;
+      copies = any (λ y. testOf 3 x (viewOf y)) ys;
+    }
 
 abbrev pub badTenSource : View → Bool
 badTenSource x = isCode x && not (eqb (x .of) 0)

@@ -8,11 +8,10 @@ ghost use mathlib.Core.List.{[]};
 ghost use Prim.Native.Nat.{_+_, _-_, _<_};
 ghost use lib.ListN.{length};
 ghost use Rattle.answers.specs.Answers.{refusal-at, toward};
-ghost use Rattle.xliff.specs.Bytes.{any};
 ghost use Rattle.places.specs.Markers.{item-at};
 ghost use Rattle.views.specs.Views.{viewOf, itemsAt};
 ghost use Rattle.keys.specs.Keys.{key, keysAt};
-ghost use Rattle.source_match.specs.Ten.{testOf, badTenSource, badTenTarget};
+ghost use Rattle.source_match.specs.Ten.{testOf, matchesOf, joined, matchesIn, badTenSource, badTenTarget};
 ghost use Rattle.xliff.specs.Sequences.{blamed, first-of};
 ghost use Rattle.xliff.specs.Rules.{bad-10-source, bad-10-target, fault-10};
 ghost use Rattle.xliff.specs.Parse.{unit};
@@ -37,31 +36,60 @@ fn passes(kind: u8, x: View, y: View) -> bool
         | ((kind == 3) & copies)
 }
 
-// The same of the item at an offset, whose key is `k`. Only where the ids say that it may pass is the table read.
-fn passes_at(t: &[u8], at: usize, k: u32, kind: u8, x: View) -> bool
+// Which of the four tests some item passes.
+pub struct Matches {
+    pub starts: bool,
+    pub differs: bool,
+    pub agrees: bool,
+    pub copies: bool,
+}
+
+fn matches_of(x: View, y: View) -> Matches
+    ensures { λ r. ⌜ r ≡ matchesOf x y ⌝ }
+{
+    Matches {
+        starts: passes(0, x, y),
+        differs: passes(1, x, y),
+        agrees: passes(2, x, y),
+        copies: passes(3, x, y),
+    }
+}
+
+// The tests of one more item, at an offset, whose key is `k`. Only where the ids say that it may pass is the table read.
+fn one_more(t: &[u8], at: usize, k: u32, x: View, found: Matches) -> Matches
     requires { ⌜ k ≡ key (item-at (now t) at) ⌝ }
-    ensures { λ r. ⌜ r ≡ testOf kind x (viewOf (item-at (now (t .entry)) at)) ⌝ }
+    ensures { λ r. ⌜ r ≡ joined found (matchesOf x (viewOf (item-at (now (t .entry)) at))) ⌝ }
 {
     let id = k / 64;
     if !((id == (x.id as u32)) | (id == (x.of as u32))) {
-        return false;
+        return found;
     }
-    passes(kind, x, views::view_at(t, at))
+    let m = matches_of(x, views::view_at(t, at));
+    Matches {
+        starts: found.starts | m.starts,
+        differs: found.differs | m.differs,
+        agrees: found.agrees | m.agrees,
+        copies: found.copies | m.copies,
+    }
 }
 
-// Whether some item passes; `os` and `keys` are the items' offsets and keys.
-fn any_of(t: &[u8], os: &[u16], keys: &[u32], kind: u8, x: View) -> bool
+// The tests of all items; `os` and `keys` are the items' offsets and keys.
+fn all_matches(t: &[u8], os: &[u16], keys: &[u32], x: View) -> Matches
     requires { ⌜ now keys ≡ keysAt (now t) (now os) ⌝ }
-    ensures { λ r. ⌜ r ≡ any (λ y. testOf kind x (viewOf y)) (itemsAt (now (t .entry)) (now (os .entry))) ⌝ }
+    ensures { λ r. ⌜ r ≡ matchesIn x (itemsAt (now (t .entry)) (now (os .entry))) ⌝ }
 {
+    let mut found = Matches {
+        starts: false,
+        differs: false,
+        agrees: false,
+        copies: false,
+    };
     let mut i = 0;
     while i < os.len() {
-        if passes_at(t, views::wide(os[i]), keys[i], kind, x) {
-            return true;
-        }
+        found = one_more(t, views::wide(os[i]), keys[i], x, found);
         i += 1;
     }
-    false
+    found
 }
 
 // Rule 10 of a source item.
@@ -76,12 +104,10 @@ fn bad_in_target(t: &[u8], os: &[u16], keys: &[u32], x: View) -> bool
     requires { ⌜ now keys ≡ keysAt (now t) (now os) ⌝ }
     ensures { λ r. ⌜ r ≡ badTenTarget (itemsAt (now (t .entry)) (now (os .entry))) x ⌝ }
 {
-    let starts = any_of(t, os, keys, 0, x);
-    let class = any_of(t, os, keys, 1, x);
-    let agrees = any_of(t, os, keys, 2, x);
-    let copies = any_of(t, os, keys, 3, x);
+    let m = all_matches(t, os, keys, x);
     let code = views::is_code(x);
-    (class | ((code & starts) & (!agrees | !(x.of == 0)))) | (code & (!(x.of == 0) & !copies))
+    (m.differs | ((code & m.starts) & (!m.agrees | !(x.of == 0))))
+        | (code & (!(x.of == 0) & !m.copies))
 }
 
 // Rule 10 over the markers of the source sequence.

@@ -1,13 +1,15 @@
 -- The view of what was read is that of the specification's item.
 use Prim.Native.Nat.{ℕ, _-_}
 use mathlib.Core.Bool.{Bool, true, false, _||_}
-use mathlib.Core.Path.{_≡_, refl, _∙_, ap}
+use mathlib.Core.Path.{_≡_, refl, sym, _∙_, ap}
 use mathlib.Core.List.{List, [], _∷_}
 use lib.ListN.{drop}
 use Rattle.xliff.specs.Item.{class, half, is-form-P, id-of, fields}
+use Rattle.xliff.specs.Encode.{text-run, ill-text}
 use Rattle.xliff.specs.Parse.{read}
 use Rattle.places.specs.Markers.{item-in, item-at}
-use Rattle.table.specs.Meaning.{item, meaning}
+use Rattle.table.specs.Meaning.{item, meaning, body}
+use Rattle.table.specs.Known.{Known, same-record, some-text}
 use Rattle.table.specs.declared.Form.the-variants.{P, S}
 use Rattle.table.specs.declared.Half.the-variants.{Start, End}
 use Rattle.table.specs.declared.Item.{Item}
@@ -39,6 +41,10 @@ item-view (AnnotationStart S i l) = refl
 item-view (AnnotationEnd P i) = refl
 item-view (AnnotationEnd S i) = refl
 
+texts-alike : item-in (text-run []) ≡ item-in ill-text
+unfolding item-in
+texts-alike = refl
+
 read-view : (cs : List ℕ) (r : Read) → readView r ≡ viewOf (item-in (meaning cs r))
 unfolding viewOf class half is-form-P id-of fields item-in
 read-view cs (Good (UnitStart c) w) = refl
@@ -51,9 +57,10 @@ read-view cs (Good (Inline i) w) = item-view i
 read-view cs Ill = refl
 read-view cs (Broken b) = refl
 
-pub view-is : (t : List ℕ) (at : ℕ) (cs : List ℕ) (r : Read) → meaning cs r ≡ read (drop at t) → readView r ≡ viewOf (item-at t at)
+pub view-known : (t : List ℕ) (at : ℕ) (r : Read) → Known (drop at t) r → readView r ≡ viewOf (item-at t at)
 unfolding item-at
-view-is t at cs r e = read-view cs r ∙ ap (λ x. viewOf (item-in x)) e
+view-known t at r (same-record p q) = read-view (body (drop at t)) r ∙ ap (λ x. viewOf (item-in x)) p
+view-known t at _ (some-text {w} e) = read-view [] (Good Text w) ∙ ap viewOf texts-alike ∙ ap (λ x. viewOf (item-in x)) (sym e)
 
 -- the items at some offsets
 pub items-at : (t os : List ℕ) → items (placed-at t os) ≡ itemsAt t os

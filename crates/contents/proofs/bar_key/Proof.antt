@@ -1,13 +1,12 @@
-use Rattle.contents.proofs.BarLaws.{bar-key-read, bar-key-out}
-use Rattle.text.proofs.Laws.{tail-is}
-use Rattle.table.specs.Meaning.{body, meaning}
-use Rattle.xliff.specs.Parse.{read}
-use lib.Dec.{eqb}
-use lib.ListN.{drop}
-use Prim.Native.Nat.{ℕ}
-use mathlib.Core.Bool.{cond}
-use mathlib.Core.Path.{_∙_, ap₂, _≡_}
 use native.Mathlib.Omega.{arith}
+use mathlib.Core.Path.{_∙_, ap, ap₂}
+use mathlib.Core.Bool.{cond}
+use Prim.Native.Nat.{ℕ}
+use lib.Dec.{eqb}
+use Rattle.text.proofs.Laws.{tail-is}
+use Rattle.keys.specs.Keys.{keyOf}
+use Rattle.contents.specs.Heads.{headOf}
+use Rattle.contents.proofs.BarLaws.{bar-key-read, bar-key-out}
 use borrow.Author.Needs.{needs}
 use Rattle.contents.proofs.bar_key.Statement.{statement}
 use Rattle.contents.proofs.bar_key.Tie as tie
@@ -24,4 +23,5 @@ bar-key-spec =
     (λ c κs. search needs)
     (λ c κs. search needs)
     (λ c κs. search needs)
-    (λ c. let m : meaning (body (drop (c .before .before .before .before .before .before .before .args .at) (c .before .before .before .before .before .before .before .args .t .now))) (c .before .before .before .record-of .result) ≡ read (drop (c .before .before .before .before .before .before .before .args .at) (c .before .before .before .before .before .before .before .args .t .now)) = simp tail-is at (c .before .before .before .record-of .ensures .0) in c .key-by .ensures ∙ ap₂ (λ (n k : ℕ). cond (eqb n 1) 1 k) (c .before .before .head-of .ensures) (c .before .key-at .ensures) ∙ bar-key-read (c .before .before .before .before .before .before .before .args .t .now) (c .before .before .before .before .before .before .before .args .at) _ (c .before .before .before .record-of .result) m))
+    (λ c κs. search needs)
+    (λ c. c .key-by .ensures ∙ ap₂ (λ (n k : ℕ). cond (eqb n 1) 1 k) (c .before .before .before .head-of .ensures) (c .before .key-of .ensures ∙ ap keyOf (c .before .before .read-view .ensures)) ∙ bar-key-read (c .before .before .before .before .before .before .before .before .args .t .now) (c .before .before .before .before .before .before .before .before .args .at) (c .before .before .before .before .known-of .result) (simp tail-is at (c .before .before .before .before .known-of .ensures))))

@@ -1,9 +1,9 @@
-use Rattle.contents.proofs.WalkLaws.{Walk, walk-start, walk-fits, walk-room, walk-on, walk-end}
-use Rattle.text.proofs.Laws.{tail-is}
-use lib.ListN.{length}
-use native.Mathlib.Omega.{arith}
-use mathlib.Core.Path.{refl}
+use mathlib.Core.Path.{_∙_, sym}
 use Prim.Native.Nat.{_-_}
+use native.Mathlib.Omega.{arith}
+use lib.ListN.{length}
+use Rattle.text.proofs.Laws.{tail-is}
+use Rattle.contents.proofs.WalkLaws.{Walk, walk-start, walk-fits, walk-room, walk-on, walk-end}
 use borrow.Author.Needs.{needs}
 use Rattle.contents.proofs.contents.Statement.{statement}
 use Rattle.contents.proofs.contents.Tie as tie
@@ -26,13 +26,11 @@ contents-spec =
     (λ c. search needs)
     (λ c κs. search needs)
     (λ c κs. search needs)
+    (λ c. omega (arith, (c .before .before .before .before .loop-test .taken), c .before .before .before .before .before .before .before .before .pre .1))
+    (λ c κs. (omega (arith, walk-room (c .before .before .before .before .before .loop .inv) (c .before .before .glance-of .result) (c .before .before .before .before .loop-test .taken) (simp tail-is at (c .before .before .glance-of .ensures)) (c .before .is-found .ensures) (c .before .before .before .before .before .before .before .before .pre .0), c .before .before .before .before .before .loop .inv .sized), omega (arith, c .before .before .before .before .before .loop .inv .sized)))
     (λ c κs. search needs)
-    (λ c. omega (arith, (c .before .before .before .before .before .loop-test .taken), c .before .before .before .before .before .before .before .before .before .pre .1))
-    (λ c κs. (omega (arith, walk-room (c .before .before .before .before .before .before .loop .inv) (c .before .before .before .record-of .result) (c .before .before .before .before .before .loop-test .taken) (simp tail-is at (c .before .before .before .record-of .ensures)) (c .before .before .head-of .ensures) (c .before .is-found .ensures) refl (c .before .before .before .before .before .before .before .before .before .pre .0), c .before .before .before .before .before .before .loop .inv .sized), omega (arith, c .before .before .before .before .before .before .loop .inv .sized)))
-    (λ c κs. search needs)
-    (λ c κs. search needs)
-    (λ c. omega (arith, walk-fits (c .before .before .before .before .before .before .before .before .before .before .before .loop .inv) (c .before .before .before .before .before .before .before .before .record-of .result) (c .before .before .before .before .before .before .before .before .before .before .loop-test .taken) (simp tail-is at (c .before .before .before .before .before .before .before .before .record-of .ensures)) (c .before .before .before .before .before .before .before .head-of .ensures) (c .before .before .before .before .before .before .is-found .ensures) (c .width-of .ensures)))
-    (λ c. omega (arith, walk-fits (c .before .before .before .before .before .before .before .before .before .before .before .loop .inv) (c .before .before .before .before .before .before .before .before .record-of .result) (c .before .before .before .before .before .before .before .before .before .before .loop-test .taken) (simp tail-is at (c .before .before .before .before .before .before .before .before .record-of .ensures)) (c .before .before .before .before .before .before .before .head-of .ensures) (c .before .before .before .before .before .before .is-found .ensures) (c .width-of .ensures), (c .before .before .before .before .before .before .before .before .before .before .loop-test .taken)))
-    (λ c. walk-on (c .before .before .before .before .before .before .before .before .before .before .before .loop .inv) (c .before .before .before .before .before .before .before .before .record-of .result) (c .before .before .before .before .before .before .before .before .before .before .loop-test .taken) (simp tail-is at (c .before .before .before .before .before .before .before .before .record-of .ensures)) (c .before .before .before .before .before .before .before .head-of .ensures) (c .before .before .before .before .before .before .is-found .ensures) (c .width-of .ensures) (c .before .inside-after .ensures) (c .before .before .before .before .put-if .ensures))
-    (λ c. search needs)
+    (λ c. omega (arith, walk-fits (c .before .before .before .before .before .before .before .before .before .before .loop .inv) (c .before .before .before .before .before .before .before .glance-of .result) (c .before .before .before .before .before .before .before .before .before .loop-test .taken) (simp tail-is at (c .before .before .before .before .before .before .before .glance-of .ensures)) (c .before .before .before .before .before .before .is-found .ensures) .1))
+    (λ c. omega (arith, walk-fits (c .before .before .before .before .before .before .before .before .before .before .loop .inv) (c .before .before .before .before .before .before .before .glance-of .result) (c .before .before .before .before .before .before .before .before .before .loop-test .taken) (simp tail-is at (c .before .before .before .before .before .before .before .glance-of .ensures)) (c .before .before .before .before .before .before .is-found .ensures)))
+    (λ c. walk-on (c .before .before .before .before .before .before .before .before .before .before .loop .inv) (c .before .before .before .before .before .before .before .glance-of .result) (c .before .before .before .before .before .before .before .before .before .loop-test .taken) (simp tail-is at (c .before .before .before .before .before .before .before .glance-of .ensures)) (c .before .before .before .before .before .before .is-found .ensures) (c .before .inside-after .ensures) (c .before .before .before .before .put-if .ensures))
+    (λ c. c .before .loop .inv .sized ∙ sym (c .before .before .before .before .pre .2))
     (λ c. walk-end (c .before .loop .inv) (c .before .before .before .before .pre .0) (c .loop-test .left)))

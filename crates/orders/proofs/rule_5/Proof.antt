@@ -1,22 +1,25 @@
-use Prim.Native.Nat.{ℕ, _-_, _+_}
-use Rattle.xliff.proofs.lists.Tests.{or-left, or-right}
-use lib.Dec.{eqb, ltb}
-use borrow.Author.Tests.{ltb-false}
-use mathlib.Core.Bool.{Bool, cond}
-use mathlib.Core.List.{List, [], _∷_}
-use mathlib.Core.Path.{_≡_, refl, sym, _∙_, ap, subst}
-use native.Mathlib.Omega.{arith}
-use lib.ListN.{length, length-set}
-use Rattle.table.specs.Meaning.{width}
-use Rattle.text.proofs.Laws.{tail-is}
-use Rattle.xliff.specs.Parse.{unit}
-use Rattle.xliff.specs.Encode.{Record, unit-records}
-use Rattle.xliff.specs.Answer.{refusal}
-use Rattle.xliff.specs.Rules.{fault-5, bad-order}
-use Rattle.places.specs.Found.{orders-found, first-bad-in}
-use Rattle.places.proofs.Places.{At, at-start}
-use Rattle.orders.proofs.OrderLaws.{orders-skip, orders-at, orders-end, Marked, bad-same, marked-more, marked-none, orders-start}
+use Rattle.table.specs.declared.Read.the-variants.{Good}
+use Rattle.orders.proofs.OrderLaws.{order-walked}
+use Rattle.orders.proofs.WalkLaws.{walked}
 use Rattle.orders.proofs.WalkLaws.{stepped, few-parts}
+use Rattle.orders.proofs.OrderLaws.{orders-skip, orders-at, orders-end, Marked, bad-same, marked-more, marked-none, orders-start}
+use Rattle.places.proofs.Places.{At, at-start}
+use Rattle.places.specs.Found.{orders-found, first-bad-in}
+use Rattle.xliff.specs.Rules.{fault-5, bad-order}
+use Rattle.xliff.specs.Answer.{refusal}
+use Rattle.xliff.specs.Encode.{Record, unit-records}
+use Rattle.xliff.specs.Parse.{unit}
+use Rattle.text.proofs.Laws.{tail-is}
+use Rattle.table.specs.Meaning.{width}
+use lib.ListN.{length, length-set}
+use native.Mathlib.Omega.{arith}
+use mathlib.Core.Path.{_≡_, refl, sym, _∙_, ap, subst}
+use mathlib.Core.List.{List, [], _∷_}
+use mathlib.Core.Bool.{Bool, cond}
+use borrow.Author.Tests.{ltb-false}
+use lib.Dec.{eqb, ltb}
+use Rattle.xliff.proofs.lists.Tests.{or-left, or-right}
+use Prim.Native.Nat.{ℕ, _-_, _+_}
 use borrow.Author.Needs.{needs}
 use Rattle.orders.proofs.rule_5.Statement.{statement}
 use Rattle.orders.proofs.rule_5.Tie as tie
@@ -39,17 +42,16 @@ rule-5-spec =
     (λ c. search needs)
     (λ c κs. search needs)
     (λ c κs. search needs)
-    (λ c κs. search needs)
     (λ c. search needs)
     (λ c. search needs)
-    (λ c κs. (omega (arith, few-parts (c .before .before .before .before .before .before .before .before .before .before .before .args .t .now) (c .before .before .before .before .before .before .before .before .before .before .before .pre .0), c .before .before .before .before .before .before .before .before .before .before .before .pre .1)))
-    (λ c. let s = stepped (c .before .before .before .before .before .before .before .before .before .before .before .before .before .args .t .now) (c .before .before .before .before .before .before .before .before .before .before .before .loop .at) (c .before .before .before .before .before .before .before .before .before .before .before .loop .inv .0) (c .before .before .before .before .before .before .before .before .record-of .result) (c .before .before .before .before .before .before .before .before .before .before .before .loop .inv .2) (c .before .before .before .before .before .before .before .before .before .before .loop-test .taken) (simp tail-is at (c .before .before .before .before .before .before .before .before .record-of .ensures)) in sym (c .before .before .before .before .before .before .before .before .before .before .before .loop .inv .3 ∙ orders-at (c .before .before .before .before .before .before .before .before .before .before .before .before .before .args .t .now) (c .before .before .before .before .before .before .before .before .before .before .before .loop .at) (c .before .before .before .before .before .before .before .before .before .before .before .loop .inv .0) (c .before .before .before .before .before .before .before .before .record-of .result) s (c .before .before .before .before .before .before .before .before .before .before .before .before .before .args .n) (c .before .before .before .before .before .before .before .before .before .before .before .loop .inv .1) (c .before .before .before .before .q .given .0 .0) (sym (c .before .before .before .before .before .before .order-of .ensures) ∙ c .before .before .before .before .q .given .1) ∙ ap (λ (b : Bool). cond b (refusal 5 (c .before .before .before .before .before .before .before .before .before .before .before .loop .at)) (first-bad-in (c .before .before .before .before .before .before .before .before .before .before .before .before .before .args .n) (c .before .before .before .before .q .given .0 .0 ∷ c .before .before .before .before .before .before .before .before .before .before .before .loop .inv .1) (orders-found (c .before .before .before .before .before .before .before .before .before .before .before .loop .at + width (c .before .before .before .before .before .before .before .before .record-of .result)) (s .others)))) (sym (bad-same (c .before .before .before .before .before .before .before .before .before .before .before .before .before .args .n) (c .before .before .before .before .q .given .0 .0) (c .before .before .before .before .before .before .before .before .before .before .before .loop .used) (c .before .before .before .before .before .before .before .before .before .before .before .loop .inv .1) (omega (arith, few-parts (c .before .before .before .before .before .before .before .before .before .before .before .before .before .args .t .now) (c .before .before .before .before .before .before .before .before .before .before .before .before .before .pre .0), c .before .before .before .before .before .before .before .before .before .before .before .before .before .pre .1)) (c .before .before .before .before .before .before .before .before .before .before .before .loop .inv .4)) ∙ sym (c .before .bad-order .ensures) ∙ (c .if1 .taken))))
-    (λ c. (omega (arith, ltb-false (c .before .before .before .before .before .before .before .before .before .before .before .before .before .args .n) (c .before .before .before .before .q .given .0 .0) (or-left (ltb (c .before .before .before .before .before .before .before .before .before .before .before .before .before .args .n) (c .before .before .before .before .q .given .0 .0)) _ (or-right (eqb (c .before .before .before .before .q .given .0 .0) 0) _ (sym (c .before .bad-order .ensures) ∙ (c .if1 .left)))), few-parts (c .before .before .before .before .before .before .before .before .before .before .before .before .before .args .t .now) (c .before .before .before .before .before .before .before .before .before .before .before .before .before .pre .0), c .before .before .before .before .before .before .before .before .before .before .before .before .before .pre .1, c .before .before .before .before .before .before .before .before .before .before .before .loop .inv .5)))
-    (λ c. let s = stepped (c .before .before .before .before .before .before .before .before .before .before .before .before .before .args .t .now) (c .before .before .before .before .before .before .before .before .before .before .before .loop .at) (c .before .before .before .before .before .before .before .before .before .before .before .loop .inv .0) (c .before .before .before .before .before .before .before .before .record-of .result) (c .before .before .before .before .before .before .before .before .before .before .before .loop .inv .2) (c .before .before .before .before .before .before .before .before .before .before .loop-test .taken) (simp tail-is at (c .before .before .before .before .before .before .before .before .record-of .ensures)) in omega (arith, s .fits, c .before .before .before .before .before .before .before .width-of .ensures))
-    (λ c. let s = stepped (c .before .before .before .before .before .before .before .before .before .before .before .before .before .args .t .now) (c .before .before .before .before .before .before .before .before .before .before .before .loop .at) (c .before .before .before .before .before .before .before .before .before .before .before .loop .inv .0) (c .before .before .before .before .before .before .before .before .record-of .result) (c .before .before .before .before .before .before .before .before .before .before .before .loop .inv .2) (c .before .before .before .before .before .before .before .before .before .before .loop-test .taken) (simp tail-is at (c .before .before .before .before .before .before .before .before .record-of .ensures)) in omega (arith, s .fits, s .moves, c .before .before .before .before .before .before .before .width-of .ensures))
-    (λ c. let s = stepped (c .before .before .before .before .before .before .before .before .before .before .before .before .before .args .t .now) (c .before .before .before .before .before .before .before .before .before .before .before .loop .at) (c .before .before .before .before .before .before .before .before .before .before .before .loop .inv .0) (c .before .before .before .before .before .before .before .before .record-of .result) (c .before .before .before .before .before .before .before .before .before .before .before .loop .inv .2) (c .before .before .before .before .before .before .before .before .before .before .loop-test .taken) (simp tail-is at (c .before .before .before .before .before .before .before .before .record-of .ensures)) in (s .others, c .before .before .before .before .q .given .0 .0 ∷ c .before .before .before .before .before .before .before .before .before .before .before .loop .inv .1, subst (λ (k : ℕ). At (c .before .before .before .before .before .before .before .before .before .before .before .before .before .args .t .now) (c .before .before .before .before .before .before .before .before .before .before .before .loop .at + k) (s .others)) (sym (c .before .before .before .before .before .before .before .width-of .ensures)) (s .rest), c .before .before .before .before .before .before .before .before .before .before .before .loop .inv .3 ∙ orders-at (c .before .before .before .before .before .before .before .before .before .before .before .before .before .args .t .now) (c .before .before .before .before .before .before .before .before .before .before .before .loop .at) (c .before .before .before .before .before .before .before .before .before .before .before .loop .inv .0) (c .before .before .before .before .before .before .before .before .record-of .result) s (c .before .before .before .before .before .before .before .before .before .before .before .before .before .args .n) (c .before .before .before .before .before .before .before .before .before .before .before .loop .inv .1) (c .before .before .before .before .q .given .0 .0) (sym (c .before .before .before .before .before .before .order-of .ensures) ∙ c .before .before .before .before .q .given .1) ∙ ap (λ (b : Bool). cond b (refusal 5 (c .before .before .before .before .before .before .before .before .before .before .before .loop .at)) (first-bad-in (c .before .before .before .before .before .before .before .before .before .before .before .before .before .args .n) (c .before .before .before .before .q .given .0 .0 ∷ c .before .before .before .before .before .before .before .before .before .before .before .loop .inv .1) (orders-found (c .before .before .before .before .before .before .before .before .before .before .before .loop .at + width (c .before .before .before .before .before .before .before .before .record-of .result)) (s .others)))) (sym (bad-same (c .before .before .before .before .before .before .before .before .before .before .before .before .before .args .n) (c .before .before .before .before .q .given .0 .0) (c .before .before .before .before .before .before .before .before .before .before .before .loop .used) (c .before .before .before .before .before .before .before .before .before .before .before .loop .inv .1) (omega (arith, few-parts (c .before .before .before .before .before .before .before .before .before .before .before .before .before .args .t .now) (c .before .before .before .before .before .before .before .before .before .before .before .before .before .pre .0), c .before .before .before .before .before .before .before .before .before .before .before .before .before .pre .1)) (c .before .before .before .before .before .before .before .before .before .before .before .loop .inv .4)) ∙ sym (c .before .bad-order .ensures) ∙ (c .if1 .left)) ∙ ap (λ (k : ℕ). first-bad-in (c .before .before .before .before .before .before .before .before .before .before .before .before .before .args .n) (c .before .before .before .before .q .given .0 .0 ∷ c .before .before .before .before .before .before .before .before .before .before .before .loop .inv .1) (orders-found (c .before .before .before .before .before .before .before .before .before .before .before .loop .at + k) (s .others))) (sym (c .before .before .before .before .before .before .before .width-of .ensures)), marked-more (c .before .before .before .before .before .before .before .before .before .before .before .loop .used) (c .before .before .before .before .before .before .before .before .before .before .before .loop .inv .1) (c .before .before .before .before .q .given .0 .0) (c .before .before .before .before .before .before .before .before .before .before .before .loop .inv .4) (omega (arith, ltb-false (c .before .before .before .before .before .before .before .before .before .before .before .before .before .args .n) (c .before .before .before .before .q .given .0 .0) (or-left (ltb (c .before .before .before .before .before .before .before .before .before .before .before .before .before .args .n) (c .before .before .before .before .q .given .0 .0)) _ (or-right (eqb (c .before .before .before .before .q .given .0 .0) 0) _ (sym (c .before .bad-order .ensures) ∙ (c .if1 .left)))), few-parts (c .before .before .before .before .before .before .before .before .before .before .before .before .before .args .t .now) (c .before .before .before .before .before .before .before .before .before .before .before .before .before .pre .0), c .before .before .before .before .before .before .before .before .before .before .before .before .before .pre .1, c .before .before .before .before .before .before .before .before .before .before .before .loop .inv .5)), length-set (c .before .before .before .before .before .before .before .before .before .before .before .loop .used) (c .before .before .before .before .q .given .0 .0) 1 ∙ c .before .before .before .before .before .before .before .before .before .before .before .loop .inv .5))
+    (λ c κs. (omega (arith, few-parts (c .before .before .before .before .before .before .before .before .before .before .args .t .now) (c .before .before .before .before .before .before .before .before .before .before .pre .0), c .before .before .before .before .before .before .before .before .before .before .pre .1)))
+    (λ c. let v = walked (c .before .before .before .before .before .before .before .before .before .before .before .before .args .t .now) (c .before .before .before .before .before .before .before .before .before .before .loop .at) (c .before .before .before .before .before .before .before .before .before .before .loop .inv .0) (c .before .before .before .before .before .before .before .glance-of .result) (c .before .before .before .before .before .before .before .before .before .before .loop .inv .2) ((c .before .before .before .before .before .before .before .before .before .loop-test .taken)) (simp tail-is at (c .before .before .before .before .before .before .before .glance-of .ensures)) in let s = v .step in sym (c .before .before .before .before .before .before .before .before .before .before .loop .inv .3 ∙ orders-at (c .before .before .before .before .before .before .before .before .before .before .before .before .args .t .now) (c .before .before .before .before .before .before .before .before .before .before .loop .at) (c .before .before .before .before .before .before .before .before .before .before .loop .inv .0) (Good (v .the) (v .size)) s (c .before .before .before .before .before .before .before .before .before .before .before .before .args .n) (c .before .before .before .before .before .before .before .before .before .before .loop .inv .1) (c .before .before .before .before .q .given .0 .0) (order-walked (c .before .before .before .before .before .before .before .before .before .before .before .before .args .t .now) (c .before .before .before .before .before .before .before .before .before .before .loop .at) (c .before .before .before .before .before .before .before .before .before .before .loop .inv .0) (c .before .before .before .before .before .before .before .glance-of .result) v ∙ sym (c .before .before .before .before .before .before .order-of .ensures) ∙ c .before .before .before .before .q .given .1) ∙ ap (λ (b : Bool). cond b (refusal 5 (c .before .before .before .before .before .before .before .before .before .before .loop .at)) (first-bad-in (c .before .before .before .before .before .before .before .before .before .before .before .before .args .n) (c .before .before .before .before .q .given .0 .0 ∷ c .before .before .before .before .before .before .before .before .before .before .loop .inv .1) (orders-found (c .before .before .before .before .before .before .before .before .before .before .loop .at + width (Good (v .the) (v .size))) (s .others)))) (sym (bad-same (c .before .before .before .before .before .before .before .before .before .before .before .before .args .n) (c .before .before .before .before .q .given .0 .0) (c .before .before .before .before .before .before .before .before .before .before .loop .used) (c .before .before .before .before .before .before .before .before .before .before .loop .inv .1) (omega (arith, few-parts (c .before .before .before .before .before .before .before .before .before .before .before .before .args .t .now) (c .before .before .before .before .before .before .before .before .before .before .before .before .pre .0), c .before .before .before .before .before .before .before .before .before .before .before .before .pre .1)) (c .before .before .before .before .before .before .before .before .before .before .loop .inv .4)) ∙ sym (c .before .bad-order .ensures) ∙ ((c .if1 .taken)))))
+    (λ c. (omega (arith, ltb-false (c .before .before .before .before .before .before .before .before .before .before .before .before .args .n) (c .before .before .before .before .q .given .0 .0) (or-left (ltb (c .before .before .before .before .before .before .before .before .before .before .before .before .args .n) (c .before .before .before .before .q .given .0 .0)) _ (or-right (eqb (c .before .before .before .before .q .given .0 .0) 0) _ (sym (c .before .bad-order .ensures) ∙ ((c .if1 .left))))), few-parts (c .before .before .before .before .before .before .before .before .before .before .before .before .args .t .now) (c .before .before .before .before .before .before .before .before .before .before .before .before .pre .0), c .before .before .before .before .before .before .before .before .before .before .before .before .pre .1, c .before .before .before .before .before .before .before .before .before .before .loop .inv .5)))
+    (λ c. let v = walked (c .before .before .before .before .before .before .before .before .before .before .before .before .args .t .now) (c .before .before .before .before .before .before .before .before .before .before .loop .at) (c .before .before .before .before .before .before .before .before .before .before .loop .inv .0) (c .before .before .before .before .before .before .before .glance-of .result) (c .before .before .before .before .before .before .before .before .before .before .loop .inv .2) ((c .before .before .before .before .before .before .before .before .before .loop-test .taken)) (simp tail-is at (c .before .before .before .before .before .before .before .glance-of .ensures)) in let s = v .step in omega (arith, s .fits, v .wide))
+    (λ c. let v = walked (c .before .before .before .before .before .before .before .before .before .before .before .before .args .t .now) (c .before .before .before .before .before .before .before .before .before .before .loop .at) (c .before .before .before .before .before .before .before .before .before .before .loop .inv .0) (c .before .before .before .before .before .before .before .glance-of .result) (c .before .before .before .before .before .before .before .before .before .before .loop .inv .2) ((c .before .before .before .before .before .before .before .before .before .loop-test .taken)) (simp tail-is at (c .before .before .before .before .before .before .before .glance-of .ensures)) in let s = v .step in omega (arith, s .fits, s .moves, v .wide))
+    (λ c. let v = walked (c .before .before .before .before .before .before .before .before .before .before .before .before .args .t .now) (c .before .before .before .before .before .before .before .before .before .before .loop .at) (c .before .before .before .before .before .before .before .before .before .before .loop .inv .0) (c .before .before .before .before .before .before .before .glance-of .result) (c .before .before .before .before .before .before .before .before .before .before .loop .inv .2) ((c .before .before .before .before .before .before .before .before .before .loop-test .taken)) (simp tail-is at (c .before .before .before .before .before .before .before .glance-of .ensures)) in let s = v .step in (s .others, c .before .before .before .before .q .given .0 .0 ∷ c .before .before .before .before .before .before .before .before .before .before .loop .inv .1, subst (λ (k : ℕ). At (c .before .before .before .before .before .before .before .before .before .before .before .before .args .t .now) (c .before .before .before .before .before .before .before .before .before .before .loop .at + k) (s .others)) (sym (v .wide)) (s .rest), c .before .before .before .before .before .before .before .before .before .before .loop .inv .3 ∙ orders-at (c .before .before .before .before .before .before .before .before .before .before .before .before .args .t .now) (c .before .before .before .before .before .before .before .before .before .before .loop .at) (c .before .before .before .before .before .before .before .before .before .before .loop .inv .0) (Good (v .the) (v .size)) s (c .before .before .before .before .before .before .before .before .before .before .before .before .args .n) (c .before .before .before .before .before .before .before .before .before .before .loop .inv .1) (c .before .before .before .before .q .given .0 .0) (order-walked (c .before .before .before .before .before .before .before .before .before .before .before .before .args .t .now) (c .before .before .before .before .before .before .before .before .before .before .loop .at) (c .before .before .before .before .before .before .before .before .before .before .loop .inv .0) (c .before .before .before .before .before .before .before .glance-of .result) v ∙ sym (c .before .before .before .before .before .before .order-of .ensures) ∙ c .before .before .before .before .q .given .1) ∙ ap (λ (b : Bool). cond b (refusal 5 (c .before .before .before .before .before .before .before .before .before .before .loop .at)) (first-bad-in (c .before .before .before .before .before .before .before .before .before .before .before .before .args .n) (c .before .before .before .before .q .given .0 .0 ∷ c .before .before .before .before .before .before .before .before .before .before .loop .inv .1) (orders-found (c .before .before .before .before .before .before .before .before .before .before .loop .at + width (Good (v .the) (v .size))) (s .others)))) (sym (bad-same (c .before .before .before .before .before .before .before .before .before .before .before .before .args .n) (c .before .before .before .before .q .given .0 .0) (c .before .before .before .before .before .before .before .before .before .before .loop .used) (c .before .before .before .before .before .before .before .before .before .before .loop .inv .1) (omega (arith, few-parts (c .before .before .before .before .before .before .before .before .before .before .before .before .args .t .now) (c .before .before .before .before .before .before .before .before .before .before .before .before .pre .0), c .before .before .before .before .before .before .before .before .before .before .before .before .pre .1)) (c .before .before .before .before .before .before .before .before .before .before .loop .inv .4)) ∙ sym (c .before .bad-order .ensures) ∙ ((c .if1 .left))) ∙ ap (λ (k : ℕ). first-bad-in (c .before .before .before .before .before .before .before .before .before .before .before .before .args .n) (c .before .before .before .before .q .given .0 .0 ∷ c .before .before .before .before .before .before .before .before .before .before .loop .inv .1) (orders-found (c .before .before .before .before .before .before .before .before .before .before .loop .at + k) (s .others))) (sym (v .wide)), marked-more (c .before .before .before .before .before .before .before .before .before .before .loop .used) (c .before .before .before .before .before .before .before .before .before .before .loop .inv .1) (c .before .before .before .before .q .given .0 .0) (c .before .before .before .before .before .before .before .before .before .before .loop .inv .4) (omega (arith, ltb-false (c .before .before .before .before .before .before .before .before .before .before .before .before .args .n) (c .before .before .before .before .q .given .0 .0) (or-left (ltb (c .before .before .before .before .before .before .before .before .before .before .before .before .args .n) (c .before .before .before .before .q .given .0 .0)) _ (or-right (eqb (c .before .before .before .before .q .given .0 .0) 0) _ (sym (c .before .bad-order .ensures) ∙ ((c .if1 .left))))), few-parts (c .before .before .before .before .before .before .before .before .before .before .before .before .args .t .now) (c .before .before .before .before .before .before .before .before .before .before .before .before .pre .0), c .before .before .before .before .before .before .before .before .before .before .before .before .pre .1, c .before .before .before .before .before .before .before .before .before .before .loop .inv .5)), length-set (c .before .before .before .before .before .before .before .before .before .before .loop .used) (c .before .before .before .before .q .given .0 .0) 1 ∙ c .before .before .before .before .before .before .before .before .before .before .loop .inv .5))
     (λ c. search needs)
-    (λ c. let s = stepped (c .before .before .before .before .before .before .before .before .before .args .t .now) (c .before .before .before .before .before .before .before .loop .at) (c .before .before .before .before .before .before .before .loop .inv .0) (c .before .before .before .before .record-of .result) (c .before .before .before .before .before .before .before .loop .inv .2) (c .before .before .before .before .before .before .loop-test .taken) (simp tail-is at (c .before .before .before .before .record-of .ensures)) in omega (arith, s .fits, c .before .before .before .width-of .ensures))
-    (λ c. let s = stepped (c .before .before .before .before .before .before .before .before .before .args .t .now) (c .before .before .before .before .before .before .before .loop .at) (c .before .before .before .before .before .before .before .loop .inv .0) (c .before .before .before .before .record-of .result) (c .before .before .before .before .before .before .before .loop .inv .2) (c .before .before .before .before .before .before .loop-test .taken) (simp tail-is at (c .before .before .before .before .record-of .ensures)) in omega (arith, s .fits, s .moves, c .before .before .before .width-of .ensures))
-    (λ c. let s = stepped (c .before .before .before .before .before .before .before .before .before .args .t .now) (c .before .before .before .before .before .before .before .loop .at) (c .before .before .before .before .before .before .before .loop .inv .0) (c .before .before .before .before .record-of .result) (c .before .before .before .before .before .before .before .loop .inv .2) (c .before .before .before .before .before .before .loop-test .taken) (simp tail-is at (c .before .before .before .before .record-of .ensures)) in (s .others, c .before .before .before .before .before .before .before .loop .inv .1, subst (λ (k : ℕ). At (c .before .before .before .before .before .before .before .before .before .args .t .now) (c .before .before .before .before .before .before .before .loop .at + k) (s .others)) (sym (c .before .before .before .width-of .ensures)) (s .rest), c .before .before .before .before .before .before .before .loop .inv .3 ∙ orders-skip (c .before .before .before .before .before .before .before .before .before .args .t .now) (c .before .before .before .before .before .before .before .loop .at) (c .before .before .before .before .before .before .before .loop .inv .0) (c .before .before .before .before .record-of .result) s (c .before .before .before .before .before .before .before .before .before .args .n) (c .before .before .before .before .before .before .before .loop .inv .1) (sym (c .before .before .order-of .ensures) ∙ c .enum-told .given .1) ∙ ap (λ (k : ℕ). first-bad-in (c .before .before .before .before .before .before .before .before .before .args .n) (c .before .before .before .before .before .before .before .loop .inv .1) (orders-found (c .before .before .before .before .before .before .before .loop .at + k) (s .others))) (sym (c .before .before .before .width-of .ensures)), c .before .before .before .before .before .before .before .loop .inv .4, c .before .before .before .before .before .before .before .loop .inv .5))
-    (λ c. sym (c .before .loop .inv .3 ∙ orders-end (c .before .before .before .args .t .now) (c .before .loop .at) (c .before .loop .inv .0) (c .before .before .before .args .n) (c .before .loop .inv .1) (c .before .loop .inv .2) (c .loop-test .left))))
+    (λ c. let v = walked (c .before .before .before .before .before .before .before .before .args .t .now) (c .before .before .before .before .before .before .loop .at) (c .before .before .before .before .before .before .loop .inv .0) (c .before .before .before .glance-of .result) (c .before .before .before .before .before .before .loop .inv .2) ((c .before .before .before .before .before .loop-test .taken)) (simp tail-is at (c .before .before .before .glance-of .ensures)) in let s = v .step in omega (arith, s .fits, v .wide))
+    (λ c. let v = walked (c .before .before .before .before .before .before .before .before .args .t .now) (c .before .before .before .before .before .before .loop .at) (c .before .before .before .before .before .before .loop .inv .0) (c .before .before .before .glance-of .result) (c .before .before .before .before .before .before .loop .inv .2) ((c .before .before .before .before .before .loop-test .taken)) (simp tail-is at (c .before .before .before .glance-of .ensures)) in let s = v .step in omega (arith, s .fits, s .moves, v .wide))
+    (λ c. let v = walked (c .before .before .before .before .before .before .before .before .args .t .now) (c .before .before .before .before .before .before .loop .at) (c .before .before .before .before .before .before .loop .inv .0) (c .before .before .before .glance-of .result) (c .before .before .before .before .before .before .loop .inv .2) ((c .before .before .before .before .before .loop-test .taken)) (simp tail-is at (c .before .before .before .glance-of .ensures)) in let s = v .step in (s .others, c .before .before .before .before .before .before .loop .inv .1, subst (λ (k : ℕ). At (c .before .before .before .before .before .before .before .before .args .t .now) (c .before .before .before .before .before .before .loop .at + k) (s .others)) (sym (v .wide)) (s .rest), c .before .before .before .before .before .before .loop .inv .3 ∙ orders-skip (c .before .before .before .before .before .before .before .before .args .t .now) (c .before .before .before .before .before .before .loop .at) (c .before .before .before .before .before .before .loop .inv .0) (Good (v .the) (v .size)) s (c .before .before .before .before .before .before .before .before .args .n) (c .before .before .before .before .before .before .loop .inv .1) (order-walked (c .before .before .before .before .before .before .before .before .args .t .now) (c .before .before .before .before .before .before .loop .at) (c .before .before .before .before .before .before .loop .inv .0) (c .before .before .before .glance-of .result) v ∙ sym (c .before .before .order-of .ensures) ∙ c .enum-told .given .1) ∙ ap (λ (k : ℕ). first-bad-in (c .before .before .before .before .before .before .before .before .args .n) (c .before .before .before .before .before .before .loop .inv .1) (orders-found (c .before .before .before .before .before .before .loop .at + k) (s .others))) (sym (v .wide)), c .before .before .before .before .before .before .loop .inv .4, c .before .before .before .before .before .before .loop .inv .5))
+    (λ c. sym (c .before .loop .inv .3 ∙ orders-end (c .before .before .before .args .t .now) (c .before .loop .at) (c .before .loop .inv .0) (c .before .before .before .args .n) (c .before .loop .inv .1) (c .before .loop .inv .2) ((c .loop-test .left)))))

@@ -10,7 +10,7 @@ part-from-spec =
     (tie.spec
     (λ c κs. search needs)
     (λ c κs. search needs)
-    (λ c. omega (arith, source-fits (c .before .before .before .args .t .now) (c .before .before .before .args .at) (c .before .record-at .result) (c .before .record-at .ensures) (c .width-of .result) (c .width-of .ensures) (c .before .before .before .pre)))
-    (λ c κs. source-content (c .before .before .before .args .t .now) (c .before .before .before .args .at) (c .before .record-at .result) (c .before .record-at .ensures) (c .width-of .result) (c .width-of .ensures) (c .before .before .before .pre))
-    (λ c κs. part-target (c .before .before .before .before .args .t .now) (c .before .before .before .before .args .at) (c .before .before .record-at .result) (c .before .before .record-at .ensures) (c .before .width-of .result) (c .before .width-of .ensures) (c .content-end .result) (c .content-end .ensures) (c .before .before .before .before .pre))
-    (λ c. part-spans (c .before .before .before .before .before .args .t .now) (c .before .before .before .before .before .args .at) (c .before .before .before .record-at .result) (c .before .before .before .record-at .ensures) (c .before .before .width-of .result) (c .before .before .width-of .ensures) (c .before .content-end .result) (c .before .content-end .ensures) _ (c .target-place .ensures)))
+    (λ c. omega (arith, source-fits (c .before .before .before .args .t .now) (c .before .before .before .args .at) (c .before .known-at .result) (c .before .known-at .ensures) (c .width-of .result) (c .width-of .ensures) (c .before .before .before .pre)))
+    (λ c κs. source-content (c .before .before .before .args .t .now) (c .before .before .before .args .at) (c .before .known-at .result) (c .before .known-at .ensures) (c .width-of .result) (c .width-of .ensures) (c .before .before .before .pre))
+    (λ c κs. part-target (c .before .before .before .before .args .t .now) (c .before .before .before .before .args .at) (c .before .before .known-at .result) (c .before .before .known-at .ensures) (c .before .width-of .result) (c .before .width-of .ensures) (c .content-end .result) (c .content-end .ensures) (c .before .before .before .before .pre))
+    (λ c. part-spans (c .before .before .before .before .before .args .t .now) (c .before .before .before .before .before .args .at) (c .before .before .before .known-at .result) (c .before .before .before .known-at .ensures) (c .before .before .width-of .result) (c .before .before .width-of .ensures) (c .before .content-end .result) (c .before .content-end .ensures) _ (c .target-place .ensures)))

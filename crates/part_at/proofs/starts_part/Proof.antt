@@ -1,8 +1,6 @@
-use Rattle.syntax.proofs.StepLaws.{part-same}
-use Rattle.table.specs.Meaning.{body}
 use lib.ListN.{drop}
-use Rattle.xliff.specs.Parse.{is-part}
-use mathlib.Core.Path.{ap, _∙_}
+use mathlib.Core.Path.{_∙_}
+use Rattle.part_at.proofs.ContentLaws.{part-known}
 use borrow.Author.Needs.{needs}
 use Rattle.part_at.proofs.starts_part.Statement.{statement}
 use Rattle.part_at.proofs.starts_part.Tie as tie
@@ -13,4 +11,4 @@ starts-part-spec =
     (tie.spec
     (λ c κs. search needs)
     (λ c κs. search needs)
-    (λ c. c .is-part .ensures ∙ part-same (body (drop (c .before .before .before .args .at) (c .before .before .before .args .t .now))) (c .before .record-at .result) ∙ ap is-part (c .before .record-at .ensures .0)))
+    (λ c. c .is-part .ensures ∙ part-known (drop (c .before .before .before .args .at) (c .before .before .before .args .t .now)) (c .before .known-at .result) (c .before .known-at .ensures)))

@@ -12,4 +12,4 @@ is-closed-spec =
     (λ c. search needs)
     (λ c κs. search needs)
     (λ c κs. search needs)
-    (λ c. λ b p a s. c .closed-by .ensures ∙ closed-is (c .before .before .before .before .args .t .now) (c .before .before .before .before .args .place) (getD (c .before .before .before .before .args .t .now) 2 0) (c .before .record-at .result) refl (c .before .record-at .ensures) b p a s))
+    (λ c. λ b p a s. c .closed-by .ensures ∙ closed-is (c .before .before .before .before .args .t .now) (c .before .before .before .before .args .place) (getD (c .before .before .before .before .args .t .now) 2 0) (c .before .known-at .result) refl (c .before .known-at .ensures) b p a s))

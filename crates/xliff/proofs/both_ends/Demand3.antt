@@ -268,34 +268,34 @@ rewrite-keeps t side i w room b v =
       goals = λ z w. goal;
     }
 
--- ONE CALL
-one : (t : List ℕ) (c : Call) → Bytes t → Given c → Valid t → OneCall t c
+-- The share of each operation: what one call on a valid table of bytes leaves
+pub each-call : (t : List ℕ) (c : Call) → Bytes t → Given c → Valid t → OneCall t c
 unfolding outcome
-one t (SP n cut tcut new room) b g v = by (split t n cut tcut new room) refl
+each-call t (SP n cut tcut new room) b g v = by (split t n cut tcut new room) refl
   where
     by : (o : Outcome) → split t n cut tcut new room ≡ o → OneCall t (SP n cut tcut new room)
     by (refuse x) e = refused-call t (SP n cut tcut new room) x b v e
     by (result r) e =
         let a = split-accepted t n cut tcut new room r b e in
         accepted-call t (SP n cut tcut new room) r (split-unit (unit t) n cut tcut new) e a (split-keeps t n cut tcut new room r g b v e (a .was))
-one t (JN n room) b g v = by (join t n room) refl
+each-call t (JN n room) b g v = by (join t n room) refl
   where
     by : (o : Outcome) → join t n room ≡ o → OneCall t (JN n room)
     by (refuse x) e = refused-call t (JN n room) x b v e
     by (result r) e = let a = join-accepted t n room r b e in accepted-call t (JN n room) r (join-unit (unit t) n) e a (join-keeps t n room r b v e (a .was))
-one t (ST n st s room) b g v = by (set-target t n st s room) refl
+each-call t (ST n st s room) b g v = by (set-target t n st s room) refl
   where
     by : (o : Outcome) → set-target t n st s room ≡ o → OneCall t (ST n st s room)
     by (refuse x) e = refused-call t (ST n st s room) x b v e
     by (result r) e =
         let a = set-accepted t n st s room r b g e in
         accepted-call t (ST n st s room) r (set-unit (unit t) n st (content s)) e a (set-keeps t n st s room r g b v e (a .was) (a .now))
-one t (RT n room) b g v = by (remove-target t n room) refl
+each-call t (RT n room) b g v = by (remove-target t n room) refl
   where
     by : (o : Outcome) → remove-target t n room ≡ o → OneCall t (RT n room)
     by (refuse x) e = refused-call t (RT n room) x b v e
     by (result r) e = accepted-call t (RT n room) r (remove-unit (unit t) n) e (remove-accepted t n room r b e) (remove-keeps t n room b v)
-one t (RW side i w room) b g v = by (rewrite t side i w room) refl
+each-call t (RW side i w room) b g v = by (rewrite t side i w room) refl
   where
     by : (o : Outcome) → rewrite t side i w room ≡ o → OneCall t (RW side i w room)
     by (refuse x) e = refused-call t (RW side i w room) x b v e
@@ -303,4 +303,4 @@ one t (RW side i w room) b g v = by (rewrite t side i w room) refl
 
 -- DEMAND 3
 pub both-ends : Demand-3
-both-ends = demand-3 one once
+both-ends = demand-3 each-call once

@@ -52,7 +52,7 @@ target-good no-target (target r ys) a b = b
 target-good (target q xs) no-target a b = a
 target-good (target q xs) (target r ys) a b = each-append xs ys a b
 
-part-good : (p q : Part) → GoodPart p → GoodPart q → GoodPart (join-parts p q)
+pub part-good : (p q : Part) → GoodPart p → GoodPart q → GoodPart (join-parts p q)
 unfolding join-parts
 part-good p q a b =
     record { head = head-good (p .head) (q .head) (a .head) (b .head); source = each-append (p .source) (q .source) (a .source) (b .source); target = target-good (p .target) (q .target) (a .target) (b .target) }

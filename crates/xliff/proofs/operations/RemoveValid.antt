@@ -115,7 +115,7 @@ module _ (b : List Part) (p : Part) (a : List Part) (q : ℕ) (c : Content) (goa
       (ap₂ (λ (s t : Content). clear (bad-10-target s) [] t) source-same is
       ∙ out-10 (source-sequence old) u c v (ap (clear (bad-10-target (source-sequence old)) []) (sym was) ∙ l))
 
-initial-good : (h : Head) → GoodHead h → GoodHead (with-state 'I' h)
+pub initial-good : (h : Head) → GoodHead h → GoodHead (with-state 'I' h)
 unfolding with-state among
 initial-good (segment i c s) g = (g .0, refl)
 initial-good (ignorable i) g = tt

@@ -105,7 +105,7 @@ tried u side i form-P p e =
     }
 
 -- good as bytes
-good-item : (i : ℕ) (w : Form) (x : Item) → GoodIn x → GoodIn (rewrite-item i w x)
+pub good-item : (i : ℕ) (w : Form) (x : Item) → GoodIn x → GoodIn (rewrite-item i w x)
 unfolding rewrite-item
 good-item i w x g = by (half-of-id i x)
   where
@@ -113,12 +113,12 @@ good-item i w x g = by (half-of-id i x)
     by true = good-form w x g
     by false = g
 
-good-goal : (i : ℕ) (w : Form) (g : Target) → GoodTarget g → GoodTarget (rewrite-target (rewrite-item i w) g)
+pub good-goal : (i : ℕ) (w : Form) (g : Target) → GoodTarget g → GoodTarget (rewrite-target (rewrite-item i w) g)
 unfolding rewrite-target
 good-goal i w no-target g = tt
 good-goal i w (target q xs) g = each-map (rewrite-item i w) (good-item i w) xs g
 
-good-parts : (side i : ℕ) (w : Form) (ps : List Part) → GoodParts ps → GoodParts (map (rewrite-part side (rewrite-item i w)) ps)
+pub good-parts : (side i : ℕ) (w : Form) (ps : List Part) → GoodParts ps → GoodParts (map (rewrite-part side (rewrite-item i w)) ps)
 unfolding rewrite-part
 good-parts side i w [] each-nil = each-nil
 good-parts side i w (p ∷ ps) (each-cons g h) = each-cons (by (eqb side 'S')) (good-parts side i w ps h)

@@ -48,7 +48,7 @@ rule-5-back n at used (p ∷ ps) e = by (p .target) refl e (λ used′. rule-5-b
     by (target q xs) g k ih = rw (g, first-bad-order) (more q (bad-order n used q) k ih)
 
 -- a head with a fitting state is good
-state-good : (st : ℕ) (h : Head) → state-fits h st ≡ true → GoodHead h → GoodHead (with-state st h)
+pub state-good : (st : ℕ) (h : Head) → state-fits h st ≡ true → GoodHead h → GoodHead (with-state st h)
 unfolding state-fits with-state
 state-good st (segment i c s) e g = (g .0, e)
 state-good st (ignorable i) e g = tt

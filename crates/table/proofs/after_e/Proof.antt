@@ -1,0 +1,17 @@
+use Rattle.table.specs.Records.{afterE}
+use borrow.Author.Tests.{eq-eqb, ne-eqb}
+use borrow.Author.Needs.{needs}
+use Rattle.table.proofs.after_e.Statement.{statement}
+use Rattle.table.proofs.after_e.Tie as tie
+
+pub after-e-spec : {M : Type 1} → statement M
+unfolding afterE
+after-e-spec =
+    tie.close
+    (tie.spec
+    (λ c. search needs)
+    (λ c κs. search needs)
+    (λ c. simp (eq-eqb _ _ (c .before .if1 .taken), c .annotation-end-of .ensures))
+    (λ c κs. search needs)
+    (λ c. simp (ne-eqb _ _ (c .before .before .if1 .left), eq-eqb _ _ (c .before .if2 .taken), c .pair-of .ensures))
+    (λ c. simp (ne-eqb _ _ (c .before .if1 .left), ne-eqb _ _ (c .if2 .left))))
