@@ -1,17 +1,20 @@
 -- What one request comes to: its line, and the table that it leaves.
 use Prim.Native.Nat.{ℕ, _≤_}
 use mathlib.Core.Path.{_≡_}
+use mathlib.Core.Bool.{Bool, true}
 use mathlib.Core.List.{List}
 use lib.ListN.{length, take}
 use Rattle.xliff.specs.Answer.{answer}
-use Rattle.xliff.specs.Calls.{outcome, left}
+use Rattle.xliff.specs.Calls.{Call, outcome, left}
 use Rattle.xliff.specs.Desk.{line}
 use Rattle.answers.specs.declared.Answer.{Answer}
 use Rattle.answers.specs.declared.Answer.the-variants.{Accepted, Refused}
 use Rattle.writer.specs.Pieces.{lead}
-use Rattle.requests.specs.Requests.{call-of}
-use Rattle.requests.specs.declared.Request.{Request}
 use Rattle.job.specs.declared.Step.{Step}
+
+-- the program has every operation
+abbrev pub every : Call → Bool
+every c = true
 
 -- an accepted length within the lent output
 abbrev pub FitsIn : Answer → Type 0
@@ -23,10 +26,10 @@ abbrev pub kept-table : Answer → ℕ → List ℕ → List ℕ → List ℕ
 kept-table (Accepted m) n table result = take m result
 kept-table (Refused k at) n table result = take n table
 
--- a request on the table t: its line at the head of the output, and the table that it leaves
-pub record Performed (r : Request) (t out : List ℕ) (s : Step) (table′ out′ : List ℕ) : Type 0 where
-  pub prints : s .printed ≡ length (line (answer (outcome t (call-of r))))
-  pub wrote : out′ ≡ lead (line (answer (outcome t (call-of r)))) out
+-- a call on the table t: its line at the head of the output, and the table that it leaves
+pub record Performed (c : Call) (t out : List ℕ) (s : Step) (table′ out′ : List ℕ) : Type 0 where
+  pub prints : s .printed ≡ length (line (answer (outcome t c)))
+  pub wrote : out′ ≡ lead (line (answer (outcome t c))) out
   pub short : s .printed ≤ 48
-  pub leaves : take (s .length) table′ ≡ left t (call-of r)
+  pub leaves : take (s .length) table′ ≡ left t c
   pub fits : s .length ≤ 8192

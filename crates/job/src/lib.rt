@@ -8,11 +8,11 @@ ghost use Prim.Native.Nat.{_+_, _*_, _<_, _≤_};
 ghost use lib.ListN.{length, take, drop};
 ghost use Rattle.xliff.specs.Answer.{refused};
 ghost use Rattle.xliff.specs.Check.{check};
-ghost use Rattle.xliff.specs.Desk.{line, table-line, table-length, answer-requests, desk-job, desk-with};
+ghost use Rattle.xliff.specs.Desk.{line, table-line, table-length, answer-requests, desk-job, desk};
 ghost use Rattle.answers.specs.Answers.{answer-meaning};
 ghost use Rattle.writer.specs.Pieces.{lead};
-ghost use Rattle.requests.specs.Requests.{runs};
-ghost use Rattle.job.specs.Job.{FitsIn, kept-table, Performed};
+ghost use Rattle.requests.specs.Requests.{request-size, call-of};
+ghost use Rattle.job.specs.Job.{every, FitsIn, kept-table, Performed};
 
 // What a request printed, and the length of the table that it left.
 pub struct Step {
@@ -31,13 +31,13 @@ fn keep(table: &mut [u8], n: usize, a: Answer, result: &[u8]) -> usize
     }
 }
 
-// One request on the table in the first `n` bytes of `table`: its line at the head of `out`, and in `table` the table that it leaves.
-fn answer_request(r: Request, table: &mut [u8], n: usize, out: &mut [u8]) -> Step
-    requires { ⌜ (n ≤ 8192) × (length (now table) ≡ 8192) × (48 ≤ length (now out)) ⌝ }
-    ensures { λ s. ⌜ Performed r (take n (now (table .entry))) (now (out .entry)) s (now (table .exit)) (now (out .exit)) ⌝ }
+// The request `r` at the head of `s`, on the table in the first `n` bytes of `table`: its line at the head of `out`, and in `table` the table that it leaves.
+fn answer_request(r: Request, s: &[u8], table: &mut [u8], n: usize, out: &mut [u8]) -> Step
+    requires { ⌜ (n ≤ 8192) × (length (now table) ≡ 8192) × (48 ≤ length (now out)) × (request-size r ≤ length (now s)) ⌝ }
+    ensures { λ x. ⌜ Performed (call-of (now (s .entry)) r) (take n (now (table .entry))) (now (out .entry)) x (now (table .exit)) (now (out .exit)) ⌝ }
 {
     let mut result = [0u8; 8192];
-    let a = operations::perform(&table[..n], r, &mut result);
+    let a = operations::perform(&table[..n], r, s, &mut result);
     let printed = lines::put_line(out, a);
     let length = keep(table, n, a, &result);
     Step {
@@ -59,18 +59,18 @@ fn put_unreadable(out: &mut [u8], at: usize, t: &[u8]) -> usize
 // No line is longer than 48 bytes and no request shorter than 4.
 fn put_requests(job: &[u8], n: usize, table: &mut [u8], out: &mut [u8]) -> usize
     requires { ⌜ (n ≤ length (now job)) × (n ≤ 8192) × (length (now job) ≤ 65535) × (length (now table) ≡ 8192) × (length (now out) ≡ 1048576) ⌝ }
-    ensures { λ r. ⌜ (r ≡ length (answer-requests runs (length (now (job .entry))) (take n (now (table .entry))) n (drop n (now (job .entry))))) × (now (out .exit) ≡ lead (answer-requests runs (length (now (job .entry))) (take n (now (table .entry))) n (drop n (now (job .entry)))) (now (out .entry))) ⌝ }
+    ensures { λ r. ⌜ (r ≡ length (answer-requests every (length (now (job .entry))) (take n (now (table .entry))) n (drop n (now (job .entry))))) × (now (out .exit) ≡ lead (answer-requests every (length (now (job .entry))) (take n (now (table .entry))) n (drop n (now (job .entry)))) (now (out .entry))) ⌝ }
 {
     let mut at = n;
     let mut m = n;
     let mut k: usize = 0;
     while at < job.len() {
         match requests::request_of(&job[at..]) {
-            Asked::Readable(r, size) => {
-                let s = answer_request(r, table, m, &mut out[k..]);
+            Asked::Readable(r) => {
+                let s = answer_request(r, &job[at..], table, m, &mut out[k..]);
                 k += s.printed;
                 m = s.length;
-                at += size;
+                at += requests::size_of(r);
             }
             Asked::Unreadable => {
                 return k + put_unreadable(&mut out[k..], at, &table[..m]);
@@ -83,7 +83,7 @@ fn put_requests(job: &[u8], n: usize, table: &mut [u8], out: &mut [u8]) -> usize
 // The requests of a job whose table, its first `n` bytes, is accepted.
 fn put_accepted(job: &[u8], n: usize, out: &mut [u8]) -> usize
     requires { ⌜ (n ≤ length (now job)) × (n ≤ 8192) × (length (now job) ≤ 65535) × (length (now out) ≡ 1048576) ⌝ }
-    ensures { λ r. ⌜ (r ≡ length (answer-requests runs (length (now (job .entry))) (take n (now (job .entry))) n (drop n (now (job .entry))))) × (now (out .exit) ≡ lead (answer-requests runs (length (now (job .entry))) (take n (now (job .entry))) n (drop n (now (job .entry)))) (now (out .entry))) ⌝ }
+    ensures { λ r. ⌜ (r ≡ length (answer-requests every (length (now (job .entry))) (take n (now (job .entry))) n (drop n (now (job .entry))))) × (now (out .exit) ≡ lead (answer-requests every (length (now (job .entry))) (take n (now (job .entry))) n (drop n (now (job .entry)))) (now (out .entry))) ⌝ }
 {
     let mut table = [0u8; 8192];
     let m = writer::put(&mut table, &job[..n]);
@@ -92,7 +92,7 @@ fn put_accepted(job: &[u8], n: usize, out: &mut [u8]) -> usize
 
 fn put_answers(job: &[u8], n: usize, a: Answer, out: &mut [u8]) -> usize
     requires { ⌜ (n ≡ table-length (now job)) × (n ≤ length (now job)) × (length (now job) ≤ 65535) × (length (now out) ≡ 1048576) × (answer-meaning a ≡ check (take n (now job))) ⌝ }
-    ensures { λ r. ⌜ (r ≡ length (desk-job runs (now (job .entry)))) × (now (out .exit) ≡ lead (desk-job runs (now (job .entry))) (now (out .entry))) ⌝ }
+    ensures { λ r. ⌜ (r ≡ length (desk-job every (now (job .entry)))) × (now (out .exit) ≡ lead (desk-job every (now (job .entry))) (now (out .entry))) ⌝ }
 {
     match a {
         Answer::Accepted(_) => put_accepted(job, n, out),
@@ -102,7 +102,7 @@ fn put_answers(job: &[u8], n: usize, a: Answer, out: &mut [u8]) -> usize
 
 fn run_job(job: &[u8], out: &mut [u8]) -> usize
     requires { ⌜ (length (now job) ≤ 65535) × (length (now out) ≡ 1048576) ⌝ }
-    ensures { λ r. ⌜ (r ≡ length (desk-job runs (now (job .entry)))) × (now (out .exit) ≡ lead (desk-job runs (now (job .entry))) (now (out .entry))) ⌝ }
+    ensures { λ r. ⌜ (r ≡ length (desk-job every (now (job .entry)))) × (now (out .exit) ≡ lead (desk-job every (now (job .entry))) (now (out .entry))) ⌝ }
 {
     let n = job_table::table_length(job);
     put_answers(job, n, table_check::check(&job[..n]), out)
@@ -110,7 +110,7 @@ fn run_job(job: &[u8], out: &mut [u8]) -> usize
 
 // What the desk program prints for a job, at the head of `out`; its length. No job prints more than `out` holds.
 pub fn run(job: &[u8], out: &mut [u8; 1048576]) -> usize
-    ensures { λ r. ⌜ (r ≡ length (desk-with runs (now (job .entry)))) × (now (out .exit) ≡ lead (desk-with runs (now (job .entry))) (now (out .entry))) ⌝ }
+    ensures { λ r. ⌜ (r ≡ length (desk (now (job .entry)))) × (now (out .exit) ≡ lead (desk (now (job .entry))) (now (out .entry))) ⌝ }
     ensures within { λ r. ⌜ (r ≤ length (now (out .exit))) × (r ≡ length (take r (now (out .exit)))) ⌝ }
 {
     if 65535 < job.len() {

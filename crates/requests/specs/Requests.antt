@@ -1,36 +1,41 @@
 -- What the requests of the code mean.
-use Prim.Native.Nat.{ℕ, _≤_}
-use mathlib.Core.Bool.{Bool, true, false}
+use Prim.Native.Nat.{ℕ, _+_, _≤_}
+use mathlib.Core.Path.{_≡_}
 use mathlib.Core.List.{List}
-use lib.ListN.{length}
 use mathlib.Core.Option.{Option, none, some}
+use lib.ListN.{length, take, drop}
 use Rattle.xliff.specs.Calls.{Call, SP, JN, ST, RT, RW}
 use Rattle.xliff.specs.Desk as desk
 use Rattle.xliff.specs.Desk.{lent}
 use Rattle.requests.specs.declared.Request.{Request}
-use Rattle.requests.specs.declared.Request.the-variants.{Split, Join, RemoveTarget, Rewrite}
+use Rattle.requests.specs.declared.Request.the-variants.{Split, Join, SetTarget, RemoveTarget, Rewrite}
 use Rattle.requests.specs.declared.Asked.{Asked}
 use Rattle.requests.specs.declared.Asked.the-variants.{Readable, Unreadable}
 
--- the operations that the program has
-abbrev pub runs : Call → Bool
-runs (SP n cut tcut new room) = true
-runs (JN n room) = true
-runs (ST n st s room) = false
-runs (RT n room) = true
-runs (RW side i w room) = true
+-- the call that a request at the head of s asks for; the content of set target stands behind its first seven bytes
+abbrev pub call-of : List ℕ → Request → Call
+call-of s (Split n cut tcut new) = SP n cut tcut new lent
+call-of s (Join n) = JN n lent
+call-of s (SetTarget n st k) = ST n st (take k (drop 7 s)) lent
+call-of s (RemoveTarget n) = RT n lent
+call-of s (Rewrite side i w) = RW side i w lent
 
-abbrev pub call-of : Request → Call
-call-of (Split n cut tcut new) = SP n cut tcut new lent
-call-of (Join n) = JN n lent
-call-of (RemoveTarget n) = RT n lent
-call-of (Rewrite side i w) = RW side i w lent
+abbrev pub request-size : Request → ℕ
+request-size (Split n cut tcut new) = 10
+request-size (Join n) = 4
+request-size (SetTarget n st k) = 7 + k
+request-size (RemoveTarget n) = 4
+request-size (Rewrite side i w) = 6
 
-abbrev pub asked-meaning : Asked → Option desk.Request
-asked-meaning (Readable r n) = some (record { call = call-of r; size = n })
-asked-meaning Unreadable = none
+abbrev pub asked-meaning : List ℕ → Asked → Option desk.Request
+asked-meaning s (Readable r) = some (record { call = call-of s r; size = request-size r })
+asked-meaning s Unreadable = none
 
 -- no request is shorter than 4 bytes, none longer than what is there
 abbrev pub SizeIn : List ℕ → Asked → Type 0
-SizeIn s (Readable r n) = (4 ≤ n) × (n ≤ length s)
+SizeIn s (Readable r) = (4 ≤ request-size r) × (request-size r ≤ length s)
 SizeIn s Unreadable = Unit {0}
+
+-- what was read at the head of s is the specification's request
+abbrev pub Asks : List ℕ → Asked → Option desk.Request → Type 0
+Asks s a q = (asked-meaning s a ≡ q) × SizeIn s a

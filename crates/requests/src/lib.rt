@@ -1,28 +1,51 @@
 // The requests of a job.
 ghost use mathlib.Core.Path.{_≡_};
-ghost use Prim.Native.Nat.{_≤_};
-ghost use lib.ListN.{length, getD};
-ghost use Rattle.xliff.specs.Bytes.{two-at};
-ghost use Rattle.xliff.specs.Calls.{SP, JN, RT, RW};
-ghost use Rattle.xliff.specs.Desk.{lent, asked, request-among};
-ghost use Rattle.requests.specs.Requests.{runs, asked-meaning, SizeIn};
+ghost use mathlib.Core.Bool.{cond};
+ghost use mathlib.Core.Option.{none};
+ghost use Prim.Native.Nat.{_+_, _<_, _≤_};
+ghost use lib.ListN.{length, getD, take, drop};
+ghost use Rattle.xliff.specs.Bytes.{two-at, enough};
+ghost use Rattle.xliff.specs.Calls.{SP, JN, ST, RT, RW};
+ghost use Rattle.xliff.specs.Desk.{lent, asked, request};
+ghost use Rattle.requests.specs.Requests.{request-size, Asks};
 
+// The numbers and letters of a request. Set target has the length of its content, which stands behind its first seven bytes.
 pub enum Request {
     Split(u16, u16, u16, u16),
     Join(u16),
+    SetTarget(u16, u8, u16),
     RemoveTarget(u16),
     Rewrite(u8, u16, u8),
 }
 
-// A request and its size; or a mark that is unknown, or a request that is cut short.
+// A mark that is unknown, or a request that is cut short, is unreadable.
 pub enum Asked {
-    Readable(Request, usize),
+    Readable(Request),
     Unreadable,
+}
+
+// The number of bytes of a request.
+pub fn size_of(r: Request) -> usize
+    ensures { λ n. ⌜ n ≡ request-size r ⌝ }
+{
+    match r {
+        Request::Split(_, _, _, _) => 10,
+        Request::Join(_) => 4,
+        Request::SetTarget(_, _, n) => 7 + wide(n),
+        Request::RemoveTarget(_) => 4,
+        Request::Rewrite(_, _, _) => 6,
+    }
+}
+
+fn wide(n: u16) -> usize
+    ensures { λ r. ⌜ (r ≡ n) × (r < 65536) ⌝ }
+{
+    n as usize
 }
 
 // SP part, cut, cut, id
 fn split_of(s: &[u8]) -> Asked
-    ensures { λ r. ⌜ (asked-meaning r ≡ asked (now (s .entry)) 10 (SP (two-at (now (s .entry)) 2) (two-at (now (s .entry)) 4) (two-at (now (s .entry)) 6) (two-at (now (s .entry)) 8) lent)) × SizeIn (now (s .entry)) r ⌝ }
+    ensures { λ r. ⌜ Asks (now (s .entry)) r (asked (now (s .entry)) 10 (SP (two-at (now (s .entry)) 2) (two-at (now (s .entry)) 4) (two-at (now (s .entry)) 6) (two-at (now (s .entry)) 8) lent)) ⌝ }
 {
     if s.len() < 10 {
         return Asked::Unreadable;
@@ -31,42 +54,56 @@ fn split_of(s: &[u8]) -> Asked
     let source = table::number_at(s, 4);
     let target = table::number_at(s, 6);
     let id = table::number_at(s, 8);
-    Asked::Readable(Request::Split(part, source, target, id), 10)
+    Asked::Readable(Request::Split(part, source, target, id))
 }
 
 // JN part
 fn join_of(s: &[u8]) -> Asked
-    ensures { λ r. ⌜ (asked-meaning r ≡ asked (now (s .entry)) 4 (JN (two-at (now (s .entry)) 2) lent)) × SizeIn (now (s .entry)) r ⌝ }
+    ensures { λ r. ⌜ Asks (now (s .entry)) r (asked (now (s .entry)) 4 (JN (two-at (now (s .entry)) 2) lent)) ⌝ }
 {
     if s.len() < 4 {
         return Asked::Unreadable;
     }
-    Asked::Readable(Request::Join(table::number_at(s, 2)), 4)
+    Asked::Readable(Request::Join(table::number_at(s, 2)))
+}
+
+// ST part, state, length, content
+fn set_of(s: &[u8]) -> Asked
+    ensures { λ r. ⌜ Asks (now (s .entry)) r (cond (enough 7 (now (s .entry))) (asked (now (s .entry)) (7 + two-at (now (s .entry)) 5) (ST (two-at (now (s .entry)) 2) (getD (now (s .entry)) 4 0) (take (two-at (now (s .entry)) 5) (drop 7 (now (s .entry)))) lent)) none) ⌝ }
+{
+    if s.len() < 7 {
+        return Asked::Unreadable;
+    }
+    let n = table::number_at(s, 5);
+    if s.len() < 7 + wide(n) {
+        return Asked::Unreadable;
+    }
+    Asked::Readable(Request::SetTarget(table::number_at(s, 2), s[4], n))
 }
 
 // RT part
 fn remove_of(s: &[u8]) -> Asked
-    ensures { λ r. ⌜ (asked-meaning r ≡ asked (now (s .entry)) 4 (RT (two-at (now (s .entry)) 2) lent)) × SizeIn (now (s .entry)) r ⌝ }
+    ensures { λ r. ⌜ Asks (now (s .entry)) r (asked (now (s .entry)) 4 (RT (two-at (now (s .entry)) 2) lent)) ⌝ }
 {
     if s.len() < 4 {
         return Asked::Unreadable;
     }
-    Asked::Readable(Request::RemoveTarget(table::number_at(s, 2)), 4)
+    Asked::Readable(Request::RemoveTarget(table::number_at(s, 2)))
 }
 
 // RW side, id, form
 fn rewrite_of(s: &[u8]) -> Asked
-    ensures { λ r. ⌜ (asked-meaning r ≡ asked (now (s .entry)) 6 (RW (getD (now (s .entry)) 2 0) (two-at (now (s .entry)) 3) (getD (now (s .entry)) 5 0) lent)) × SizeIn (now (s .entry)) r ⌝ }
+    ensures { λ r. ⌜ Asks (now (s .entry)) r (asked (now (s .entry)) 6 (RW (getD (now (s .entry)) 2 0) (two-at (now (s .entry)) 3) (getD (now (s .entry)) 5 0) lent)) ⌝ }
 {
     if s.len() < 6 {
         return Asked::Unreadable;
     }
-    Asked::Readable(Request::Rewrite(s[2], table::number_at(s, 3), s[5]), 6)
+    Asked::Readable(Request::Rewrite(s[2], table::number_at(s, 3), s[5]))
 }
 
 // The request at the head of `s`.
 pub fn request_of(s: &[u8]) -> Asked
-    ensures { λ r. ⌜ (asked-meaning r ≡ request-among runs (now (s .entry))) × SizeIn (now (s .entry)) r ⌝ }
+    ensures { λ r. ⌜ Asks (now (s .entry)) r (request (now (s .entry))) ⌝ }
 {
     if s.len() < 2 {
         return Asked::Unreadable;
@@ -78,7 +115,7 @@ pub fn request_of(s: &[u8]) -> Asked
         return join_of(s);
     }
     if table::marked_by(s, b"ST") {
-        return Asked::Unreadable;
+        return set_of(s);
     }
     if table::marked_by(s, b"RT") {
         return remove_of(s);

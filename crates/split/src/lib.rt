@@ -94,16 +94,23 @@ fn wide(x: u16) -> usize
 }
 
 // Accepted: the output's first bytes are the split table, the rest is unchanged. Refused: the whole output is unchanged.
-pub fn split(table: &[u8], part: u16, cut: u16, tcut: u16, id: u16, out: &mut [u8]) -> Answer
-    ensures { λ r. ⌜ Answers (split (now (table .entry)) part cut tcut id (length (now (out .entry)))) r (now (out .entry)) (now (out .exit)) ⌝ }
+pub fn split(
+    table: &[u8],
+    part: u16,
+    source_cut: u16,
+    target_cut: u16,
+    new_id: u16,
+    out: &mut [u8],
+) -> Answer
+    ensures { λ r. ⌜ Answers (split (now (table .entry)) part «source_cut» «target_cut» «new_id» (length (now (out .entry)))) r (now (out .entry)) (now (out .exit)) ⌝ }
 {
     split_checked(
         table,
         table_check::check(table),
         wide(part),
-        wide(cut),
-        wide(tcut),
-        id,
+        wide(source_cut),
+        wide(target_cut),
+        new_id,
         out,
     )
 }
