@@ -1,17 +1,15 @@
 -- The code at the head of a good record is the item's, and it has twelve bytes.
-use Prim.Native.Nat.{ℕ, _<_, _≤_}
-use mathlib.Core.Path.{_≡_, refl, sym, ap, _∙_}
-use mathlib.Core.List.{List, [], _++_}
+use Prim.Native.Nat.{ℕ, _≤_}
+use mathlib.Core.Path.{_≡_, refl, ap}
+use mathlib.Core.List.{List, _++_}
 use native.Mathlib.Omega.{arith}
-use lib.ListN.{length, drop, length-append}
+use lib.ListN.{length, length-append}
 use Rattle.xliff.specs.Bytes.{two, four}
 use Rattle.xliff.specs.Item.{Item, start, end, form-P, form-S, text, character, standalone, isolated, pair, annotation-start, annotation-end, mark}
 use Rattle.xliff.specs.Encode.{Record, text-run, inline, code-bytes, field-bytes, record-bytes}
 use Rattle.xliff.proofs.records.Read.{GoodItem}
 use Rattle.walk.specs.Kept.{Inline, an-item, a-text}
-use Rattle.walk.specs.Marks.{widthAt}
 use Rattle.walk.specs.Place.{Begins}
-use Rattle.walk.proofs.WalkLaws.{Next}
 use Rattle.codes.specs.Codes.{codeAt, code}
 
 module _ (s : List ℕ) where

@@ -19,8 +19,8 @@ use Rattle.walk.proofs.WalkLaws.{Next}
 use Rattle.walk.specs.Place.{Begins}
 use Rattle.codes.specs.Codes.{codeAt, code}
 use Rattle.codes.proofs.CodeLaws.{begins-code}
-use Rattle.kept_codes.specs.Lost.{firmAt, fieldsAt, sameAt, is-code-at, lostAt}
-use Rattle.kept_codes.proofs.SameLaws.{item-firm, text-firm, item-same, text-same, code-same}
+use Rattle.kept_codes.specs.Lost.{nonRemovableAt, fieldsAt, sameAt, is-code-at, lostAt}
+use Rattle.kept_codes.proofs.SameLaws.{item-non-removable, text-non-removable, item-same, text-same, code-same}
 
 -- A test p of items that no text passes, and a test q of bytes that is p at each good record
 module _ (p : Item → Bool) (q : List ℕ → Bool) (no-text : (c : ℕ) → p (text c) ≡ false)
@@ -77,26 +77,26 @@ not-lost ys c = refl
 
 text-lost : (ys : Content) (cs s : List ℕ) → lostAt ys (record-bytes (text-run cs) ++ s) ≡ false
 unfolding lostAt
-text-lost ys cs s = rw (text-firm s cs)
+text-lost ys cs s = rw (text-non-removable s cs)
 
-firm-code : (x : Item) → non-removable x ≡ true → 1 ≤ code x
+non-removable-code : (x : Item) → non-removable x ≡ true → 1 ≤ code x
 unfolding non-removable class among
-firm-code (text c) e = absurd (true≢false (sym e))
-firm-code (character c) e = absurd (true≢false (sym e))
-firm-code (standalone f) e = omega arith
-firm-code (isolated start f) e = omega arith
-firm-code (isolated end f) e = omega arith
-firm-code (pair start w f) e = omega arith
-firm-code (pair end w f) e = omega arith
-firm-code (annotation-start w i t) e = absurd (true≢false (sym e))
-firm-code (annotation-end w i) e = absurd (true≢false (sym e))
+non-removable-code (text c) e = absurd (true≢false (sym e))
+non-removable-code (character c) e = absurd (true≢false (sym e))
+non-removable-code (standalone f) e = omega arith
+non-removable-code (isolated start f) e = omega arith
+non-removable-code (isolated end f) e = omega arith
+non-removable-code (pair start w f) e = omega arith
+non-removable-code (pair end w f) e = omega arith
+non-removable-code (annotation-start w i t) e = absurd (true≢false (sym e))
+non-removable-code (annotation-end w i) e = absurd (true≢false (sym e))
 
 item-lost : (ys : Content) (x : Item) (s : List ℕ) → GoodItem x → lostAt ys (record-bytes (inline x) ++ s) ≡ is-lost ys x
 unfolding lostAt is-lost
-item-lost ys x s g = rw (item-firm s x g) (by (non-removable x) refl)
+item-lost ys x s g = rw (item-non-removable s x g) (by (non-removable x) refl)
   where
     by : (b : Bool) → non-removable x ≡ b → b && not (any (is-code-at (record-bytes (inline x) ++ s)) ys) ≡ b && not (any (same-flat x) ys)
-    by true e = ap not (any-same (is-code-at (record-bytes (inline x) ++ s)) (same-flat x) (code-same s x g (firm-code x e)) ys)
+    by true e = ap not (any-same (is-code-at (record-bytes (inline x) ++ s)) (same-flat x) (code-same s x g (non-removable-code x e)) ys)
     by false e = refl
 
 pub lost-on : (ys : Content) (c : List ℕ) (at : ℕ) (rs : List Record) (n : Next c at rs) → lostAt ys (drop at c) ≡ false
@@ -146,10 +146,10 @@ module _ (t u : List ℕ) (j k : ℕ) (e : j ≡ codeAt t) (f : k ≡ codeAt u) 
       (begins-code t a (omega arith), begins-code u b (omega arith))
 
 -- the ways through is_lost_code
-pub lost-none : (ys : Content) (t : List ℕ) → firmAt t ≡ false → lostAt ys t ≡ false
+pub lost-none : (ys : Content) (t : List ℕ) → nonRemovableAt t ≡ false → lostAt ys t ≡ false
 unfolding lostAt
 lost-none ys t e = rw e
 
-pub lost-some : (ys : Content) (t : List ℕ) (r : Bool) → firmAt t ≡ true → r ≡ any (is-code-at t) ys → not r ≡ lostAt ys t
+pub lost-some : (ys : Content) (t : List ℕ) (r : Bool) → nonRemovableAt t ≡ true → r ≡ any (is-code-at t) ys → not r ≡ lostAt ys t
 unfolding lostAt
 lost-some ys t r e f = rw (e, f)

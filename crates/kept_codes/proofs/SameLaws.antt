@@ -1,8 +1,8 @@
 -- Two codes are the same when flattened where their numbers and the bytes of their fields are equal.
-use Prim.Native.Nat.{ℕ, _<_, _≤_, _/_, _%_}
+use Prim.Native.Nat.{ℕ, _≤_, _/_, _%_}
 use mathlib.Core.Path.{_≡_, refl, sym, ap, _∙_}
 use mathlib.Core.Bool.{Bool, true, false, not, _&&_, true≢false}
-use mathlib.Core.List.{List, [], _∷_, _++_}
+use mathlib.Core.List.{List, _++_}
 use native.Mathlib.Omega.{arith}
 use lib.Dec.{eqb}
 use borrow.Author.Tests.{eqb-true, eq-eqb}
@@ -10,11 +10,11 @@ use Rattle.xliff.specs.Bytes.{two, four, equal, among}
 use Rattle.xliff.specs.Item.{Item, Fields, start, end, form-P, form-S, text, character, standalone, isolated, pair, annotation-start, annotation-end, mark, numbers, code-numbers, same, in-form, flat, class, fields, non-removable}
 use Rattle.xliff.specs.Encode.{inline, code-bytes, field-bytes, record-bytes, text-run}
 use Rattle.xliff.specs.SetTarget.{same-flat}
-use Rattle.xliff.proofs.lists.Tests.{gets, two-value, and-left, and-right}
+use Rattle.xliff.proofs.lists.Tests.{gets, two-value}
 use Rattle.xliff.proofs.records.Read.{GoodItem}
 use Rattle.codes.specs.Codes.{codeAt, code}
-use Rattle.codes.proofs.CodeLaws.{item-code, text-code}
-use Rattle.kept_codes.specs.Lost.{firmAt, fieldsAt, sameAt, is-code-at}
+use Rattle.codes.proofs.CodeLaws.{item-code}
+use Rattle.kept_codes.specs.Lost.{nonRemovableAt, fieldsAt, sameAt, is-code-at}
 
 -- numbers are equal where their two bytes are
 two-same : (a b : ℕ) (r : Bool) → eqb (a / 256) (b / 256) && (eqb (a % 256) (b % 256) && r) ≡ eqb a b && r
@@ -107,25 +107,25 @@ module _ (s : List ℕ) where
   item-fields (annotation-start w i t) h = absurd (let z : ⊥ = omega arith in z)
   item-fields (annotation-end w i) h = absurd (let z : ⊥ = omega arith in z)
 
-  pub item-firm : (x : Item) → GoodItem x → firmAt (record-bytes (inline x) ++ s) ≡ non-removable x
-  unfolding firmAt codeAt record-bytes mark field-bytes code-bytes two four non-removable class fields among
-  item-firm (text c) g = absurd g
-  item-firm (character c) g = refl
-  item-firm (standalone f) g = refl
-  item-firm (isolated start f) g = refl
-  item-firm (isolated end f) g = refl
-  item-firm (pair start form-P f) g = refl
-  item-firm (pair start form-S f) g = refl
-  item-firm (pair end form-P f) g = refl
-  item-firm (pair end form-S f) g = refl
-  item-firm (annotation-start form-P i t) g = refl
-  item-firm (annotation-start form-S i t) g = refl
-  item-firm (annotation-end form-P i) g = refl
-  item-firm (annotation-end form-S i) g = refl
+  pub item-non-removable : (x : Item) → GoodItem x → nonRemovableAt (record-bytes (inline x) ++ s) ≡ non-removable x
+  unfolding nonRemovableAt codeAt record-bytes mark field-bytes code-bytes two four non-removable class fields among
+  item-non-removable (text c) g = absurd g
+  item-non-removable (character c) g = refl
+  item-non-removable (standalone f) g = refl
+  item-non-removable (isolated start f) g = refl
+  item-non-removable (isolated end f) g = refl
+  item-non-removable (pair start form-P f) g = refl
+  item-non-removable (pair start form-S f) g = refl
+  item-non-removable (pair end form-P f) g = refl
+  item-non-removable (pair end form-S f) g = refl
+  item-non-removable (annotation-start form-P i t) g = refl
+  item-non-removable (annotation-start form-S i t) g = refl
+  item-non-removable (annotation-end form-P i) g = refl
+  item-non-removable (annotation-end form-S i) g = refl
 
-  pub text-firm : (cs : List ℕ) → firmAt (record-bytes (text-run cs) ++ s) ≡ false
-  unfolding firmAt codeAt record-bytes two
-  text-firm cs = refl
+  pub text-non-removable : (cs : List ℕ) → nonRemovableAt (record-bytes (text-run cs) ++ s) ≡ false
+  unfolding nonRemovableAt codeAt record-bytes two
+  text-non-removable cs = refl
 
   pub item-same : (t : List ℕ) (y : Item) → GoodItem y → sameAt t (record-bytes (inline y) ++ s) ≡ is-code-at t y
   unfolding sameAt is-code-at fieldsAt gets codeAt record-bytes mark field-bytes code-bytes two four fields

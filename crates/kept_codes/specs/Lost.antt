@@ -15,8 +15,8 @@ use Rattle.walk.specs.Kept.{Of, items, Holds}
 use Rattle.codes.specs.Codes.{codeAt, code}
 
 -- the code at the head of t is non-removable
-unfoldable pub firmAt : List ℕ → Bool
-firmAt t = not (eqb (codeAt t) 0) && eqb (getD t 9 0) 'N'
+unfoldable pub nonRemovableAt : List ℕ → Bool
+nonRemovableAt t = not (eqb (codeAt t) 0) && eqb (getD t 9 0) 'N'
 
 -- the ten bytes of a code's fields
 unfoldable pub fieldsAt : List ℕ → List ℕ
@@ -31,7 +31,7 @@ unfoldable pub is-code-at : List ℕ → Item → Bool
 is-code-at t y = not (eqb (code y) 0) && (eqb (codeAt t) (code y) && equal (fieldsAt t) (code-bytes (fields y)))
 
 unfoldable pub lostAt : Content → List ℕ → Bool
-lostAt ys t = firmAt t && not (any (is-code-at t) ys)
+lostAt ys t = nonRemovableAt t && not (any (is-code-at t) ys)
 
 -- the answers r for bytes d, whatever records they are of
 abbrev pub HasCode : List ℕ → List ℕ → Bool → Type 0

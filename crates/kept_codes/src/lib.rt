@@ -1,18 +1,17 @@
 // Set target, 18: whether a new content has lost a non-removable code of the old one.
 ghost use mathlib.Core.Path.{_≡_};
-ghost use mathlib.Core.Bool.{true, false};
-ghost use Prim.Native.Nat.{_+_, _-_, _<_, _≤_};
+ghost use Prim.Native.Nat.{_≤_};
 ghost use lib.ListN.{length};
 ghost use Rattle.xliff.specs.Bytes.{equal};
 ghost use Rattle.walk.specs.Kept.{Fair};
 ghost use Rattle.walk.specs.Place.{Begins};
 ghost use Rattle.codes.specs.Codes.{BothContents};
-ghost use Rattle.kept_codes.specs.Lost.{firmAt, fieldsAt, sameAt, HasCode, CodeLost, AnyLost};
+ghost use Rattle.kept_codes.specs.Lost.{nonRemovableAt, fieldsAt, sameAt, HasCode, CodeLost, AnyLost};
 
 // Whether the record at the head of `t` is a code with canDelete N.
 fn is_non_removable(t: &[u8]) -> bool
     requires { ⌜ Begins (now t) ⌝ }
-    ensures { λ r. ⌜ r ≡ firmAt (now (t .entry)) ⌝ }
+    ensures { λ r. ⌜ r ≡ nonRemovableAt (now (t .entry)) ⌝ }
 {
     if codes::code_of(t) == 0 {
         return false;

@@ -4,14 +4,13 @@ use Rattle.walk.proofs.WalkLaws.{tail-is, rest-start}
 use Rattle.walk.specs.Kept.{Holds}
 use Rattle.xliff.proofs.lists.Tests.{not-true, not-false}
 use Rattle.xliff.specs.SetTarget.{fixed-list}
-use Rattle.xliff.specs.Encode.{Record, content-records}
+use Rattle.xliff.specs.Encode.{content-records}
 use Rattle.xliff.specs.Item.{Content}
 use Rattle.xliff.specs.Bytes.{equal}
-use lib.ListN.{length, drop}
+use lib.ListN.{length}
 use Prim.Native.Nat.{_≤_, _-_}
-use mathlib.Core.List.{List}
 use mathlib.Core.Bool.{not}
-use mathlib.Core.Path.{_≡_, sym, ap, ap₂, _∙_}
+use mathlib.Core.Path.{sym, ap, ap₂, _∙_}
 use native.Mathlib.Omega.{arith}
 use borrow.Author.Needs.{needs}
 use Rattle.fixed_codes.proofs.differs.Statement.{statement}

@@ -1,9 +1,7 @@
 use Rattle.kept_codes.proofs.LostLaws.{lost-none, lost-some}
 use Rattle.xliff.proofs.lists.Tests.{not-true, not-false}
 use Rattle.walk.specs.Kept.{items}
-use Rattle.xliff.specs.Encode.{Record}
 use mathlib.Core.Path.{sym, _∙_}
-use borrow.Author.Needs.{needs}
 use Rattle.kept_codes.proofs.is_lost_code.Statement.{statement}
 use Rattle.kept_codes.proofs.is_lost_code.Tie as tie
 

@@ -1,4 +1,4 @@
-use Rattle.kept_codes.specs.Lost.{firmAt}
+use Rattle.kept_codes.specs.Lost.{nonRemovableAt}
 use Rattle.codes.proofs.CodeLaws.{begins-code}
 use Rattle.codes.specs.Codes.{codeAt}
 use Rattle.walk.proofs.PlaceLaws.{begins-least}
@@ -9,7 +9,7 @@ use Rattle.kept_codes.proofs.is_non_removable.Statement.{statement}
 use Rattle.kept_codes.proofs.is_non_removable.Tie as tie
 
 pub is-non-removable-spec : {M : Type 1} → statement M
-unfolding firmAt
+unfolding nonRemovableAt
 is-non-removable-spec =
     tie.close
     (tie.spec

@@ -1,11 +1,9 @@
 use Rattle.kept_codes.proofs.LostLaws.{same-other, same-kind, same-long}
 use Rattle.kept_codes.specs.Lost.{sameAt}
-use Rattle.codes.proofs.CodeLaws.{begins-code}
 use Rattle.codes.specs.Codes.{codeAt}
 use Rattle.walk.proofs.PlaceLaws.{begins-least}
 use mathlib.Core.Path.{sym, _∙_}
-use borrow.Author.Tests.{eq-eqb, ne-eqb}
-use native.Mathlib.Omega.{arith}
+use borrow.Author.Tests.{eq-eqb}
 use Rattle.kept_codes.proofs.same_code.Statement.{statement}
 use Rattle.kept_codes.proofs.same_code.Tie as tie
 

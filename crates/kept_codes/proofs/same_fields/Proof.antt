@@ -4,7 +4,6 @@ use Rattle.kept_codes.specs.Lost.{fieldsAt}
 use Rattle.xliff.specs.Bytes.{equal}
 use Prim.Native.Nat.{_≤_, _-_}
 use mathlib.Core.Path.{_≡_, sym, _∙_}
-use borrow.Author.Tests.{eq-eqb, ne-eqb}
 use native.Mathlib.Omega.{arith}
 use borrow.Author.Needs.{needs}
 use Rattle.kept_codes.proofs.same_fields.Statement.{statement}
