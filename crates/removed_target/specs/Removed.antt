@@ -1,0 +1,39 @@
+-- A table with the target of one part removed, in pieces as it is written.
+use Prim.Native.Nat.{ℕ}
+use mathlib.Core.Path.{_≡_}
+use mathlib.Core.List.{List, _++_}
+use lib.ListN.{length}
+use Rattle.xliff.specs.Unit.{Head, Part, XliffUnit}
+use Rattle.xliff.specs.Encode.{head-bytes, content-bytes, encode}
+use Rattle.xliff.specs.Parse.{unit}
+use Rattle.xliff.specs.Focus.{here, with-parts}
+use Rattle.xliff.specs.SetTarget.{with-state}
+use Rattle.xliff.specs.RemoveTarget.{remove-focus}
+use Rattle.writer.specs.Pieces.{lead}
+use Rattle.part_offsets.proofs.OffsetLaws.{bytes-of}
+use Rattle.part_offsets.proofs.TableLaws.{opened}
+use Rattle.part_at.specs.declared.PartPlace.{PartPlace}
+use Rattle.part_at.specs.Stands.{PartStands}
+
+-- these bytes, n of them, are at the head of the output
+abbrev pub Written : List ℕ → List ℕ → ℕ → List ℕ → Type 0
+Written bytes out n last = (n ≡ length bytes) × (last ≡ lead bytes out)
+
+-- the head whose bytes were given, with the state st
+abbrev pub WroteHead : ℕ → List ℕ → List ℕ → ℕ → List ℕ → Type 0
+WroteHead st head out n last = (h : Head) → head-bytes h ≡ head → Written (head-bytes (with-state st h)) out n last
+
+-- the table up to the end of the source of the part p behind the parts b, the state of p being st
+abbrev pub to-source : ℕ → XliffUnit → List Part → Part → List ℕ
+to-source st u b p = ((opened u ++ bytes-of b) ++ head-bytes (with-state st (p .head))) ++ content-bytes (p .source)
+
+abbrev pub WroteToSource : ℕ → List ℕ → PartPlace → List ℕ → ℕ → List ℕ → Type 0
+WroteToSource st t place out n last =
+    (b : List Part) (p : Part) (a : List Part) → PartStands t b p a place → Written (to-source st (unit t) b p) out n last
+
+-- the unit without the target of p
+unfoldable pub removed-unit : XliffUnit → List Part → Part → List Part → XliffUnit
+removed-unit u b p a = with-parts u (remove-focus (u .parts) (here b p a))
+
+abbrev pub Wrote : List ℕ → PartPlace → List ℕ → ℕ → List ℕ → Type 0
+Wrote t place out n last = (b : List Part) (p : Part) (a : List Part) → PartStands t b p a place → Written (encode (removed-unit (unit t) b p a)) out n last

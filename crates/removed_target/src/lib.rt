@@ -1,0 +1,45 @@
+// The table that a removal of a target results in.
+use part_at::PartPlace;
+ghost use Prim.Native.Nat.{_≤_};
+ghost use lib.ListN.{length};
+ghost use Rattle.part_at.specs.Stands.{Standing};
+ghost use Rattle.removed_target.specs.Removed.{WroteHead, WroteToSource, Wrote};
+
+// The head of a part with this state. An ignorable's head has no state: it stays.
+pub fn put_head_with_state(out: &mut [u8], head: &[u8], state: u8) -> usize
+    requires { ⌜ length (now head) ≤ length (now out) ⌝ }
+    ensures { λ r. ⌜ WroteHead state (now (head .entry)) (now (out .entry)) r (now (out .exit)) ⌝ }
+{
+    let n = writer::put(out, head);
+    if n < 6 {
+        return n;
+    }
+    let e = writer::put_byte(out, 5, state);
+    n
+}
+
+// The table up to the end of a part's source, the state of that part as given.
+pub fn put_to_source(out: &mut [u8], t: &[u8], place: PartPlace, state: u8) -> usize
+    requires { ⌜ Standing (now t) place × (place .target ≤ length (now out)) ⌝ }
+    ensures { λ r. ⌜ WroteToSource state (now (t .entry)) place (now (out .entry)) r (now (out .exit)) ⌝ }
+{
+    let h = place.head;
+    let s = place.source;
+    let g = place.target;
+    let n = writer::put(out, &t[..h]);
+    let m = put_head_with_state(&mut out[n..], &t[h..s], state);
+    let k = n + m;
+    let i = writer::put(&mut out[k..], &t[s..g]);
+    k + i
+}
+
+// The table without the target of the part at `place`; a segment's state becomes I.
+pub fn put_removed(out: &mut [u8], t: &[u8], place: PartPlace) -> usize
+    requires { ⌜ Standing (now t) place × (length (now t) ≤ length (now out)) ⌝ }
+    ensures { λ r. ⌜ Wrote (now (t .entry)) place (now (out .entry)) r (now (out .exit)) ⌝ }
+{
+    let e = place.end;
+    let n = put_to_source(out, t, place, b'I');
+    let m = writer::put(&mut out[n..], &t[e..]);
+    n + m
+}
