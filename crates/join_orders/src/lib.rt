@@ -20,7 +20,7 @@ fn sets_order(o: Order, q: u16) -> bool
 }
 
 // Whether a target has the order `q`.
-fn is_order(t: &[u8], q: u16) -> bool
+pub fn is_order(t: &[u8], q: u16) -> bool
     requires { ⌜ Passes (now t) ⌝ }
     ensures { λ r. ⌜ r ≡ among q (orders (unit (now (t .entry)) .parts)) ⌝ }
 {

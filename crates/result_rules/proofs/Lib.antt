@@ -1,2 +1,4 @@
 pub mod BrokenLaws
 pub mod GoodLaws
+pub mod NumberLaws
+pub mod WorkLaws

@@ -4,6 +4,8 @@ use mathlib.Core.Bool.{Bool, true, false, cond}
 use mathlib.Core.Option.{Option, none}
 use lib.Dec.{eqb}
 use Rattle.xliff.specs.Answer.{Refusal, refusal}
+use Rattle.answers.specs.declared.Answer.{Answer}
+use Rattle.answers.specs.declared.Answer.the-variants.{Accepted, Refused}
 use Rattle.answers.specs.declared.Place.{Place}
 use Rattle.answers.specs.declared.Place.the-variants.{Nowhere, At}
 
@@ -15,3 +17,8 @@ is-place (At at) = true
 -- the refusal with the number of a broken rule, and place 0; none if the number is 0
 unfoldable pub broken : ℕ → Option Refusal
 broken n = cond (eqb n 0) none (refusal n 0)
+
+-- the number that an answer refuses with, 0 if it accepts
+abbrev pub number-of : Answer → ℕ
+number-of (Accepted n) = 0
+number-of (Refused n at) = n

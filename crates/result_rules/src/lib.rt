@@ -1,4 +1,5 @@
 // The rules on markers that the result of an operation may break.
+use answers::Answer;
 use answers::Place;
 ghost use mathlib.Core.Path.{_≡_};
 ghost use mathlib.Core.Bool.{cond};
@@ -7,10 +8,10 @@ ghost use Prim.Native.Nat.{_≤_};
 ghost use lib.ListN.{length};
 ghost use Rattle.xliff.specs.Answer.{_then_, is-fault, of-result};
 ghost use Rattle.xliff.specs.Parse.{unit};
-ghost use Rattle.xliff.specs.Rules.{fault-7, fault-9};
+ghost use Rattle.xliff.specs.Rules.{fault-7, fault-9, fault-6-to-10};
 ghost use Rattle.places.specs.Passes.{Passes};
 ghost use Rattle.table_check.specs.Markers.{Markers};
-ghost use Rattle.result_rules.specs.Broken.{is-place, broken};
+ghost use Rattle.result_rules.specs.Broken.{is-place, broken, number-of};
 
 fn is_at(p: Place) -> bool
     ensures { λ r. ⌜ r ≡ is-place p ⌝ }
@@ -75,4 +76,21 @@ pub fn rules_7_and_9(t: &[u8]) -> u8
     ensures { λ r. ⌜ broken r ≡ of-result (fault-7 (unit (now (t .entry)) .parts) then fault-9 (unit (now (t .entry)) .parts)) ⌝ }
 {
     first_broken(t, true)
+}
+
+fn number_of(a: Answer) -> u8
+    ensures { λ r. ⌜ r ≡ number-of a ⌝ }
+{
+    match a {
+        Answer::Accepted(_) => 0,
+        Answer::Refused(n, _) => n,
+    }
+}
+
+// The first of the rules 6 to 10 that a table which passes 1 to 4 breaks, 0 if it breaks none.
+pub fn rules_6_to_10(t: &[u8]) -> u8
+    requires { ⌜ Passes (now t) × (length (now t) ≤ 8192) ⌝ }
+    ensures { λ r. ⌜ broken r ≡ of-result (fault-6-to-10 (unit (now (t .entry)) .parts)) ⌝ }
+{
+    number_of(table_check::rules_6_to_10(t))
 }

@@ -143,6 +143,14 @@ fn from_6(t: &[u8], parts: usize, len: usize, six: Place) -> Answer
     }
 }
 
+// Rules 6 to 10 alone, on a table that passes 1 to 4. Accepted: with its length.
+pub fn rules_6_to_10(t: &[u8]) -> Answer
+    requires { ⌜ Passes (now t) × (length (now t) ≤ 8192) ⌝ }
+    ensures { λ r. ⌜ answer-meaning r ≡ answer (unless (fault-6-to-10 (unit (now (t .entry)) .parts)) (now (t .entry))) ⌝ }
+{
+    from_6(t, orders::count_parts(t), t.len(), ids::rule_6(t))
+}
+
 fn from_5(t: &[u8], parts: usize, len: usize, five: Place) -> Answer
     requires { ⌜ Passes (now t) × (length (now t) ≤ 8192) × (parts ≡ length (unit (now t) .parts)) × (len ≡ length (now t)) × (refusal-at 5 five ≡ fault-5 (unit (now t) .parts)) ⌝ }
     ensures { λ r. ⌜ answer-meaning r ≡ answer (unless (fault-5 (unit (now (t .entry)) .parts) then fault-6-to-10 (unit (now (t .entry)) .parts)) (now (t .entry))) ⌝ }

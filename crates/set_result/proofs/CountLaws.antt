@@ -1,0 +1,118 @@
+-- The number of records with a target set, and the test of 15.
+use Prim.Native.Nat.{ℕ, suc, _+_, _-_, _<_, _≤_}
+use mathlib.Core.Path.{_≡_, refl, sym, ap, _∙_}
+use mathlib.Core.Bool.{Bool, true, false, _||_, true≢false}
+use mathlib.Core.List.{List, [], _∷_, _++_}
+use native.Mathlib.Omega.{arith}
+use lib.ListN.{length, length-append}
+use lib.Dec.{ltb}
+use borrow.Author.Tests.{lt-ltb, le-ltb}
+use Rattle.xliff.specs.Bytes.{gather}
+use Rattle.xliff.specs.Item.{Content}
+use Rattle.xliff.specs.Unit.{Target, no-target, target, Part, XliffUnit, target-items}
+use Rattle.xliff.specs.Encode.{Record, closing, content-records, target-records, part-records, unit-records, content-bytes, encode}
+use Rattle.xliff.specs.Parse.{unit}
+use Rattle.xliff.specs.Check.{too-large}
+use Rattle.xliff.specs.Focus.{with-parts}
+use Rattle.xliff.proofs.lists.Tests.{gather-append}
+use Rattle.xliff.proofs.unit.Valid.{heads-unit}
+use Rattle.places.specs.Passes.{Passes}
+use Rattle.walk.specs.Kept.{Holds}
+use Rattle.part_at.specs.declared.PartPlace.{PartPlace}
+use Rattle.part_at.specs.Stands.{PartStands, TargetStands}
+use Rattle.set_result.specs.SetUnit.{set-part, unit-with, size-with}
+use Rattle.set_result.proofs.PieceLaws.{set-long}
+
+pub holds-bytes : (c : List ℕ) (xs : Content) → Holds c xs → content-bytes xs ≡ c
+unfolding content-bytes
+holds-bytes c xs o = o .1
+
+-- the records of the old target
+module _ (t : List ℕ) (place : PartPlace) where
+  pub old-there : (g : Target) → TargetStands t place g → place .«has_target» ≡ true → (n : ℕ) → n ≡ length (content-records (target-items g)) → 1 + n ≡ length (target-records g)
+  unfolding target-records target-items
+  old-there no-target s e n h = absurd (true≢false (sym e ∙ s .0))
+  old-there (target q xs) s e n h = omega (arith, h)
+
+  pub no-old : (g : Target) → TargetStands t place g → place .«has_target» ≡ false → 0 ≡ length (target-records g)
+  unfolding target-records
+  no-old no-target s e = refl
+  no-old (target q xs) s e = absurd (true≢false (sym (s .0) ∙ e))
+
+-- the records of parts
+abbrev count : List Part → ℕ
+count ps = length (gather part-records ps)
+
+count-at : (b : List Part) (p : Part) (a : List Part) → count (b ++ (p ∷ a)) ≡ count b + (length (part-records p) + count a)
+unfolding gather
+count-at b p a =
+    ap (λ (l : List Record). length l) (gather-append part-records b (p ∷ a)) ∙ length-append (gather part-records b) (gather part-records (p ∷ a))
+    ∙ ap (λ (n : ℕ). count b + n) (length-append (part-records p) (gather part-records a))
+
+part-count : (p : Part) → length (part-records p) ≡ 1 + length (content-records (p .source)) + length (target-records (p .target))
+unfolding part-records
+part-count p = omega (arith, length-append (content-records (p .source)) (target-records (p .target)))
+
+unit-count : (u : XliffUnit) → length (unit-records u) ≡ 2 + count (u .parts)
+unfolding unit-records
+unit-count u = omega (arith, length-append (gather part-records (u .parts)) (closing ∷ []))
+
+module _ (u : XliffUnit) (st q : ℕ) (xs : Content) (b : List Part) (p : Part) (a : List Part) (e : u .parts ≡ b ++ (p ∷ a)) where
+  pub old-within : length (target-records (p .target)) ≤ length (unit-records u)
+  old-within =
+      let z : count (u .parts) ≡ count (b ++ (p ∷ a)) = ap count e in
+      omega (arith, z, unit-count u, count-at b p a, part-count p)
+
+  pub new-records : length (unit-records u) + 1 + length (content-records xs) - length (target-records (p .target)) ≡ length (unit-records (unit-with u st q xs b p a))
+  unfolding unit-with with-parts target-records
+  new-records =
+      let z : count (u .parts) ≡ count (b ++ (p ∷ a)) = ap count e in
+      omega (
+        arith,
+        z,
+        unit-count (unit-with u st q xs b p a),
+        unit-count u,
+        count-at b (set-part st q xs p) a,
+        count-at b p a,
+        part-count (set-part st q xs p),
+        part-count p,
+      )
+
+  pub same-parts : length (unit-with u st q xs b p a .parts) ≡ length (u .parts)
+  unfolding unit-with with-parts
+  same-parts =
+      let z : length (u .parts) ≡ length (b ++ (p ∷ a)) = ap (λ (l : List Part). length l) e in
+      omega (arith, z, length-append b (set-part st q xs p ∷ a), length-append b (p ∷ a))
+
+or-false : (b : Bool) → b || false ≡ b
+or-false true = refl
+or-false false = refl
+
+or-true : (b c : Bool) → c ≡ true → b || c ≡ true
+or-true true c e = refl
+or-true false c e = e
+
+-- the test
+too-large-is : (room bytes records : ℕ) (v : XliffUnit) → bytes ≡ length (encode v) → records ≡ length (unit-records v) → length (v .parts) ≤ 64
+    → ltb room bytes || (ltb 8192 bytes || ltb 1024 records) ≡ too-large room v
+unfolding too-large
+too-large-is room bytes records v x y z = rw (x, y, le-ltb 64 (length (v .parts)) z, or-false (ltb 1024 (length (unit-records v))))
+
+long-is : (room : ℕ) (v : XliffUnit) → 8192 < length (encode v) → true ≡ too-large room v
+unfolding too-large
+long-is room v x = sym (or-true (ltb room (length (encode v))) _ (ap (λ (c : Bool). c || (ltb 1024 (length (unit-records v)) || ltb 64 (length (v .parts)))) (lt-ltb 8192 (length (encode v)) x)))
+
+module _ (t : List ℕ) (k : Passes t) (place : PartPlace) (b : List Part) (p : Part) (a : List Part) (s : PartStands t b p a place)
+    (c : List ℕ) (xs : Content) (is : content-bytes xs ≡ c) (st q room : ℕ) where
+  abbrev v : XliffUnit
+  v = unit-with (unit t) st q xs b p a
+
+  pub long-content : 8192 < length c → true ≡ too-large room v
+  long-content l = long-is room v (omega (arith, set-long t b p a place s st q xs c is))
+
+  pub counted : (all new old : ℕ) → all ≡ length (unit-records (unit t)) → new ≡ length (content-records xs) → old ≡ length (target-records (p .target))
+      → ltb room (size-with t place c) || (ltb 8192 (size-with t place c) || ltb 1024 (all + 1 + new - old)) ≡ too-large room v
+  counted all new old x y z =
+      too-large-is room (size-with t place c) (all + 1 + new - old) v (sym (set-long t b p a place s st q xs c is))
+      (rw (x, y, z) (new-records (unit t) st q xs b p a (s .all)))
+      (omega (arith, same-parts (unit t) st q xs b p a (s .all), k .few-parts, heads-unit (unit t)))

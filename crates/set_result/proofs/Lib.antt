@@ -1,0 +1,3 @@
+pub mod PieceLaws
+pub mod WriteLaws
+pub mod CountLaws

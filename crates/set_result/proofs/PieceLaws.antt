@@ -1,0 +1,79 @@
+-- The pieces of a table with one target set, and their lengths.
+use Prim.Native.Nat.{ℕ, _+_, _-_}
+use mathlib.Core.Path.{_≡_, refl, sym, ap, ap₂, _∙_}
+use mathlib.Core.List.{List, [], _∷_, _++_, append-assoc}
+use native.Mathlib.Omega.{arith}
+use lib.ListN.{length, drop, length-append, length-drop}
+use Rattle.xliff.specs.Bytes.{two, gather}
+use Rattle.xliff.specs.Item.{Content}
+use Rattle.xliff.specs.Unit.{target, Part, XliffUnit}
+use Rattle.xliff.specs.Encode.{target-head, record-bytes, head-bytes, content-bytes, target-records, part-records, spell, encode}
+use Rattle.xliff.specs.Parse.{unit}
+use Rattle.xliff.specs.Focus.{here, focus, with-parts}
+use Rattle.xliff.specs.SetTarget.{with-state, new-order, set-focus, set-unit}
+use Rattle.walk.proofs.PlaceLaws.{spell-append}
+use Rattle.halves_of_part.proofs.PartLaws.{part-bytes}
+use Rattle.part_offsets.proofs.OffsetLaws.{bytes-of, bytes-append}
+use Rattle.part_offsets.proofs.TableLaws.{opened, closed, table-pieces}
+use Rattle.part_at.specs.declared.PartPlace.{PartPlace}
+use Rattle.part_at.specs.Stands.{PartStands}
+use Rattle.removed_target.specs.Removed.{to-source}
+use Rattle.removed_target.proofs.RemovedLaws.{to-source-long}
+use Rattle.set_result.specs.SetUnit.{target-bytes, set-part, unit-with, size-with}
+
+target-is : (q : ℕ) (xs : Content) → spell (target-records (target q xs)) ≡ target-bytes q (content-bytes xs)
+unfolding spell gather target-records content-bytes
+target-is q xs = refl
+
+pub target-long : (q : ℕ) (s : List ℕ) → length (target-bytes q s) ≡ 4 + length s
+unfolding record-bytes two
+target-long q s = omega arith
+
+module _ (u : XliffUnit) (st q : ℕ) (xs : Content) (b : List Part) (p : Part) (a : List Part) where
+  abbrev w : List ℕ
+  w = (head-bytes (with-state st (p .head)) ++ content-bytes (p .source)) ++ target-bytes q (content-bytes xs)
+
+  parts-are : bytes-of (b ++ (set-part st q xs p ∷ a)) ≡ bytes-of b ++ (w ++ bytes-of a)
+  unfolding gather
+  parts-are =
+      bytes-append b (set-part st q xs p ∷ a)
+      ∙ ap (λ (l : List ℕ). bytes-of b ++ l)
+      (spell-append (part-records (set-part st q xs p)) (gather part-records a)
+      ∙ ap (λ (l : List ℕ). l ++ bytes-of a)
+      (part-bytes (set-part st q xs p) ∙ ap (λ (l : List ℕ). (head-bytes (with-state st (p .head)) ++ content-bytes (p .source)) ++ l) (target-is q xs)))
+
+  regroup : (x y h s g z c : List ℕ) → (x ++ (y ++ (((h ++ s) ++ g) ++ z))) ++ c ≡ ((((x ++ y) ++ h) ++ s) ++ g) ++ (z ++ c)
+  regroup x y h s g z c = simp append-assoc
+
+  pub set-pieces : encode (unit-with u st q xs b p a) ≡ (to-source st u b p ++ target-bytes q (content-bytes xs)) ++ (bytes-of a ++ closed)
+  unfolding unit-with with-parts
+  set-pieces =
+      table-pieces (unit-with u st q xs b p a)
+      ∙ ap (λ (l : List ℕ). (opened u ++ l) ++ closed) parts-are
+      ∙ regroup (opened u) (bytes-of b) (head-bytes (with-state st (p .head))) (content-bytes (p .source)) (target-bytes q (content-bytes xs)) (bytes-of a) closed
+
+module _ (t : List ℕ) (b : List Part) (p : Part) (a : List Part) (place : PartPlace) (s : PartStands t b p a place)
+    (st q : ℕ) (xs : Content) (c : List ℕ) (is : content-bytes xs ≡ c) where
+  pub set-is : (to-source st (unit t) b p ++ target-bytes q c) ++ drop (place .end) t ≡ encode (unit-with (unit t) st q xs b p a)
+  set-is =
+      ap₂ (λ (x y : List ℕ). (to-source st (unit t) b p ++ target-bytes q x) ++ y) (sym is) (s .behind) ∙ sym (set-pieces (unit t) st q xs b p a)
+
+  pub set-long : length (encode (unit-with (unit t) st q xs b p a)) ≡ size-with t place c
+  set-long =
+      let z = ap length (sym set-is) in
+      omega (
+        arith,
+        z,
+        length-append (to-source st (unit t) b p ++ target-bytes q c) (drop (place .end) t),
+        length-append (to-source st (unit t) b p) (target-bytes q c),
+        to-source-long t b p a place s st,
+        target-long q c,
+        length-drop (place .end) t,
+      )
+
+-- the result by the number of the part
+pub set-unit-is : (u : XliffUnit) (n st q : ℕ) (xs : Content) (b : List Part) (p : Part) (a : List Part) → focus (u .parts) n ≡ here b p a
+    → q ≡ new-order (u .parts) n (p .target) → set-unit u n st xs ≡ unit-with u st q xs b p a
+unfolding set-unit set-focus unit-with
+set-unit-is u n st q xs b p a e o =
+    ap (λ f. with-parts u (set-focus (u .parts) n st xs f)) e ∙ ap (λ (k : ℕ). with-parts u (b ++ (set-part st k xs p ∷ a))) (sym o)

@@ -1,0 +1,2 @@
+pub mod SetUnit
+pub mod Counts

@@ -1,0 +1,82 @@
+// The table that a setting of a target results in, and its limits.
+use part_at::PartPlace;
+ghost use mathlib.Core.Path.{_≡_};
+ghost use Prim.Native.Nat.{_+_, _-_, _<_, _≤_};
+ghost use lib.ListN.{length};
+ghost use Rattle.cut.specs.Halves.{Some};
+ghost use Rattle.removed_target.specs.Removed.{Written};
+ghost use Rattle.split_limits.specs.Cuts.{Checked};
+ghost use Rattle.set_result.specs.SetUnit.{target-bytes, Room, Wrote};
+ghost use Rattle.set_result.specs.Counts.{RecordsAre, OldRecordsAre, TooLargeIs};
+
+// TG with this order, then a content.
+fn put_target(out: &mut [u8], order: u16, content: &[u8]) -> usize
+    requires { ⌜ 4 + length (now content) ≤ length (now out) ⌝ }
+    ensures { λ r. ⌜ Written (target-bytes order (now (content .entry))) (now (out .entry)) r (now (out .exit)) ⌝ }
+{
+    let m = writer::put_mark(out, 0, b"TG");
+    let n = writer::put_number(out, m, order);
+    let k = writer::put(&mut out[n..], content);
+    n + k
+}
+
+// The table with this state of the part at `place`, and a target of this order and content.
+pub fn put_set(
+    out: &mut [u8],
+    t: &[u8],
+    place: PartPlace,
+    order: u16,
+    state: u8,
+    content: &[u8],
+) -> usize
+    requires { ⌜ Room (now t) place (now content) (now out) ⌝ }
+    ensures { λ r. ⌜ Wrote (now (t .entry)) place order state (now (content .entry)) (now (out .entry)) r (now (out .exit)) ⌝ }
+{
+    let e = place.end;
+    let n = removed_target::put_to_source(out, t, place, state);
+    let m = put_target(&mut out[n..], order, content);
+    let k = n + m;
+    let i = writer::put(&mut out[k..], &t[e..]);
+    k + i
+}
+
+// The number of records of a content.
+fn count_records(c: &[u8]) -> usize
+    requires { ⌜ Some (now c) ⌝ }
+    ensures { λ r. ⌜ (r ≤ length (now (c .entry))) × RecordsAre (now (c .entry)) r ⌝ }
+{
+    let mut at: usize = 0;
+    let mut n: usize = 0;
+    while at < c.len() {
+        at += walk::width_of(&c[at..]);
+        n += 1;
+    }
+    n
+}
+
+// The number of records of the part's target, TG among them.
+fn old_records(t: &[u8], place: PartPlace) -> usize
+    requires { ⌜ Checked (now t) place ⌝ }
+    ensures { λ r. ⌜ OldRecordsAre (now (t .entry)) place r ⌝ }
+{
+    if place.has_target {
+        let from = place.target + 4;
+        let to = place.end;
+        return 1 + count_records(&t[from..to]);
+    }
+    0
+}
+
+// 15: whether the table with this content as the part's target is longer than the output or beyond a limit.
+pub fn is_too_large(t: &[u8], place: PartPlace, content: &[u8], room: usize) -> bool
+    requires { ⌜ Checked (now t) place × Some (now content) ⌝ }
+    ensures { λ r. ⌜ TooLargeIs (now (t .entry)) place (now (content .entry)) room r ⌝ }
+{
+    if 8192 < content.len() {
+        return true;
+    }
+    let old = old_records(t, place);
+    let records = split_limits::count_records(t) + 1 + count_records(content) - old;
+    let bytes = place.target + 4 + content.len() + (t.len() - place.end);
+    (room < bytes) | ((8192 < bytes) | (1024 < records))
+}
