@@ -14,7 +14,7 @@ use Rattle.xliff.specs.Text.{utf8, utf8s, utf8-1, utf8-2, utf8-3, utf8-4}
 use Rattle.xliff.specs.Answer.{Refusal, refusal, unless, answer, accepted, refused}
 use Rattle.xliff.specs.Encode as encode
 use Rattle.xliff.specs.Encode.{text-run, inline, record-bytes}
-use Rattle.xliff.specs.Parse.{on, fault, read, Entry, is-broken, walk, bad-item, bad-text, inline-step, unit-step, part-step, outer-step, step, is-part, may-end, first-bad, entries, table-fault}
+use Rattle.xliff.specs.Parse.{on, fault, read, Entry, is-broken, walk, bad-item, bad-text, inline-step, unit-step, part-step, outer-step, step, is-part, may-end, first-bad, entries}
 use Rattle.xliff.proofs.records.Parse.{good-length}
 use Rattle.xliff.proofs.lists.Tests.{or-left}
 use Rattle.xliff.proofs.records.Read.{read-sound}
@@ -27,7 +27,7 @@ use Rattle.table.specs.declared.Record.{Record}
 use Rattle.table.specs.declared.Record.the-variants.{Unit as UnitStart, UnitEnd, Segment, Ignorable, Target, Text, Inline}
 use Rattle.table.specs.declared.Read.{Read}
 use Rattle.table.specs.declared.Read.the-variants.{Good, Ill, Broken}
-use Rattle.syntax.specs.Stages.{stage, step-meaning, badItem, stepIf, textNext, itemNext, recordStep, stepOf, isPart, moved, moveOf, mayEnd}
+use Rattle.syntax.specs.Stages.{stage, step-meaning, badItem, stepIf, textNext, itemNext, recordStep, stepOf, isPart, moved, moveOf, mayEnd, fault-from}
 use Rattle.syntax.specs.declared.Stage.{Stage}
 use Rattle.syntax.specs.declared.Stage.the-variants.{UnitDue, PartDue, InSource, InTarget, Complete, Alone}
 use Rattle.syntax.specs.declared.Step.{Step}
@@ -301,20 +301,21 @@ pub scan-end : (t : List ℕ) (s : State) (at : ℕ) → length t ≤ at → Res
 unfolding first-bad walk
 scan-end t s at h = rw (drop-of-length-le t h, end-same (s .stage))
 
-pub scan-start : (t : List ℕ) → table-fault t ≡ Rest t (record { stage = UnitDue; left = 1024; parts = 64 }) 0
-unfolding table-fault entries
-scan-start t = refl
+pub scan-start : (t : List ℕ) (st : Stage) → fault-from st t ≡ Rest t (record { stage = st; left = 1024; parts = 64 }) 0
+unfolding entries
+scan-start t st = refl
 
-pub ended-well : (t : List ℕ) (s : State) (at : ℕ) → length t ≤ at → at ≤ length t → mayEnd (s .stage) ≡ true → table-fault t ≡ Rest t s at
-    → accepted at ≡ answer (unless (table-fault t) t)
+-- at the end: the answer to a fault o that is judged by the rest
+pub ended-well : (o : Option Refusal) (t : List ℕ) (s : State) (at : ℕ) → length t ≤ at → at ≤ length t → mayEnd (s .stage) ≡ true → o ≡ Rest t s at
+    → accepted at ≡ answer (unless o t)
 unfolding answer unless
-ended-well t s at h k e i =
-    let f : table-fault t ≡ none = i ∙ scan-end t s at h ∙ ap (λ (b : Bool). cond b none (refusal 2 (length t))) e in
+ended-well o t s at h k e i =
+    let f : o ≡ none = i ∙ scan-end t s at h ∙ ap (λ (b : Bool). cond b none (refusal 2 (length t))) e in
     ap accepted (let z : at ≡ length t = omega arith in z) ∙ sym (ap (λ (o : Option Refusal). answer (unless o t)) f)
 
-pub ended-early : (t : List ℕ) (s : State) (at : ℕ) → length t ≤ at → at ≤ length t → mayEnd (s .stage) ≡ false → table-fault t ≡ Rest t s at
-    → refused 2 at ≡ answer (unless (table-fault t) t)
+pub ended-early : (o : Option Refusal) (t : List ℕ) (s : State) (at : ℕ) → length t ≤ at → at ≤ length t → mayEnd (s .stage) ≡ false → o ≡ Rest t s at
+    → refused 2 at ≡ answer (unless o t)
 unfolding answer unless
-ended-early t s at h k e i =
-    let f : table-fault t ≡ refusal 2 (length t) = i ∙ scan-end t s at h ∙ ap (λ (b : Bool). cond b none (refusal 2 (length t))) e in
+ended-early o t s at h k e i =
+    let f : o ≡ refusal 2 (length t) = i ∙ scan-end t s at h ∙ ap (λ (b : Bool). cond b none (refusal 2 (length t))) e in
     ap (refused 2) (let z : at ≡ length t = omega arith in z) ∙ sym (ap (λ (o : Option Refusal). answer (unless o t)) f)
