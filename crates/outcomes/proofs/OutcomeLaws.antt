@@ -24,22 +24,25 @@ number-of e = cc
 place-of : {a b c d : ℕ} → spec.refused a b ≡ spec.refused c d → b ≡ d
 place-of e = cc
 
+-- an answer that is unless a fault applies: there is none, or it is that one
+pub accepted-without : (o : Option Refusal) (s : List ℕ) (n : ℕ) → spec.accepted n ≡ answer (unless o s) → o ≡ none
+unfolding unless answer
+accepted-without none s n h = refl
+accepted-without (some r) s n h = clash h
+
+pub refused-with : (o : Option Refusal) (s : List ℕ) (n at : ℕ) → spec.refused n at ≡ answer (unless o s) → o ≡ refusal n at
+unfolding unless answer
+refused-with none s n at h = clash (sym h)
+refused-with (some r) s n at h = ap₂ (λ (a b : ℕ). refusal a b) (sym (number-of h)) (sym (place-of h))
+
 -- the check's answer is the table's refusal, or there is none
 pub accepted-none : (t : List ℕ) (n : ℕ) → spec.accepted n ≡ check t → table-refusal t ≡ none
-unfolding check unless answer
-accepted-none t n h = by (table-refusal t) refl h
-  where
-    by : (o : Option Refusal) → table-refusal t ≡ o → spec.accepted n ≡ answer (unless o t) → table-refusal t ≡ none
-    by none e g = e
-    by (some r) e g = clash g
+unfolding check
+accepted-none t n h = accepted-without (table-refusal t) t n h
 
 pub refused-some : (t : List ℕ) (n at : ℕ) → spec.refused n at ≡ check t → table-refusal t ≡ refusal n at
-unfolding check unless answer
-refused-some t n at h = by (table-refusal t) refl h
-  where
-    by : (o : Option Refusal) → table-refusal t ≡ o → spec.refused n at ≡ answer (unless o t) → table-refusal t ≡ refusal n at
-    by none e g = clash (sym g)
-    by (some r) e g = e ∙ ap₂ (λ (a b : ℕ). refusal a b) (sym (number-of g)) (sym (place-of g))
+unfolding check
+refused-some t n at h = refused-with (table-refusal t) t n at h
 
 -- an operation on a refused table, and on one that passes
 pub on-refused : (t : List ℕ) (n at : ℕ) (own : Option Refusal) (u : XliffUnit) → table-refusal t ≡ refusal n at → operation t own u ≡ refuse (record { number = n; place = at })

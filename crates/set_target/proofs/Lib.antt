@@ -1,0 +1,4 @@
+pub mod GoodLaws
+pub mod ChainLaws
+pub mod EndLaws
+pub mod OldLaws

@@ -1,0 +1,69 @@
+-- The old content of a part, and the states that fit it.
+use Prim.Native.Nat.{ℕ, _+_, _-_, _<_, _≤_}
+use mathlib.Core.Path.{_≡_, refl, sym, ap, _∙_}
+use mathlib.Core.Bool.{Bool, true, false, _||_, cond}
+use mathlib.Core.List.{List, [], _∷_}
+use mathlib.Core.Option.{none}
+use native.Mathlib.Omega.{arith}
+use lib.ListN.{length, getD, take, drop}
+use lib.Dec.{eqb}
+use mir.Val.{Fits}
+use mir.Syntax.{w8}
+use Rattle.xliff.specs.Bytes.{'-', 'F', 'I', 'R', 'T', two, among}
+use Rattle.xliff.specs.Item.{Content}
+use Rattle.xliff.specs.Unit.{Head, segment, ignorable, Target, no-target, target, Part}
+use Rattle.xliff.specs.Encode.{head-bytes, content-bytes}
+use Rattle.xliff.specs.Check.{table-refusal}
+use Rattle.xliff.specs.SetTarget.{state-fits, old-content}
+use Rattle.walk.specs.Kept.{Holds}
+use Rattle.parts.specs.Parts.{GoodTarget}
+use Rattle.part_at.specs.declared.PartPlace.{PartPlace}
+use Rattle.part_at.specs.Stands.{PartStands, TargetStands}
+use Rattle.split_limits.proofs.StandLaws.{source-of, source-holds, part-good}
+use Rattle.split_limits.proofs.SizeLaws.{small-table}
+use Rattle.removed_target.proofs.RemovedLaws.{in-order, head-long}
+use Rattle.set_target.specs.Stages.{old-from, old-to}
+
+pub record OldThere (t : List ℕ) (from to : ℕ) (xs : Content) : Type 0 where
+  pub ordered : from ≤ to
+  pub within : to ≤ length t
+  pub holds : Holds (take (to - from) (drop from t)) xs
+
+old-by : (t : List ℕ) (place : PartPlace) (b : List Part) (p : Part) (a : List Part) → PartStands t b p a place → Holds (source-of t place) (p .source)
+    → (g : Target) → TargetStands t place g → GoodTarget g → OldThere t (old-from place) (old-to place) (old-content (p .source) g)
+unfolding old-content content-bytes
+old-by t place b p a s o no-target (f, k, e) u = rw f (record { ordered = s .source .ordered; within = s .source .within; holds = o })
+old-by t place b p a s o (target q xs) (f, k, hs, ts) (l, m) = rw f (record { ordered = ts .ordered; within = ts .within; holds = (l, sym (ts .is)) })
+
+module _ (t : List ℕ) (h : (i : ℕ) → Fits w8 (getD t i 0)) (w : table-refusal t ≡ none) (place : PartPlace) (b : List Part) (p : Part) (a : List Part) (s : PartStands t b p a place) where
+  pub target-small : place .target ≤ 8192
+  target-small = let z = in-order t b p a place s in omega (arith, small-table t h w)
+
+  pub old-there : (from to : ℕ) → from ≡ old-from place → to ≡ old-to place → OldThere t from to (old-content (p .source) (p .target))
+  old-there from to x y = rw (x, y) (old-by t place b p a s (source-holds t place h w b p a s) (p .target) (s .target) (part-good t place h w b p a s .1))
+
+-- the state by the length of the head
+or-false : (b : Bool) → b || false ≡ b
+or-false true = refl
+or-false false = refl
+
+module _ (st : ℕ) where
+  short-fits : (h : Head) → length (head-bytes h) < 6 → eqb st '-' ≡ state-fits h st
+  unfolding head-bytes two state-fits
+  short-fits (segment i c s) l = absurd (let y : ⊥ = omega arith in y)
+  short-fits (ignorable i) l = refl
+
+  long-fits : (h : Head) → 6 ≤ length (head-bytes h) → eqb st 'I' || (eqb st 'T' || (eqb st 'R' || eqb st 'F')) ≡ state-fits h st
+  unfolding head-bytes two state-fits among
+  long-fits (segment i c s) l = ap (λ (d : Bool). eqb st 'I' || (eqb st 'T' || (eqb st 'R' || d))) (sym (or-false (eqb st 'F')))
+  long-fits (ignorable i) l = absurd (let y : ⊥ = omega arith in y)
+
+  module _ (t : List ℕ) (b : List Part) (p : Part) (a : List Part) (place : PartPlace) (s : PartStands t b p a place) where
+    size : length (head-bytes (p .head)) ≡ place .source - place .head
+    size = ap length (sym (s .head .is)) ∙ head-long t b p a place s
+
+    pub ignorable-fits : place .source - place .head < 6 → eqb st '-' ≡ state-fits (p .head) st
+    ignorable-fits l = short-fits (p .head) (omega (arith, size))
+
+    pub segment-fits : 6 ≤ place .source - place .head → eqb st 'I' || (eqb st 'T' || (eqb st 'R' || eqb st 'F')) ≡ state-fits (p .head) st
+    segment-fits l = long-fits (p .head) (omega (arith, size))
