@@ -1,5 +1,5 @@
 -- Demand 3 of the desk program, from that of every list of calls.
-use Prim.Native.Nat.{ℕ, zero, suc, _+_, _*_, _<_}
+use Prim.Native.Nat.{ℕ, zero, suc, _+_, _<_}
 use mathlib.Core.Path.{_≡_, refl, sym, ap, _∙_}
 use mathlib.Core.Bool.{Bool, true, false, _&&_, cond}
 use mathlib.Core.List.{List, [], _∷_, _++_, append-assoc}
@@ -9,14 +9,14 @@ use lib.ListN.{length, take, drop, getD}
 use Rattle.xliff.specs.Bytes.{Bytes, no-bytes, one-byte, two-at, enough, gather}
 use Rattle.xliff.specs.Answer.{answer}
 use Rattle.xliff.specs.Parse.{is}
-use Rattle.xliff.specs.Check.{Valid, table-refusal}
+use Rattle.xliff.specs.Check.{Valid}
 use Rattle.xliff.specs.Calls.{Call, SP, JN, ST, RT, RW, outcome, left, after, answers, Given, AllGiven, no-call, one-call}
 use Rattle.xliff.specs.Desk.{Request, lent, asked, request, request-among, line, table-line, table-length, answer-requests, desk-job, desk-with, desk, most-job}
 use Rattle.xliff.specs.BothEnds.{Demand-3}
 use Rattle.xliff.proofs.lists.Tests.{byte-at}
 use Rattle.xliff.proofs.unit.Table.{bytes-drop}
 use Rattle.xliff.proofs.both_ends.Demand3.{both-ends}
-use Rattle.both_ends.specs.Received.{sent, calls-from, calls, unreadable-from, unreadable, Received, Demand-3-of-the-program}
+use Rattle.both_ends.specs.Received.{sent, calls-from, calls, unreadable-from, unreadable, Demand-3-of-the-program}
 
 bytes-take : (n : ℕ) (s : List ℕ) → Bytes s → Bytes (take n s)
 bytes-take zero s h = no-bytes

@@ -2,13 +2,13 @@
 use Prim.Native.Nat.{ℕ, zero, suc, _+_}
 use mathlib.Core.Path.{_≡_}
 use mathlib.Core.List.{List, [], _∷_, _++_}
-use mathlib.Core.Option.{Option, none, some}
+use mathlib.Core.Option.{none, some}
 use lib.ListN.{length, take, drop}
 use Rattle.xliff.specs.Bytes.{Bytes, gather}
 use Rattle.xliff.specs.Answer.{refused}
 use Rattle.xliff.specs.Check.{Valid}
 use Rattle.xliff.specs.Calls.{Call, after, answers}
-use Rattle.xliff.specs.Desk.{Request, table-length, request, line, table-line, most-job, desk}
+use Rattle.xliff.specs.Desk.{table-length, request, line, table-line, most-job, desk}
 use Rattle.xliff.specs.BothEnds.{BothEnds}
 
 -- the table of a job

@@ -5,6 +5,7 @@ ghost use lib.ListN.{length};
 ghost use Rattle.xliff.specs.Check.{check};
 ghost use Rattle.xliff.specs.Split.{split};
 ghost use Rattle.xliff.specs.Join.{join};
+ghost use Rattle.xliff.specs.SetTarget.{set-target};
 ghost use Rattle.xliff.specs.RemoveTarget.{remove-target};
 ghost use Rattle.xliff.specs.Rewrite.{rewrite};
 ghost use Rattle.answers.specs.Answers.{answer-meaning};
@@ -62,6 +63,22 @@ pub extern "C" fn xliff_desk_join(
     ensures { λ r. ⌜ Tells (join (now (table .entry)) part (length (now (out .entry)))) r (now (number .exit)) (now (value .exit)) (now (out .entry)) (now (out .exit)) ⌝ }
 {
     let a = join::join(table, part, out);
+    tell(a, number, value)
+}
+
+#[no_mangle]
+pub extern "C" fn xliff_desk_set_target(
+    table: &[u8],
+    part: u16,
+    state: u8,
+    content: &[u8],
+    out: &mut [u8],
+    number: &mut u8,
+    value: &mut usize,
+) -> bool
+    ensures { λ r. ⌜ Tells (set-target (now (table .entry)) part state (now (content .entry)) (length (now (out .entry)))) r (now (number .exit)) (now (value .exit)) (now (out .entry)) (now (out .exit)) ⌝ }
+{
+    let a = set_target::set_target(table, part, state, content, out);
     tell(a, number, value)
 }
 

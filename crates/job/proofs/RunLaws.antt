@@ -2,12 +2,10 @@
 use Prim.Native.Nat.{ℕ, _≤_}
 use mathlib.Core.Path.{_≡_, refl, sym, ap, _∙_}
 use mathlib.Core.List.{List, _++_}
-use mathlib.Core.Option.{Option, none, some}
 use native.Mathlib.Omega.{arith}
 use lib.ListN.{length, take, drop, length-append}
 use lib.Seq.{length-take-le}
 use Rattle.xliff.specs.Answer as spec
-use Rattle.xliff.specs.Answer.{Refusal}
 use Rattle.xliff.specs.Check.{table-refusal, check}
 use Rattle.xliff.specs.Desk.{answer-requests, line, table-length, desk-job}
 use Rattle.xliff.specs.Parse.{most-bytes}

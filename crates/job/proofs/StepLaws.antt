@@ -1,6 +1,6 @@
 -- One request after the other.
-use Prim.Native.Nat.{ℕ, zero, suc, _+_, _-_, _*_, _≤_, _<_}
-use mathlib.Core.Path.{_≡_, refl, sym, ap, ap₂, _∙_}
+use Prim.Native.Nat.{ℕ, zero, suc, _+_, _-_, _≤_, _<_}
+use mathlib.Core.Path.{_≡_, refl, sym, ap, ap₂, subst, _∙_}
 use mathlib.Core.Bool.{cond}
 use mathlib.Core.List.{List, [], _∷_, _++_, append-assoc}
 use mathlib.Core.Option.{Option, none, some}
@@ -9,9 +9,8 @@ use lib.ListN.{length, take, drop, length-drop, length-append, drop-of-length-le
 use lib.Seq.{length-take-le, take-append-seam, drop-drop}
 use Rattle.xliff.specs.Answer as spec
 use Rattle.xliff.specs.Answer.{Outcome, result, refuse, answer, output, next-table}
-use Rattle.xliff.specs.Calls.{Call, outcome, left}
+use Rattle.xliff.specs.Calls.{outcome, left}
 use Rattle.xliff.specs.Desk.{Request, request, request-among, answer-requests, line, table-line}
-use Rattle.answers.specs.Answers.{answer-meaning}
 use Rattle.answers.specs.declared.Answer.{Answer}
 use Rattle.answers.specs.declared.Answer.the-variants.{Accepted, Refused}
 use Rattle.writer.specs.Pieces.{lead}
@@ -110,12 +109,12 @@ module _ (job first : List ℕ) (n : ℕ) (out₀ : List ℕ) where
 
   module _ (out table : List ℕ) (at m k : ℕ) (p : Printed job first n out₀ out table at m k) where
     -- a line more
-    pub printed-on : (q : Request) (table′ last : List ℕ) (m′ k′ : ℕ) → at < length job → 4 ≤ q .size → some q ≡ request (drop at job)
+    printed-by : (q : Request) (table′ last : List ℕ) (m′ k′ : ℕ) → at < length job → 4 ≤ q .size → some q ≡ request (drop at job)
         → k′ ≡ length (line (answer (outcome (take m table) (q .call))))
         → last ≡ lead (line (answer (outcome (take m table) (q .call)))) (take (length out - k) (drop k out))
         → take m′ table′ ≡ left (take m table) (q .call)
         → Printed job first n out₀ (take k out ++ (last ++ drop (length out - k) (drop k out))) table′ (at + q .size) m′ (k + k′)
-    printed-on q table′ last m′ k′ h g e l w v =
+    printed-by q table′ last m′ k′ h g e l w v =
         record {
           lines = p .lines ++ line (answer (outcome (take m table) (q .call)));
           long = omega (arith, p .long, l, length-append (p .lines) (line (answer (outcome (take m table) (q .call)))));
@@ -130,6 +129,15 @@ module _ (job first : List ℕ) (n : ℕ) (out₀ : List ℕ) where
               (sym (requests-on (p .steps) (take m table) at (drop at job) q (omega (arith, p .enough, h)) (omega (arith, length-drop at job, h)) e))
               ∙ p .same;
         }
+
+    pub printed-on : (q : Request) (table′ last : List ℕ) (m′ k′ i : ℕ) → i ≡ q .size → at < length job → 4 ≤ q .size → some q ≡ request (drop at job)
+        → k′ ≡ length (line (answer (outcome (take m table) (q .call))))
+        → last ≡ lead (line (answer (outcome (take m table) (q .call)))) (take (length out - k) (drop k out))
+        → take m′ table′ ≡ left (take m table) (q .call)
+        → Printed job first n out₀ (take k out ++ (last ++ drop (length out - k) (drop k out))) table′ (at + i) m′ (k + k′)
+    printed-on q table′ last m′ k′ i f h g e l w v =
+        subst (λ (j : ℕ). Printed job first n out₀ (take k out ++ (last ++ drop (length out - k) (drop k out))) table′ (at + j) m′ (k + k′)) (sym f)
+        (printed-by q table′ last m′ k′ h g e l w v)
 
     -- the last lines
     module _ (last : List ℕ) (k′ : ℕ) (piece : List ℕ) (l : k′ ≡ length piece) (w : last ≡ lead piece (take (length out - k) (drop k out))) where

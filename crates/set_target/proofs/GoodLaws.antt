@@ -66,4 +66,3 @@ module _ (t : List ℕ) (h : (i : ℕ) → Fits w8 (getD t i 0)) (w : table-refu
   -- the scratch array has room for it
   pub work-room : size-with t place c ≤ 8192
   work-room = omega (arith, set-long t b p a place s st q (content c) c (content-is c k cf), set-good .size)
-

@@ -48,14 +48,22 @@ fn old_from(place: PartPlace) -> usize
     requires { ⌜ place .target ≤ 8192 ⌝ }
     ensures { λ r. ⌜ r ≡ old-from place ⌝ }
 {
-    if place.has_target { place.target + 4 } else { place.source }
+    if place.has_target {
+        place.target + 4
+    } else {
+        place.source
+    }
 }
 
 // And where it ends.
 fn old_to(place: PartPlace) -> usize
     ensures { λ r. ⌜ r ≡ old-to place ⌝ }
 {
-    if place.has_target { place.end } else { place.target }
+    if place.has_target {
+        place.end
+    } else {
+        place.target
+    }
 }
 
 // 18 and 19, then the rest.
@@ -126,7 +134,15 @@ fn set_there(
     if !state_fits(place, state) {
         return Answer::Refused(2, 0);
     }
-    set_judged(table, n, place, state, content, syntax::content(content), out)
+    set_judged(
+        table,
+        n,
+        place,
+        state,
+        content,
+        syntax::content(content),
+        out,
+    )
 }
 
 fn set_found(
@@ -152,14 +168,7 @@ fn wide(x: u16) -> usize
     x as usize
 }
 
-fn set_checked(
-    table: &[u8],
-    a: Answer,
-    n: u16,
-    state: u8,
-    content: &[u8],
-    out: &mut [u8],
-) -> Answer
+fn set_checked(table: &[u8], a: Answer, n: u16, state: u8, content: &[u8], out: &mut [u8]) -> Answer
     requires { ⌜ answer-meaning a ≡ check (now table) ⌝ }
     ensures { λ r. ⌜ Answers (set-target (now (table .entry)) n state (now (content .entry)) (length (now (out .entry)))) r (now (out .entry)) (now (out .exit)) ⌝ }
 {

@@ -1,7 +1,6 @@
-use Rattle.xliff.specs.Desk.{table-line}
 use mathlib.Core.Path.{refl, sym, ap, _∙_}
 use lib.Seq.{length-take-le}
-use lib.ListN.{take, drop, length-drop, length-append}
+use lib.ListN.{take, length-drop}
 use native.Mathlib.Omega.{arith}
 use Rattle.lines.proofs.LineLaws.{table-line-length}
 use Rattle.job.proofs.StepLaws.{back-length}
@@ -36,11 +35,15 @@ put-requests-spec =
     (λ c. search needs)
     (λ c. search needs)
     (λ c. search needs)
-    (λ c κs. search needs)
     (λ c. search needs)
-    (λ c. let e = simp tail-is at (c .before .before .before .before .before .before .before .before .before .before .before .request-of .ensures) in let z = rw (c .before .before .before .before .before .before .before .before .before .r .given .1) at e in omega (arith, z .1 .1, length-drop (c .before .before .before .before .before .before .before .before .before .before .before .before .before .before .loop .at) (c .before .before .before .before .before .before .before .before .before .before .before .before .before .before .before .before .before .before .args .job .now), c .before .before .before .before .before .before .before .before .before .before .before .before .before .before .before .before .before .before .pre .2))
-    (λ c. let e = simp tail-is at (c .before .before .before .before .before .before .before .before .before .before .before .request-of .ensures) in let z = rw (c .before .before .before .before .before .before .before .before .before .r .given .1) at e in omega (arith, z .1 .0, z .1 .1, length-drop (c .before .before .before .before .before .before .before .before .before .before .before .before .before .before .loop .at) (c .before .before .before .before .before .before .before .before .before .before .before .before .before .before .before .before .before .before .args .job .now)))
-    (λ c. let e = simp tail-is at (c .before .before .before .before .before .before .before .before .before .before .before .request-of .ensures) in let z = rw (c .before .before .before .before .before .before .before .before .before .r .given .1) at e in let w = c .before .before .before .before .before .answer-request .ensures in (omega (arith, z .1 .1, length-drop (c .before .before .before .before .before .before .before .before .before .before .before .before .before .before .loop .at) (c .before .before .before .before .before .before .before .before .before .before .before .before .before .before .before .before .before .before .args .job .now), c .before .before .before .before .before .before .before .before .before .before .before .before .before .before .loop .inv .0), w .fits, omega (arith, w .short, z .1 .0, c .before .before .before .before .before .before .before .before .before .before .before .before .before .before .loop .inv .2), c .before .before .before .before .before .answer-request .kept .1 .0 ∙ c .before .before .before .before .before .before .before .before .before .before .before .before .before .before .loop .inv .3, back-length (c .before .before .before .before .before .before .before .before .before .before .before .before .before .before .loop .out) (c .before .before .before .before .before .answer-request .last .1 .1 .1 .0) (c .before .before .before .before .before .before .before .before .before .before .before .before .before .before .loop .k) (omega (arith, c .before .before .before .before .before .before .before .before .before .before .before .before .before .before .loop .inv .2, c .before .before .before .before .before .before .before .before .before .before .before .before .before .before .loop .inv .0, c .before .before .before .before .before .before .before .before .before .before .before .before .before .before .before .before .before .before .pre .2, c .before .before .before .before .before .before .before .before .before .before .before .before .before .before .loop .inv .4)) (c .before .before .before .before .before .answer-request .kept .1 .1 .1 .0) ∙ c .before .before .before .before .before .before .before .before .before .before .before .before .before .before .loop .inv .4, printed-on (c .before .before .before .before .before .before .before .before .before .before .before .before .before .before .before .before .before .before .args .job .now) (c .before .before .before .before .before .before .before .before .before .before .before .before .before .before .before .before .before .before .args .table .now) (c .before .before .before .before .before .before .before .before .before .before .before .before .before .before .before .before .before .before .args .n) (c .before .before .before .before .before .before .before .before .before .before .before .before .before .before .before .before .before .before .args .out .now) (c .before .before .before .before .before .before .before .before .before .before .before .before .before .before .loop .out) (c .before .before .before .before .before .before .before .before .before .before .before .before .before .before .loop .table) (c .before .before .before .before .before .before .before .before .before .before .before .before .before .before .loop .at) (c .before .before .before .before .before .before .before .before .before .before .before .before .before .before .loop .m) (c .before .before .before .before .before .before .before .before .before .before .before .before .before .before .loop .k) (c .before .before .before .before .before .before .before .before .before .before .before .before .before .before .loop .inv .5) _ (c .before .before .before .before .before .answer-request .last .1 .0) (c .before .before .before .before .before .answer-request .last .1 .1 .1 .0) _ _ ((c .before .before .before .before .before .before .before .before .before .before .before .before .before .loop-test .taken)) (z .1 .0) (z .0) (w .prints) (w .wrote) (w .leaves)))
+    (λ c. search needs)
+    (λ c. search needs)
+    (λ c κs. let z = rw (c .before .before .before .before .r .given .1) at (c .before .before .before .before .before .before .request-of .ensures) in (c .before .before .before .before .before .before .before .before .before .loop .inv .1, c .before .before .before .before .before .before .before .before .before .loop .inv .3, omega (arith, ap length (tail-is (c .before .before .before .before .before .before .before .before .before .loop .k) (c .before .before .before .before .before .before .before .before .before .loop .out)), length-drop (c .before .before .before .before .before .before .before .before .before .loop .k) (c .before .before .before .before .before .before .before .before .before .loop .out), c .before .before .before .before .before .before .before .before .before .loop .inv .2, c .before .before .before .before .before .before .before .before .before .loop .inv .0, c .before .before .before .before .before .before .before .before .before .loop .inv .4, c .before .before .before .before .before .before .before .before .before .before .before .before .before .pre .2), z .1 .1))
+    (λ c. search needs)
+    (λ c κs. search needs)
+    (λ c. let e = simp tail-is at (c .before .before .before .before .before .before .before .before .before .before .before .before .before .request-of .ensures) in let z = rw (c .before .before .before .before .before .before .before .before .before .before .before .r .given .1) at e in omega (arith, z .1 .1, c .size-of .ensures, length-drop (c .before .before .before .before .before .before .before .before .before .before .before .before .before .before .before .before .loop .at) (c .before .before .before .before .before .before .before .before .before .before .before .before .before .before .before .before .before .before .before .before .args .job .now), c .before .before .before .before .before .before .before .before .before .before .before .before .before .before .before .before .before .before .before .before .pre .2))
+    (λ c. let e = simp tail-is at (c .before .before .before .before .before .before .before .before .before .before .before .before .before .request-of .ensures) in let z = rw (c .before .before .before .before .before .before .before .before .before .before .before .r .given .1) at e in omega (arith, z .1 .0, z .1 .1, c .size-of .ensures, length-drop (c .before .before .before .before .before .before .before .before .before .before .before .before .before .before .before .before .loop .at) (c .before .before .before .before .before .before .before .before .before .before .before .before .before .before .before .before .before .before .before .before .args .job .now)))
+    (λ c. let e = simp tail-is at (c .before .before .before .before .before .before .before .before .before .before .before .before .before .request-of .ensures) in let z = rw (c .before .before .before .before .before .before .before .before .before .before .before .r .given .1) at e in let w = rw (tail-is (c .before .before .before .before .before .before .before .before .before .before .before .before .before .before .before .before .loop .at) (c .before .before .before .before .before .before .before .before .before .before .before .before .before .before .before .before .before .before .before .before .args .job .now)) at (c .before .before .before .before .before .before .answer-request .ensures) in (omega (arith, z .1 .1, c .size-of .ensures, length-drop (c .before .before .before .before .before .before .before .before .before .before .before .before .before .before .before .before .loop .at) (c .before .before .before .before .before .before .before .before .before .before .before .before .before .before .before .before .before .before .before .before .args .job .now), c .before .before .before .before .before .before .before .before .before .before .before .before .before .before .before .before .loop .inv .0), w .fits, omega (arith, w .short, z .1 .0, c .size-of .ensures, c .before .before .before .before .before .before .before .before .before .before .before .before .before .before .before .before .loop .inv .2), c .before .before .before .before .before .before .answer-request .kept .1 .1 .0 ∙ c .before .before .before .before .before .before .before .before .before .before .before .before .before .before .before .before .loop .inv .3, back-length (c .before .before .before .before .before .before .before .before .before .before .before .before .before .before .before .before .loop .out) (c .before .before .before .before .before .before .answer-request .last .1 .1 .1 .1 .0) (c .before .before .before .before .before .before .before .before .before .before .before .before .before .before .before .before .loop .k) (omega (arith, c .before .before .before .before .before .before .before .before .before .before .before .before .before .before .before .before .loop .inv .2, c .before .before .before .before .before .before .before .before .before .before .before .before .before .before .before .before .loop .inv .0, c .before .before .before .before .before .before .before .before .before .before .before .before .before .before .before .before .before .before .before .before .pre .2, c .before .before .before .before .before .before .before .before .before .before .before .before .before .before .before .before .loop .inv .4)) (c .before .before .before .before .before .before .answer-request .kept .1 .1 .1 .1 .0) ∙ c .before .before .before .before .before .before .before .before .before .before .before .before .before .before .before .before .loop .inv .4, printed-on (c .before .before .before .before .before .before .before .before .before .before .before .before .before .before .before .before .before .before .before .before .args .job .now) (c .before .before .before .before .before .before .before .before .before .before .before .before .before .before .before .before .before .before .before .before .args .table .now) (c .before .before .before .before .before .before .before .before .before .before .before .before .before .before .before .before .before .before .before .before .args .n) (c .before .before .before .before .before .before .before .before .before .before .before .before .before .before .before .before .before .before .before .before .args .out .now) (c .before .before .before .before .before .before .before .before .before .before .before .before .before .before .before .before .loop .out) (c .before .before .before .before .before .before .before .before .before .before .before .before .before .before .before .before .loop .table) (c .before .before .before .before .before .before .before .before .before .before .before .before .before .before .before .before .loop .at) (c .before .before .before .before .before .before .before .before .before .before .before .before .before .before .before .before .loop .m) (c .before .before .before .before .before .before .before .before .before .before .before .before .before .before .before .before .loop .k) (c .before .before .before .before .before .before .before .before .before .before .before .before .before .before .before .before .loop .inv .5) _ (c .before .before .before .before .before .before .answer-request .last .1 .1 .0) (c .before .before .before .before .before .before .answer-request .last .1 .1 .1 .1 .0) _ _ (c .size-of .result) (c .size-of .ensures) ((c .before .before .before .before .before .before .before .before .before .before .before .before .before .before .before .loop-test .taken)) (z .1 .0) (z .0) (w .prints) (w .wrote) (w .leaves)))
     (λ c. search needs)
     (λ c. search needs)
     (λ c. search needs)

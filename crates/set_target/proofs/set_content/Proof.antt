@@ -1,6 +1,5 @@
 use mathlib.Core.Path.{sym, _∙_, subst}
 use lib.ListN.{length}
-use native.Mathlib.Omega.{arith}
 use Rattle.xliff.specs.SetTarget.{old-content}
 use Rattle.xliff.specs.Parse.{content}
 use Rattle.xliff.specs.Answer.{Outcome}
