@@ -55,6 +55,23 @@ pub fn join(table: &[u8], part: u16, out: &mut [u8]) -> Answer {
     })
 }
 
+pub fn set_target(table: &[u8], part: u16, state: u8, content: &[u8], out: &mut [u8]) -> Answer {
+    answer(|number, value| unsafe {
+        raw::xliff_desk_set_target(
+            table.as_ptr(),
+            table.len(),
+            part,
+            state,
+            content.as_ptr(),
+            content.len(),
+            out.as_mut_ptr(),
+            out.len(),
+            number,
+            value,
+        )
+    })
+}
+
 pub fn remove_target(table: &[u8], part: u16, out: &mut [u8]) -> Answer {
     answer(|number, value| unsafe {
         let (to, room) = (out.as_mut_ptr(), out.len());

@@ -32,6 +32,19 @@ extern "C" {
         value: *mut usize,
     ) -> bool;
 
+    pub fn xliff_desk_set_target(
+        table: *const u8,
+        length: usize,
+        part: u16,
+        state: u8,
+        content: *const u8,
+        content_length: usize,
+        out: *mut u8,
+        room: usize,
+        number: *mut u8,
+        value: *mut usize,
+    ) -> bool;
+
     pub fn xliff_desk_remove_target(
         table: *const u8,
         length: usize,

@@ -7,8 +7,6 @@ use second::operations::Operation;
 use second::MOST_BYTES;
 use xliff_desk::{Answer, Refusal};
 
-const OPERATIONS: [Operation; 4] =
-    [Operation::Split, Operation::Join, Operation::RemoveTarget, Operation::Rewrite];
 const SEED: u64 = 7;
 const JOBS: u64 = 4000;
 
@@ -25,6 +23,7 @@ fn ask(table: &[u8], request: &[u8], out: &mut [u8]) -> Answer {
             xliff_desk::split(table, first, source, target, id, out)
         }
         b"JN" => xliff_desk::join(table, first, out),
+        b"ST" => xliff_desk::set_target(table, first, request[4], &request[7..], out),
         b"RT" => xliff_desk::remove_target(table, first, out),
         b"RW" => xliff_desk::rewrite(table, request[2], number(request, 3), request[5], out),
         other => panic!("no operation has the mark {other:?}"),
@@ -65,14 +64,11 @@ fn rooms(table: &[u8], request: &[u8]) -> Vec<usize> {
 fn calls_with_outputs_of_any_length() {
     let mut accepted = 0;
     for number in 0..JOBS {
-        let (_, job) = job(SEED, number, &OPERATIONS);
+        let (_, job) = job(SEED, number, &Operation::ALL);
         let end = second::desk::table_length(&job);
         let (table, requests) = job.split_at(end);
         let Some((_, size)) = read_request(requests, 0) else { continue };
         let request = &requests[..size];
-        if request.starts_with(b"ST") {
-            continue;
-        }
         let rooms = rooms(table, request);
         accepted += usize::from(rooms.len() > 5);
         rooms.into_iter().for_each(|room| compare(table, request, room));
@@ -101,8 +97,8 @@ fn random_bytes_are_refused_by_the_check() {
         let table: Vec<u8> = (0..length).map(|_| random.below(256) as u8).collect();
         let refused = xliff_desk::check(&table);
         assert!(refused.is_err());
-        let requests: [&[u8]; 4] =
-            [b"SP\0\x01\0\x01\0\0\0\0", b"JN\0\x01", b"RT\0\x01", b"RWS\0\x01P"];
+        let requests: [&[u8]; 5] =
+            [b"SP\0\x01\0\x01\0\0\0\0", b"JN\0\x01", b"ST\0\x01T\0\0", b"RT\0\x01", b"RWS\0\x01P"];
         for request in requests {
             assert_eq!(ask(&table, request, &mut [0; 100]), refused);
         }
