@@ -3,9 +3,8 @@ use answers::Answer;
 use part_at::FoundPart;
 use part_at::PartPlace;
 ghost use mathlib.Core.Path.{_≡_};
-ghost use mathlib.Core.Bool.{cond};
 ghost use mathlib.Core.Option.{none};
-ghost use Prim.Native.Nat.{_+_, _-_, _≤_};
+ghost use Prim.Native.Nat.{_≤_};
 ghost use lib.ListN.{length};
 ghost use Rattle.xliff.specs.Answer.{unless, answer};
 ghost use Rattle.xliff.specs.Parse.{unit, content-fault};
@@ -48,14 +47,22 @@ fn old_from(place: PartPlace) -> usize
     requires { ⌜ place .target ≤ 8192 ⌝ }
     ensures { λ r. ⌜ r ≡ old-from place ⌝ }
 {
-    if place.has_target { place.target + 4 } else { place.source }
+    if place.has_target {
+        place.target + 4
+    } else {
+        place.source
+    }
 }
 
 // And where it ends.
 fn old_to(place: PartPlace) -> usize
     ensures { λ r. ⌜ r ≡ old-to place ⌝ }
 {
-    if place.has_target { place.end } else { place.target }
+    if place.has_target {
+        place.end
+    } else {
+        place.target
+    }
 }
 
 // 18 and 19, then the rest.
@@ -97,7 +104,7 @@ fn set_judged(
 {
     match a {
         Answer::Accepted(_) => set_content(table, n, place, state, content, out),
-        Answer::Refused(k, at) => Answer::Refused(k, at),
+        Answer::Refused(number, at) => Answer::Refused(number, at),
     }
 }
 
@@ -126,7 +133,15 @@ fn set_there(
     if !state_fits(place, state) {
         return Answer::Refused(2, 0);
     }
-    set_judged(table, n, place, state, content, syntax::content(content), out)
+    set_judged(
+        table,
+        n,
+        place,
+        state,
+        content,
+        syntax::content(content),
+        out,
+    )
 }
 
 fn set_found(
@@ -152,14 +167,7 @@ fn wide(x: u16) -> usize
     x as usize
 }
 
-fn set_checked(
-    table: &[u8],
-    a: Answer,
-    n: u16,
-    state: u8,
-    content: &[u8],
-    out: &mut [u8],
-) -> Answer
+fn set_checked(table: &[u8], a: Answer, n: u16, state: u8, content: &[u8], out: &mut [u8]) -> Answer
     requires { ⌜ answer-meaning a ≡ check (now table) ⌝ }
     ensures { λ r. ⌜ Answers (set-target (now (table .entry)) n state (now (content .entry)) (length (now (out .entry)))) r (now (out .entry)) (now (out .exit)) ⌝ }
 {
