@@ -1,25 +1,25 @@
 -- The number of records with a target set, and the test of 15.
-use Prim.Native.Nat.{ℕ, suc, _+_, _-_, _<_, _≤_}
+use Prim.Native.Nat.{ℕ, _+_, _-_, _<_, _≤_}
 use mathlib.Core.Path.{_≡_, refl, sym, ap, _∙_}
-use mathlib.Core.Bool.{Bool, true, false, _||_, true≢false}
-use mathlib.Core.List.{List, [], _∷_, _++_}
+use mathlib.Core.Bool.{true, false, _||_, true≢false}
+use mathlib.Core.List.{List, _∷_, _++_}
 use native.Mathlib.Omega.{arith}
 use lib.ListN.{length, length-append}
 use lib.Dec.{ltb}
 use borrow.Author.Tests.{lt-ltb, le-ltb}
-use Rattle.xliff.specs.Bytes.{gather}
 use Rattle.xliff.specs.Item.{Content}
 use Rattle.xliff.specs.Unit.{Target, no-target, target, Part, XliffUnit, target-items}
-use Rattle.xliff.specs.Encode.{Record, closing, content-records, target-records, part-records, unit-records, content-bytes, encode}
+use Rattle.xliff.specs.Encode.{content-records, target-records, part-records, unit-records, content-bytes, encode}
 use Rattle.xliff.specs.Parse.{unit}
 use Rattle.xliff.specs.Check.{too-large}
 use Rattle.xliff.specs.Focus.{with-parts}
-use Rattle.xliff.proofs.lists.Tests.{gather-append}
+use Rattle.xliff.proofs.lists.Tests.{or-true, or-none}
 use Rattle.xliff.proofs.unit.Valid.{heads-unit}
 use Rattle.places.specs.Passes.{Passes}
 use Rattle.walk.specs.Kept.{Holds}
 use Rattle.part_at.specs.declared.PartPlace.{PartPlace}
 use Rattle.part_at.specs.Stands.{PartStands, TargetStands}
+use Rattle.split_limits.proofs.SizeLaws.{count, count-append, count-cons, unit-count}
 use Rattle.set_result.specs.SetUnit.{set-part, unit-with, size-with}
 use Rattle.set_result.proofs.PieceLaws.{set-long}
 
@@ -40,22 +40,12 @@ module _ (t : List ℕ) (place : PartPlace) where
   no-old (target q xs) s e = absurd (true≢false (sym (s .0) ∙ e))
 
 -- the records of parts
-abbrev count : List Part → ℕ
-count ps = length (gather part-records ps)
-
 count-at : (b : List Part) (p : Part) (a : List Part) → count (b ++ (p ∷ a)) ≡ count b + (length (part-records p) + count a)
-unfolding gather
-count-at b p a =
-    ap (λ (l : List Record). length l) (gather-append part-records b (p ∷ a)) ∙ length-append (gather part-records b) (gather part-records (p ∷ a))
-    ∙ ap (λ (n : ℕ). count b + n) (length-append (part-records p) (gather part-records a))
+count-at b p a = count-append b (p ∷ a) ∙ ap (λ (n : ℕ). count b + n) (count-cons p a)
 
 part-count : (p : Part) → length (part-records p) ≡ 1 + length (content-records (p .source)) + length (target-records (p .target))
 unfolding part-records
 part-count p = omega (arith, length-append (content-records (p .source)) (target-records (p .target)))
-
-unit-count : (u : XliffUnit) → length (unit-records u) ≡ 2 + count (u .parts)
-unfolding unit-records
-unit-count u = omega (arith, length-append (gather part-records (u .parts)) (closing ∷ []))
 
 module _ (u : XliffUnit) (st q : ℕ) (xs : Content) (b : List Part) (p : Part) (a : List Part) (e : u .parts ≡ b ++ (p ∷ a)) where
   pub old-within : length (target-records (p .target)) ≤ length (unit-records u)
@@ -84,23 +74,15 @@ module _ (u : XliffUnit) (st q : ℕ) (xs : Content) (b : List Part) (p : Part) 
       let z : length (u .parts) ≡ length (b ++ (p ∷ a)) = ap (λ (l : List Part). length l) e in
       omega (arith, z, length-append b (set-part st q xs p ∷ a), length-append b (p ∷ a))
 
-or-false : (b : Bool) → b || false ≡ b
-or-false true = refl
-or-false false = refl
-
-or-true : (b c : Bool) → c ≡ true → b || c ≡ true
-or-true true c e = refl
-or-true false c e = e
-
 -- the test
 too-large-is : (room bytes records : ℕ) (v : XliffUnit) → bytes ≡ length (encode v) → records ≡ length (unit-records v) → length (v .parts) ≤ 64
     → ltb room bytes || (ltb 8192 bytes || ltb 1024 records) ≡ too-large room v
 unfolding too-large
-too-large-is room bytes records v x y z = rw (x, y, le-ltb 64 (length (v .parts)) z, or-false (ltb 1024 (length (unit-records v))))
+too-large-is room bytes records v x y z = rw (x, y, le-ltb 64 (length (v .parts)) z, or-none (ltb 1024 (length (unit-records v))))
 
 long-is : (room : ℕ) (v : XliffUnit) → 8192 < length (encode v) → true ≡ too-large room v
 unfolding too-large
-long-is room v x = sym (or-true (ltb room (length (encode v))) _ (ap (λ (c : Bool). c || (ltb 1024 (length (unit-records v)) || ltb 64 (length (v .parts)))) (lt-ltb 8192 (length (encode v)) x)))
+long-is room v x = sym (rw (lt-ltb 8192 (length (encode v)) x) (or-true (ltb room (length (encode v)))))
 
 module _ (t : List ℕ) (k : Passes t) (place : PartPlace) (b : List Part) (p : Part) (a : List Part) (s : PartStands t b p a place)
     (c : List ℕ) (xs : Content) (is : content-bytes xs ≡ c) (st q room : ℕ) where

@@ -1,13 +1,13 @@
 -- The pieces of a table with one target set, and their lengths.
 use Prim.Native.Nat.{ℕ, _+_, _-_}
 use mathlib.Core.Path.{_≡_, refl, sym, ap, ap₂, _∙_}
-use mathlib.Core.List.{List, [], _∷_, _++_, append-assoc}
+use mathlib.Core.List.{List, _∷_, _++_, append-assoc}
 use native.Mathlib.Omega.{arith}
 use lib.ListN.{length, drop, length-append, length-drop}
 use Rattle.xliff.specs.Bytes.{two, gather}
 use Rattle.xliff.specs.Item.{Content}
 use Rattle.xliff.specs.Unit.{target, Part, XliffUnit}
-use Rattle.xliff.specs.Encode.{target-head, record-bytes, head-bytes, content-bytes, target-records, part-records, spell, encode}
+use Rattle.xliff.specs.Encode.{record-bytes, head-bytes, content-bytes, target-records, part-records, spell, encode}
 use Rattle.xliff.specs.Parse.{unit}
 use Rattle.xliff.specs.Focus.{here, focus, with-parts}
 use Rattle.xliff.specs.SetTarget.{with-state, new-order, set-focus, set-unit}

@@ -1,6 +1,6 @@
 -- The pieces written one behind the other.
 use Prim.Native.Nat.{ℕ, _+_, _-_, _≤_}
-use mathlib.Core.Path.{_≡_, refl, sym, ap, ap₂, _∙_}
+use mathlib.Core.Path.{_≡_, sym, ap, ap₂, _∙_}
 use mathlib.Core.List.{List, [], _∷_, _++_}
 use native.Mathlib.Omega.{arith}
 use lib.ListN.{length, take, drop, length-append, length-drop}
@@ -13,11 +13,11 @@ use Rattle.writer.specs.Pieces.{lead, overlay, numberBytes}
 use Rattle.writer.proofs.PieceLaws.{tail-is, two-back, over-lead}
 use Rattle.cut.proofs.LoopLaws.{lead-length}
 use Rattle.cut.proofs.HalfLaws.{tail-room}
-use Rattle.halves_of_part.proofs.PartLaws.{three-back, three-room}
+use Rattle.halves_of_part.proofs.PartLaws.{three-back}
 use Rattle.part_at.specs.declared.PartPlace.{PartPlace}
 use Rattle.part_at.specs.Stands.{PartStands}
 use Rattle.removed_target.specs.Removed.{Written, to-source, WroteToSource}
-use Rattle.removed_target.proofs.RemovedLaws.{in-order, to-source-long}
+use Rattle.removed_target.proofs.RemovedLaws.{to-source-long}
 use Rattle.set_result.specs.SetUnit.{target-bytes, unit-with, size-with}
 use Rattle.set_result.proofs.PieceLaws.{target-long, set-is, set-long}
 
@@ -46,9 +46,6 @@ module _ (q : ℕ) (c o : List ℕ) (l : List ℕ) (first : l ≡ overlay o 0 (8
 
 module _ (t : List ℕ) (b : List Part) (p : Part) (a : List Part) (place : PartPlace) (s : PartStands t b p a place) (c o : List ℕ)
     (room : size-with t place c ≤ length o) where
-  pub source-room : place .target ≤ length o
-  source-room = omega arith
-
   module _ (st : ℕ) (l : List ℕ) (n : ℕ) (first : WroteToSource st t place o n l) where
     source-ends : n ≡ place .target
     source-ends = first b p a s .0 ∙ to-source-long t b p a place s st

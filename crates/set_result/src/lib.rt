@@ -1,7 +1,6 @@
 // The table that a setting of a target results in, and its limits.
 use part_at::PartPlace;
-ghost use mathlib.Core.Path.{_≡_};
-ghost use Prim.Native.Nat.{_+_, _-_, _<_, _≤_};
+ghost use Prim.Native.Nat.{_+_, _≤_};
 ghost use lib.ListN.{length};
 ghost use Rattle.cut.specs.Halves.{Some};
 ghost use Rattle.removed_target.specs.Removed.{Written};

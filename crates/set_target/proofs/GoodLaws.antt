@@ -1,14 +1,14 @@
 -- The unit with a target set: its parts are good, and what is not too large is within the limits.
 use Prim.Native.Nat.{ℕ, _≤_}
-use mathlib.Core.Path.{_≡_, sym, ap, _∙_, subst}
+use mathlib.Core.Path.{_≡_, subst}
 use mathlib.Core.Bool.{true, false}
 use mathlib.Core.List.{List, _∷_, _++_}
 use mathlib.Core.Option.{none}
 use native.Mathlib.Omega.{arith}
-use lib.ListN.{length, getD}
+use lib.ListN.{getD}
 use mir.Val.{Fits}
 use mir.Syntax.{w8}
-use Rattle.xliff.specs.Unit.{Head, segment, ignorable, Part, XliffUnit}
+use Rattle.xliff.specs.Unit.{Head, segment, ignorable, Part}
 use Rattle.xliff.specs.Encode.{content-bytes}
 use Rattle.xliff.specs.Parse.{unit, content, content-fault}
 use Rattle.xliff.specs.Check.{Valid, table-refusal, too-large}

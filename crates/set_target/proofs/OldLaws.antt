@@ -1,8 +1,8 @@
 -- The old content of a part, and the states that fit it.
-use Prim.Native.Nat.{ℕ, _+_, _-_, _<_, _≤_}
+use Prim.Native.Nat.{ℕ, _-_, _<_, _≤_}
 use mathlib.Core.Path.{_≡_, refl, sym, ap, _∙_}
-use mathlib.Core.Bool.{Bool, true, false, _||_, cond}
-use mathlib.Core.List.{List, [], _∷_}
+use mathlib.Core.Bool.{Bool, _||_}
+use mathlib.Core.List.{List}
 use mathlib.Core.Option.{none}
 use native.Mathlib.Omega.{arith}
 use lib.ListN.{length, getD, take, drop}
@@ -15,6 +15,7 @@ use Rattle.xliff.specs.Unit.{Head, segment, ignorable, Target, no-target, targe
 use Rattle.xliff.specs.Encode.{head-bytes, content-bytes}
 use Rattle.xliff.specs.Check.{table-refusal}
 use Rattle.xliff.specs.SetTarget.{state-fits, old-content}
+use Rattle.xliff.proofs.lists.Tests.{or-none}
 use Rattle.walk.specs.Kept.{Holds}
 use Rattle.parts.specs.Parts.{GoodTarget}
 use Rattle.part_at.specs.declared.PartPlace.{PartPlace}
@@ -43,10 +44,6 @@ module _ (t : List ℕ) (h : (i : ℕ) → Fits w8 (getD t i 0)) (w : table-refu
   old-there from to x y = rw (x, y) (old-by t place b p a s (source-holds t place h w b p a s) (p .target) (s .target) (part-good t place h w b p a s .1))
 
 -- the state by the length of the head
-or-false : (b : Bool) → b || false ≡ b
-or-false true = refl
-or-false false = refl
-
 module _ (st : ℕ) where
   short-fits : (h : Head) → length (head-bytes h) < 6 → eqb st '-' ≡ state-fits h st
   unfolding head-bytes two state-fits
@@ -55,7 +52,7 @@ module _ (st : ℕ) where
 
   long-fits : (h : Head) → 6 ≤ length (head-bytes h) → eqb st 'I' || (eqb st 'T' || (eqb st 'R' || eqb st 'F')) ≡ state-fits h st
   unfolding head-bytes two state-fits among
-  long-fits (segment i c s) l = ap (λ (d : Bool). eqb st 'I' || (eqb st 'T' || (eqb st 'R' || d))) (sym (or-false (eqb st 'F')))
+  long-fits (segment i c s) l = ap (λ (d : Bool). eqb st 'I' || (eqb st 'T' || (eqb st 'R' || d))) (sym (or-none (eqb st 'F')))
   long-fits (ignorable i) l = absurd (let y : ⊥ = omega arith in y)
 
   module _ (t : List ℕ) (b : List Part) (p : Part) (a : List Part) (place : PartPlace) (s : PartStands t b p a place) where

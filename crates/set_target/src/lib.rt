@@ -3,9 +3,8 @@ use answers::Answer;
 use part_at::FoundPart;
 use part_at::PartPlace;
 ghost use mathlib.Core.Path.{_≡_};
-ghost use mathlib.Core.Bool.{cond};
 ghost use mathlib.Core.Option.{none};
-ghost use Prim.Native.Nat.{_+_, _-_, _≤_};
+ghost use Prim.Native.Nat.{_≤_};
 ghost use lib.ListN.{length};
 ghost use Rattle.xliff.specs.Answer.{unless, answer};
 ghost use Rattle.xliff.specs.Parse.{unit, content-fault};
@@ -105,7 +104,7 @@ fn set_judged(
 {
     match a {
         Answer::Accepted(_) => set_content(table, n, place, state, content, out),
-        Answer::Refused(k, at) => Answer::Refused(k, at),
+        Answer::Refused(number, at) => Answer::Refused(number, at),
     }
 }
 

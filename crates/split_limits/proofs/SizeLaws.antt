@@ -40,13 +40,13 @@ use Rattle.split_limits.specs.Added.{PartAdded, AddedIs, Placed}
 use Rattle.split_limits.proofs.StandLaws.{bytes-known, the-table}
 
 -- the records of parts
-abbrev count : List Part → ℕ
+abbrev pub count : List Part → ℕ
 count ps = length (gather part-records ps)
 
-count-append : (ps qs : List Part) → count (ps ++ qs) ≡ count ps + count qs
+pub count-append : (ps qs : List Part) → count (ps ++ qs) ≡ count ps + count qs
 count-append ps qs = ap (λ (l : List Record). length l) (gather-append part-records ps qs) ∙ length-append (gather part-records ps) (gather part-records qs)
 
-count-cons : (p : Part) (ps : List Part) → count (p ∷ ps) ≡ length (part-records p) + count ps
+pub count-cons : (p : Part) (ps : List Part) → count (p ∷ ps) ≡ length (part-records p) + count ps
 unfolding gather
 count-cons p ps = length-append (part-records p) (gather part-records ps)
 
@@ -76,7 +76,7 @@ unfolding order-parts
 parts-length f [] = refl
 parts-length f (p ∷ ps) = ap suc (parts-length f ps)
 
-unit-count : (u : XliffUnit) → length (unit-records u) ≡ 2 + count (u .parts)
+pub unit-count : (u : XliffUnit) → length (unit-records u) ≡ 2 + count (u .parts)
 unfolding unit-records
 unit-count u = omega (arith, length-append (gather part-records (u .parts)) (closing ∷ []))
 

@@ -1,7 +1,7 @@
 // The order of a target that is set.
 use part_at::PartPlace;
 ghost use mathlib.Core.Path.{_≡_};
-ghost use Prim.Native.Nat.{_+_, _-_, _<_, _≤_};
+ghost use Prim.Native.Nat.{_≤_};
 ghost use Rattle.xliff.specs.Unit.{orders};
 ghost use Rattle.xliff.specs.Parse.{unit};
 ghost use Rattle.xliff.specs.SetTarget.{lowest-unused};

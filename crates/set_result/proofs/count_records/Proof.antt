@@ -1,7 +1,7 @@
 use lib.ListN.{length}
 use native.Mathlib.Omega.{arith}
 use Prim.Native.Nat.{_+_, _-_, _≤_}
-use mathlib.Core.Path.{_≡_, refl, sym, ap, _∙_}
+use mathlib.Core.Path.{_≡_, ap}
 use mathlib.Core.List.{List}
 use Rattle.xliff.specs.Encode.{Record, content-records}
 use Rattle.walk.specs.Kept.{Of}
@@ -9,9 +9,6 @@ use Rattle.walk.proofs.WalkLaws.{tail-is, Rest, rest-start, next, rest-end}
 use borrow.Author.Needs.{needs}
 use Rattle.set_result.proofs.count_records.Statement.{statement}
 use Rattle.set_result.proofs.count_records.Tie as tie
-use Rattle.set_result.proofs.count_records.Reads as reads
-use Rattle.set_result.proofs.count_records.Lts as lts
-use Rattle.walk.proofs.width_of.Reads as width-of-reads
 
 abbrev Inv-loop : tie.InvT-loop
 Inv-loop c at₀ n₀ at n = (at ≤ length c) × (n ≤ at) × ((rs : List Record) → Of c rs → (after : List Record) × Rest c at after × (n + length after ≡ length rs))
@@ -19,59 +16,19 @@ Inv-loop c at₀ n₀ at n = (at ≤ length c) × (n ≤ at) × ((rs : List Reco
 abbrev μ-loop : tie.MeasureT-loop
 μ-loop c at₀ n₀ at n = length c - at
 
--- src/lib.rt:50:5
-loop-holds : tie.Need-loop-holds Inv-loop μ-loop
-loop-holds c = (omega arith, omega arith, λ rs o. (rs, rest-start (c .before .args .c .now) rs o, omega arith))
-
--- src/lib.rt:51:30
-sub-width-of : tie.Need-sub-width-of Inv-loop μ-loop
-sub-width-of c = search needs
-
--- src/lib.rt:51:30
-part-width-of-start : tie.Need-part-width-of-start Inv-loop μ-loop
-part-width-of-start c = search needs
-
--- src/lib.rt:51:30
-part-width-of-end : tie.Need-part-width-of-end Inv-loop μ-loop
-part-width-of-end c = search needs
-
--- src/lib.rt:51:15
-width-of-requires : tie.Need-width-of-requires Inv-loop μ-loop
-width-of-requires c κs = let (xs, o) = (c .before .before .before .before .pre) in let m = c .before .before .loop .inv .2 (content-records xs) o in let n = next (c .before .before .before .before .args .c .now) (c .before .before .loop .at) (m .0) ((c .before .loop-test .taken)) (m .1) in simp tail-is (n .enough)
-
--- src/lib.rt:51:9
-add-at : tie.Need-add-at Inv-loop μ-loop
-add-at c = let (xs, o) = (c .before .before .before .before .before .pre) in let m = c .before .before .before .loop .inv .2 (content-records xs) o in let n = next (c .before .before .before .before .before .args .c .now) (c .before .before .before .loop .at) (m .0) ((c .before .before .loop-test .taken)) (m .1) in let e = simp tail-is at (c .width-of .ensures) in omega (arith, n .fit)
-
--- src/lib.rt:52:9
-add-n : tie.Need-add-n Inv-loop μ-loop
-add-n c = let (xs, o) = (c .before .before .before .before .before .pre) in let m = c .before .before .before .loop .inv .2 (content-records xs) o in let n = next (c .before .before .before .before .before .args .c .now) (c .before .before .before .loop .at) (m .0) ((c .before .before .loop-test .taken)) (m .1) in let e = simp tail-is at (c .width-of .ensures) in omega (arith, c .before .before .before .loop .inv .1)
-
--- src/lib.rt:50:5
-loop-less : tie.Need-loop-less Inv-loop μ-loop
-loop-less c = let (xs, o) = (c .before .before .before .before .before .pre) in let m = c .before .before .before .loop .inv .2 (content-records xs) o in let n = next (c .before .before .before .before .before .args .c .now) (c .before .before .before .loop .at) (m .0) ((c .before .before .loop-test .taken)) (m .1) in let e = simp tail-is at (c .width-of .ensures) in omega (arith, n .fit, n .least)
-
--- src/lib.rt:50:5
-loop-again : tie.Need-loop-again Inv-loop μ-loop
-loop-again c = let (xs, o) = (c .before .before .before .before .before .pre) in let m = c .before .before .before .loop .inv .2 (content-records xs) o in let n = next (c .before .before .before .before .before .args .c .now) (c .before .before .before .loop .at) (m .0) ((c .before .before .loop-test .taken)) (m .1) in let e = simp tail-is at (c .width-of .ensures) in (omega (arith, n .fit), omega (arith, n .least, c .before .before .before .loop .inv .1), λ rs o. let m = c .before .before .before .loop .inv .2 rs o in let n = next (c .before .before .before .before .before .args .c .now) (c .before .before .before .loop .at) (m .0) ((c .before .before .loop-test .taken)) (m .1) in (n .others, rw e (n .rest), omega (arith, m .2, ap (λ (l : List Record). length l) (n .all))))
-
--- src/lib.rt:44:1
-returns : tie.Need-returns Inv-loop μ-loop
-returns c = (omega arith, λ xs o. let m = c .before .loop .inv .2 (content-records xs) o in omega (arith, m .2, ap (λ (l : List Record). length l) (rest-end (c .before .before .before .args .c .now) (c .before .loop .at) (m .0) ((c .loop-test .left)) (m .1))))
-
 pub count-records-spec : {M : Type 1} → statement M
 count-records-spec =
     tie.close
     (tie.spec
     Inv-loop
     μ-loop
-    loop-holds
-    sub-width-of
-    part-width-of-start
-    part-width-of-end
-    width-of-requires
-    add-at
-    add-n
-    loop-less
-    loop-again
-    returns)
+    (λ c. (omega arith, omega arith, λ rs o. (rs, rest-start (c .before .args .c .now) rs o, omega arith)))
+    (λ c. search needs)
+    (λ c. search needs)
+    (λ c. search needs)
+    (λ c κs. let (xs, o) = (c .before .before .before .before .pre) in let m = c .before .before .loop .inv .2 (content-records xs) o in let n = next (c .before .before .before .before .args .c .now) (c .before .before .loop .at) (m .0) ((c .before .loop-test .taken)) (m .1) in simp tail-is (n .enough))
+    (λ c. let (xs, o) = (c .before .before .before .before .before .pre) in let m = c .before .before .before .loop .inv .2 (content-records xs) o in let n = next (c .before .before .before .before .before .args .c .now) (c .before .before .before .loop .at) (m .0) ((c .before .before .loop-test .taken)) (m .1) in let e = simp tail-is at (c .width-of .ensures) in omega (arith, n .fit))
+    (λ c. let (xs, o) = (c .before .before .before .before .before .pre) in let m = c .before .before .before .loop .inv .2 (content-records xs) o in let n = next (c .before .before .before .before .before .args .c .now) (c .before .before .before .loop .at) (m .0) ((c .before .before .loop-test .taken)) (m .1) in let e = simp tail-is at (c .width-of .ensures) in omega (arith, c .before .before .before .loop .inv .1))
+    (λ c. let (xs, o) = (c .before .before .before .before .before .pre) in let m = c .before .before .before .loop .inv .2 (content-records xs) o in let n = next (c .before .before .before .before .before .args .c .now) (c .before .before .before .loop .at) (m .0) ((c .before .before .loop-test .taken)) (m .1) in let e = simp tail-is at (c .width-of .ensures) in omega (arith, n .fit, n .least))
+    (λ c. let (xs, o) = (c .before .before .before .before .before .pre) in let m = c .before .before .before .loop .inv .2 (content-records xs) o in let n = next (c .before .before .before .before .before .args .c .now) (c .before .before .before .loop .at) (m .0) ((c .before .before .loop-test .taken)) (m .1) in let e = simp tail-is at (c .width-of .ensures) in (omega (arith, n .fit), omega (arith, n .least, c .before .before .before .loop .inv .1), λ rs o. let m = c .before .before .before .loop .inv .2 rs o in let n = next (c .before .before .before .before .before .args .c .now) (c .before .before .before .loop .at) (m .0) ((c .before .before .loop-test .taken)) (m .1) in (n .others, rw e (n .rest), omega (arith, m .2, ap (λ (l : List Record). length l) (n .all)))))
+    (λ c. (omega arith, λ xs o. let m = c .before .loop .inv .2 (content-records xs) o in omega (arith, m .2, ap (λ (l : List Record). length l) (rest-end (c .before .before .before .args .c .now) (c .before .loop .at) (m .0) ((c .loop-test .left)) (m .1))))))

@@ -5,34 +5,14 @@ use Rattle.set_target.proofs.ChainLaws.{bad-content}
 use borrow.Author.Needs.{needs}
 use Rattle.set_target.proofs.set_judged.Statement.{statement}
 use Rattle.set_target.proofs.set_judged.Tie as tie
-use Rattle.set_target.proofs.set_judged.Reads as reads
-use Rattle.set_target.proofs.set_judged.Lts as lts
-use Rattle.set_target.proofs.set_content.Reads as set-content-reads
-
--- src/lib.rt:99:77
-enum-told : tie.Need-enum-told
-enum-told c = search needs
-
--- src/lib.rt:99:32
-set-content-requires : tie.Need-set-content-requires
-set-content-requires c κs = let (ft, an) = (c .before .before .before .before .before .before .pre) in (ft, accepted-without (content-fault (c .before .before .before .before .before .before .args .content .now)) (c .before .before .before .before .before .before .args .content .now) _ (rw (c .before .enum-told .given .1) at an))
-
--- src/lib.rt:100:25
-enum-known-a : tie.Need-enum-known-a
-enum-known-a c = search needs
-
--- src/lib.rt:86:1
-same-length : tie.Need-same-length
-same-length c = search needs
-
--- src/lib.rt:86:1
-returns : tie.Need-returns
-returns c = search needs
-
--- src/lib.rt:86:1
-returns-2 : tie.Need-returns-2
-returns-2 c = let (ft, an) = (c .before .before .before .before .before .before .pre) in let (w, pl) = ft in let (b, p, a, e, s, f) = pl in answers-refused _ _ _ (c .before .before .before .before .before .before .args .out .now) (bad-content (c .before .before .before .before .before .before .args .table .now) (c .before .before .before .before .before .before .args .n) (c .before .before .before .before .before .before .args .state) (c .before .before .before .before .before .before .args .content .now) (length (c .before .before .before .before .before .before .args .out .now)) w b p a e f _ _ (refused-with (content-fault (c .before .before .before .before .before .before .args .content .now)) (c .before .before .before .before .before .before .args .content .now) _ _ (rw (c .before .a .given .1) at an)))
 
 pub set-judged-spec : {M : Type 1} → statement M
 set-judged-spec =
-    tie.close (tie.spec enum-told set-content-requires enum-known-a same-length returns returns-2)
+    tie.close
+    (tie.spec
+    (λ c. search needs)
+    (λ c κs. let (ft, an) = (c .before .before .before .before .before .before .pre) in (ft, accepted-without (content-fault (c .before .before .before .before .before .before .args .content .now)) (c .before .before .before .before .before .before .args .content .now) _ (rw (c .before .enum-told .given .1) at an)))
+    (λ c. search needs)
+    (λ c. search needs)
+    (λ c. search needs)
+    (λ c. let (ft, an) = (c .before .before .before .before .before .before .pre) in let (w, pl) = ft in let (b, p, a, e, s, f) = pl in answers-refused _ _ _ (c .before .before .before .before .before .before .args .out .now) (bad-content (c .before .before .before .before .before .before .args .table .now) (c .before .before .before .before .before .before .args .n) (c .before .before .before .before .before .before .args .state) (c .before .before .before .before .before .before .args .content .now) (length (c .before .before .before .before .before .before .args .out .now)) w b p a e f _ _ (refused-with (content-fault (c .before .before .before .before .before .before .args .content .now)) (c .before .before .before .before .before .before .args .content .now) _ _ (rw (c .before .a .given .1) at an)))))
