@@ -1,13 +1,10 @@
 -- The result as it stands at the head of the scratch array.
 use Prim.Native.Nat.{ℕ, _<_, _≤_}
-use mathlib.Core.Path.{_≡_, sym, ap, _∙_, subst}
+use mathlib.Core.Path.{_≡_, ap}
 use mathlib.Core.Bool.{true, false}
 use mathlib.Core.List.{List}
 use mathlib.Core.Option.{none}
-use native.Mathlib.Omega.{arith}
-use lib.ListN.{length, getD, take, drop, length-append}
-use lib.Seq.{take-at}
-use borrow.Author.Tests.{lt-ltb, le-ltb}
+use lib.ListN.{length, getD, take}
 use mir.Val.{Fits}
 use mir.Syntax.{w8}
 use Rattle.xliff.specs.Answer.{is-fault}
@@ -18,7 +15,8 @@ use Rattle.xliff.specs.Rules.{fault-7}
 use Rattle.xliff.specs.Check.{table-refusal, too-large}
 use Rattle.places.specs.Passes.{Passes}
 use Rattle.part_at.specs.declared.PartPlace.{PartPlace}
-use Rattle.result_rules.proofs.GoodLaws.{GoodUnit, read-back, result-passes, only-room}
+use Rattle.result_rules.proofs.GoodLaws.{GoodUnit}
+use Rattle.result_rules.proofs.WorkLaws as work
 use Rattle.join_result.specs.Result.{Beside, joined-unit, Wrote}
 use Rattle.join.proofs.GoodLaws.{joined-good}
 
@@ -34,26 +32,22 @@ module _ (t : List ℕ) (h : (i : ℕ) → Fits w8 (getD t i 0)) (v : table-refu
 
   module _ (o l : List ℕ) (n : ℕ) (w : Wrote t x y o n l) where
     pub work-is : take n l ≡ encode u
-    work-is =
-        let (k, e) = w b p q a s in
-        ap (take n) e ∙ take-at (encode u) (drop (length (encode u)) o) n (sym k)
+    work-is = let (k, e) = w b p q a s in work.work-is u o l n k e
 
     pub work-within : n ≤ length l
-    work-within =
-        let (k, e) = w b p q a s in
-        omega (arith, k, ap length e, length-append (encode u) (drop (length (encode u)) o))
+    work-within = let (k, e) = w b p q a s in work.work-within u o l n k e
 
     pub work-long : n ≡ length (take n l)
-    work-long = w b p q a s .0 ∙ sym (ap length work-is)
+    work-long = let (k, e) = w b p q a s in work.work-long u o l n k e
 
     pub work-passes : Passes (take n l) × (length (take n l) ≤ 8192)
-    work-passes = (subst Passes (sym work-is) (result-passes u good), omega (arith, ap length work-is, work-size))
+    work-passes = let (k, e) = w b p q a s in work.work-passes u o l n k e good
 
     pub seven-is : is-fault (fault-7 (unit (take n l) .parts)) ≡ is-fault (fault-7 (u .parts))
-    seven-is = ap (λ (c : List ℕ). is-fault (fault-7 (unit c .parts))) work-is ∙ ap (λ (c : XliffUnit). is-fault (fault-7 (c .parts))) (read-back u good)
+    seven-is = let (k, e) = w b p q a s in ap is-fault (work.work-rule u o l n k e good fault-7)
 
     pub no-room : (room : ℕ) → room < n → too-large room u ≡ true
-    no-room room z = let k = w b p q a s .0 in only-room u good room ∙ lt-ltb room (length (encode u)) (omega arith)
+    no-room room z = let (k, e) = w b p q a s in work.no-room u o l n k e good room z
 
     pub has-room : (room : ℕ) → n ≤ room → too-large room u ≡ false
-    has-room room z = let k = w b p q a s .0 in only-room u good room ∙ le-ltb room (length (encode u)) (omega arith)
+    has-room room z = let (k, e) = w b p q a s in work.has-room u o l n k e good room z

@@ -1,41 +1,38 @@
--- A result as it stands at the head of a scratch array.
+-- A result as it stands at the head of a scratch array, where `Written` says so.
 use Prim.Native.Nat.{ℕ, _<_, _≤_}
-use mathlib.Core.Path.{_≡_, sym, ap, _∙_, subst}
+use mathlib.Core.Path.{_≡_}
 use mathlib.Core.Bool.{true, false}
 use mathlib.Core.List.{List}
 use mathlib.Core.Option.{Option}
-use native.Mathlib.Omega.{arith}
-use lib.ListN.{length, take, drop, length-append}
-use lib.Seq.{take-at}
-use borrow.Author.Tests.{lt-ltb, le-ltb}
+use lib.ListN.{length, take}
 use Rattle.xliff.specs.Answer.{Refusal}
 use Rattle.xliff.specs.Unit.{Part, XliffUnit}
 use Rattle.xliff.specs.Encode.{encode}
 use Rattle.xliff.specs.Parse.{unit}
 use Rattle.xliff.specs.Check.{too-large}
 use Rattle.places.specs.Passes.{Passes}
-use Rattle.result_rules.proofs.GoodLaws.{GoodUnit, read-back, result-passes, only-room}
+use Rattle.result_rules.proofs.GoodLaws.{GoodUnit}
+use Rattle.result_rules.proofs.WorkLaws as work
 use Rattle.removed_target.specs.Removed.{Written}
 
 module _ (u : XliffUnit) (g : GoodUnit u) (o l : List ℕ) (n : ℕ) (w : Written (encode u) o n l) where
   pub work-is : take n l ≡ encode u
-  work-is = ap (take n) (w .1) ∙ take-at (encode u) (drop (length (encode u)) o) n (sym (w .0))
+  work-is = work.work-is u o l n (w .0) (w .1)
 
   pub work-within : n ≤ length l
-  work-within = let k = w .0 in omega (arith, k, ap length (w .1), length-append (encode u) (drop (length (encode u)) o))
+  work-within = work.work-within u o l n (w .0) (w .1)
 
   pub work-long : n ≡ length (take n l)
-  work-long = w .0 ∙ sym (ap length work-is)
+  work-long = work.work-long u o l n (w .0) (w .1)
 
   pub work-passes : Passes (take n l) × (length (take n l) ≤ 8192)
-  work-passes = (subst Passes (sym work-is) (result-passes u g), omega (arith, ap length work-is, g .size))
+  work-passes = work.work-passes u o l n (w .0) (w .1) g
 
-  -- a rule of its parts is that of the unit
   pub work-rule : (rule : List Part → Option Refusal) → rule (unit (take n l) .parts) ≡ rule (u .parts)
-  work-rule rule = ap (λ (c : List ℕ). rule (unit c .parts)) work-is ∙ ap (λ (c : XliffUnit). rule (c .parts)) (read-back u g)
+  work-rule rule = work.work-rule u o l n (w .0) (w .1) g rule
 
   pub no-room : (room : ℕ) → room < n → too-large room u ≡ true
-  no-room room z = let k = w .0 in only-room u g room ∙ lt-ltb room (length (encode u)) (omega arith)
+  no-room room z = work.no-room u o l n (w .0) (w .1) g room z
 
   pub has-room : (room : ℕ) → n ≤ room → too-large room u ≡ false
-  has-room room z = let k = w .0 in only-room u g room ∙ le-ltb room (length (encode u)) (omega arith)
+  has-room room z = work.has-room u o l n (w .0) (w .1) g room z

@@ -8,18 +8,17 @@ use native.Mathlib.Omega.{arith}
 use lib.ListN.{getD}
 use mir.Val.{Fits}
 use mir.Syntax.{w8}
-use Rattle.xliff.specs.Unit.{Head, segment, ignorable, Part}
+use Rattle.xliff.specs.Unit.{Part}
 use Rattle.xliff.specs.Encode.{content-bytes}
 use Rattle.xliff.specs.Parse.{unit, content, content-fault}
 use Rattle.xliff.specs.Check.{Valid, table-refusal, too-large}
 use Rattle.xliff.specs.Focus.{with-parts}
-use Rattle.xliff.specs.SetTarget.{state-fits, with-state}
+use Rattle.xliff.specs.SetTarget.{state-fits}
 use Rattle.xliff.proofs.lists.Each.{each-cons, each-append, each-apart}
-use Rattle.xliff.proofs.records.Read.{GoodHead}
 use Rattle.xliff.proofs.unit.Valid.{GoodParts, content-good}
 use Rattle.xliff.proofs.unit.Result.{Sent, sent}
 use Rattle.xliff.proofs.unit.Accepted.{within}
-use Rattle.xliff.proofs.operations.SetValid.{some-part}
+use Rattle.xliff.proofs.operations.SetValid.{state-good, some-part}
 use Rattle.walk.specs.Kept.{Holds}
 use Rattle.cut.proofs.ContentLaws.{holds-content}
 use Rattle.part_at.specs.declared.PartPlace.{PartPlace}
@@ -29,11 +28,6 @@ use Rattle.result_rules.proofs.GoodLaws.{GoodUnit}
 use Rattle.set_result.specs.SetUnit.{set-part, unit-with, size-with}
 use Rattle.set_result.proofs.PieceLaws.{set-long}
 use Rattle.set_result.proofs.CountLaws.{holds-bytes}
-
-state-good : (st : ℕ) (h : Head) → state-fits h st ≡ true → GoodHead h → GoodHead (with-state st h)
-unfolding state-fits with-state
-state-good st (segment i c s) e g = (g .0, e)
-state-good st (ignorable i) e g = tt
 
 -- bytes that are a content
 module _ (c : List ℕ) (h : (i : ℕ) → Fits w8 (getD c i 0)) (cf : content-fault c ≡ none) where
