@@ -6,13 +6,9 @@
 //! place, and all of `out` is as it was.
 
 mod raw;
+mod reason;
 
-/// "refused with a number and a place".
-#[derive(Clone, Copy, Debug, PartialEq, Eq)]
-pub struct Refusal {
-    pub number: u8,
-    pub place: usize,
-}
+pub use reason::{Reason, Refusal};
 
 /// "either accepted with a length, or refused".
 pub type Answer = Result<usize, Refusal>;
@@ -90,8 +86,8 @@ pub fn rewrite(table: &[u8], side: u8, id: u16, form: u8, out: &mut [u8]) -> Ans
 fn answer(call: impl FnOnce(*mut u8, *mut usize) -> bool) -> Answer {
     let (mut number, mut value) = (0, 0);
     if call(&mut number, &mut value) {
-        Ok(value)
-    } else {
-        Err(Refusal { number, place: value })
+        return Ok(value);
     }
+    let reason = Reason::of_number(number).expect("the proved desk refuses by 1 to 21");
+    Err(Refusal { reason, place: value })
 }

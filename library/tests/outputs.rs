@@ -5,10 +5,16 @@ use second::desk::read_request;
 use second::generate::{job, Random};
 use second::operations::Operation;
 use second::MOST_BYTES;
-use xliff_desk::{Answer, Refusal};
+use xliff_desk::{Answer, Reason, Refusal};
 
 const SEED: u64 = 7;
 const JOBS: u64 = 4000;
+
+/// The second implementation's refusal as the library tells it.
+fn told(refusal: second::Refusal) -> Refusal {
+    let reason = Reason::of_number(refusal.number as u8).expect("a number of document 01");
+    Refusal { reason, place: refusal.place }
+}
 
 fn number(bytes: &[u8], at: usize) -> u16 {
     u16::from_be_bytes([bytes[at], bytes[at + 1]])
@@ -42,7 +48,7 @@ fn compare(table: &[u8], request: &[u8], room: usize) {
             expected[..result.len()].copy_from_slice(&result);
             Ok(result.len())
         }
-        Err(refusal) => Err(Refusal { number: refusal.number as u8, place: refusal.place }),
+        Err(refusal) => Err(told(refusal)),
     };
     let context = || format!("table {table:02X?}, request {request:02X?}, room {room}");
     assert_eq!(answer, expected_answer, "{}", context());
@@ -81,9 +87,7 @@ fn checks_agree() {
     for number in 0..JOBS {
         let (_, job) = job(SEED + 1, number, &[]);
         let table = &job[..second::desk::table_length(&job)];
-        let expected = second::rules::check(table)
-            .map(|_| table.len())
-            .map_err(|refusal| Refusal { number: refusal.number as u8, place: refusal.place });
+        let expected = second::rules::check(table).map(|_| table.len()).map_err(told);
         assert_eq!(xliff_desk::check(table), expected, "{table:02X?}");
     }
 }

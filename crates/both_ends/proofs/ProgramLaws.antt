@@ -6,6 +6,8 @@ use mathlib.Core.List.{List, [], _∷_, _++_, append-assoc}
 use mathlib.Core.Option.{Option, none, some}
 use native.Mathlib.Omega.{arith}
 use lib.ListN.{length, take, drop, getD}
+use mir.Val.{Fits}
+use mir.Syntax.{w8}
 use Rattle.xliff.specs.Bytes.{Bytes, no-bytes, one-byte, two-at, enough, gather}
 use Rattle.xliff.specs.Answer.{answer}
 use Rattle.xliff.specs.Parse.{is}
@@ -16,7 +18,8 @@ use Rattle.xliff.specs.BothEnds.{Demand-3}
 use Rattle.xliff.proofs.lists.Tests.{byte-at}
 use Rattle.xliff.proofs.unit.Table.{bytes-drop}
 use Rattle.xliff.proofs.both_ends.Demand3.{both-ends}
-use Rattle.both_ends.specs.Received.{sent, calls-from, calls, unreadable-from, unreadable, Demand-3-of-the-program}
+use Rattle.part_contents.proofs.HoldLaws.{bytes-known}
+use Rattle.both_ends.specs.Received.{job-of, sent, calls-from, calls, unreadable-from, unreadable, Meets, Demand-3-of-the-program}
 
 bytes-take : (n : ℕ) (s : List ℕ) → Bytes s → Bytes (take n s)
 bytes-take zero s h = no-bytes
@@ -66,9 +69,6 @@ calls-given (suc f) (b ∷ s) h = by (request (b ∷ s)) (request-given (b ∷ s
     by (some r) g rest = one-call g (rest (r .size))
 
 -- What is printed: the answers, an unreadable request's line, the table
-every : Call → Bool
-every c = true
-
 printed : ℕ → List ℕ → ℕ → List ℕ → List ℕ
 printed f t at s = gather line (answers t (calls-from f s)) ++ (unreadable-from f at s ++ table-line (after t (calls-from f s)))
 
@@ -85,19 +85,34 @@ lines-are (suc f) t at (b ∷ s) = by (request (b ∷ s)) refl (λ u i k. lines-
         (ap (λ (l : List ℕ). line (answer (outcome t (r .call))) ++ l) (rest (left t (r .call)) (at + r .size) (r .size))
         ∙ sym (append-assoc (line (answer (outcome t (r .call)))) (gather line (answers (left t (r .call)) (calls-from f (drop (r .size) (b ∷ s))))) _))
 
-desk-prints : (job : List ℕ) → take most-job job ≡ job → Valid (sent job)
-    → desk job ≡ gather line (answers (sent job) (calls job)) ++ (unreadable job ++ table-line (after (sent job) (calls job)))
-unfolding desk desk-with desk-job Valid sent calls unreadable printed
-desk-prints job e v =
-    ap (desk-job (λ c. true)) e
-    ∙ rw (desk-job, v) (lines-are (length job) (take (table-length job) job) (table-length job) (drop (table-length job) job))
+bytes-job : (input : List ℕ) → Bytes input → Bytes (job-of input)
+unfolding job-of
+bytes-job input h = bytes-take most-job input h
+
+bytes-sent : (job : List ℕ) → Bytes job → Bytes (sent job)
+unfolding sent
+bytes-sent job h = bytes-take (table-length job) job h
+
+given-calls : (job : List ℕ) → Bytes job → AllGiven (calls job)
+unfolding calls
+given-calls job h = calls-given (length job) (drop (table-length job) job) (bytes-drop (table-length job) job h)
+
+desk-prints : (input : List ℕ) → Valid (sent (job-of input))
+    → desk input ≡ gather line (answers (sent (job-of input)) (calls (job-of input))) ++ (unreadable (job-of input) ++ table-line (after (sent (job-of input)) (calls (job-of input))))
+unfolding desk desk-with desk-job Valid sent calls unreadable printed job-of
+desk-prints input v =
+    rw (desk-job, v)
+    (lines-are (length (take most-job input)) (take (table-length (take most-job input)) (take most-job input)) (table-length (take most-job input)) (drop (table-length (take most-job input)) (take most-job input)))
 
 -- DEMAND 3, OF THE PROGRAM
 pub program-both-ends : Demand-3-of-the-program
-unfolding Demand-3 Demand-3-of-the-program sent calls
-program-both-ends job h e v =
+unfolding Demand-3 Demand-3-of-the-program
+program-both-ends input h v =
     record {
-      prints = desk-prints job e v;
-      both-ends = both-ends (take (table-length job) job) (calls-from (length job) (drop (table-length job) job)) (bytes-take (table-length job) job h)
-          (calls-given (length job) (drop (table-length job) job) (bytes-drop (table-length job) job h)) v;
+      prints = desk-prints input v;
+      both-ends = both-ends (sent (job-of input)) (calls (job-of input)) (bytes-sent (job-of input) (bytes-job input h)) (given-calls (job-of input) (bytes-job input h)) v;
     }
+
+pub input-meets : (input : List ℕ) → ((i : ℕ) → Fits w8 (getD input i 0)) → Meets input
+unfolding Demand-3-of-the-program Meets
+input-meets input h = program-both-ends input (bytes-known input h)

@@ -11,6 +11,10 @@ use Rattle.xliff.specs.Calls.{Call, after, answers}
 use Rattle.xliff.specs.Desk.{table-length, request, line, table-line, most-job, desk}
 use Rattle.xliff.specs.BothEnds.{BothEnds}
 
+-- "It reads a job of at most 65,535 bytes (later input is not read)"
+unfoldable pub job-of : List ℕ → List ℕ
+job-of input = take most-job input
+
 -- the table of a job
 unfoldable pub sent : List ℕ → List ℕ
 sent job = take (table-length job) job
@@ -33,12 +37,18 @@ unreadable-from (suc n) at (b ∷ s) = elim (request (b ∷ s)) [ none ↦ line 
 unfoldable pub unreadable : List ℕ → List ℕ
 unreadable job = unreadable-from (length job) (table-length job) (drop (table-length job) job)
 
-pub record Received (job : List ℕ) : Type 0 where
+-- what the Merger receives of an input
+pub record Received (input : List ℕ) : Type 0 where
   -- the program prints the answers of the list of calls, and last the table after it
-  pub prints : desk job ≡ gather line (answers (sent job) (calls job)) ++ (unreadable job ++ table-line (after (sent job) (calls job)))
+  pub prints : desk input
+      ≡ gather line (answers (sent (job-of input)) (calls (job-of input))) ++ (unreadable (job-of input) ++ table-line (after (sent (job-of input)) (calls (job-of input))))
   -- "Both ends", of that list
-  pub both-ends : BothEnds (sent job) (calls job)
+  pub both-ends : BothEnds (sent (job-of input)) (calls (job-of input))
 
--- For every job of bytes that the program reads whole and whose table is valid
+-- For every input of bytes whose table is valid
 unfoldable pub Demand-3-of-the-program : Type 0
-Demand-3-of-the-program = (job : List ℕ) → Bytes job → take most-job job ≡ job → Valid (sent job) → Received job
+Demand-3-of-the-program = (input : List ℕ) → Bytes input → Valid (sent (job-of input)) → Received input
+
+-- the same of one input, whose bytes the program has read
+unfoldable pub Meets : List ℕ → Type 0
+Meets input = Valid (sent (job-of input)) → Received input
