@@ -32,8 +32,8 @@ fn measure_unit(unit: &Unit) {
     row(
         unit,
         "split",
-        || ok(xliff_desk::split(table, 1, 3, 1, 900, out)),
-        || plain::split(table, 1, 3, 1, 900, ROOM).is_ok(),
+        || ok(xliff_desk::split(table, 1, 3, 0, 900, out)),
+        || plain::split(table, 1, 3, 0, 900, ROOM).is_ok(),
     );
     row(
         unit,
