@@ -59,6 +59,28 @@ fn measure_unit(unit: &Unit) {
         || ok(xliff_desk::rewrite(table, b'S', *pair, b'S', out)),
         || plain::rewrite(table, b'S', *pair, b'S', ROOM).is_ok(),
     );
+    let job = five_requests(unit);
+    row(
+        unit,
+        "five requests",
+        || xliff_desk::job(&job).len() > 5,
+        || second::desk::desk(&job, &plain::Operation::ALL).len() > 5,
+    );
+}
+
+/// A job with one request of each operation.
+fn five_requests(unit: &Unit) -> Vec<u8> {
+    let pair = unit.pair.to_be_bytes();
+    [
+        unit.table.as_slice(),
+        b"SP\0\x01\0\x03\0\0\x03\x84",
+        b"JN\0\x01",
+        &[b"ST\0\x01T", (unit.content.len() as u16).to_be_bytes().as_slice(), &unit.content]
+            .concat(),
+        b"RT\0\x01",
+        &[b"RWS".as_slice(), &pair, b"S"].concat(),
+    ]
+    .concat()
 }
 
 fn ok(answer: xliff_desk::Answer) -> bool {

@@ -83,6 +83,16 @@ pub fn rewrite(table: &[u8], side: u8, id: u16, form: u8, out: &mut [u8]) -> Ans
     })
 }
 
+/// What the desk program prints for a job: a line for each request, and last the table in
+/// hexadecimal.
+pub fn job(job: &[u8]) -> Vec<u8> {
+    // No job prints more than this.
+    let mut out = vec![0; 1_048_576];
+    let length = unsafe { raw::xliff_desk_job(job.as_ptr(), job.len(), out.as_mut_ptr()) };
+    out.truncate(length);
+    out
+}
+
 fn answer(call: impl FnOnce(*mut u8, *mut usize) -> bool) -> Answer {
     let (mut number, mut value) = (0, 0);
     if call(&mut number, &mut value) {

@@ -92,6 +92,15 @@ fn checks_agree() {
     }
 }
 
+#[test]
+fn jobs_agree() {
+    for number in 0..JOBS / 4 {
+        let (_, job) = job(SEED + 2, number, &Operation::ALL);
+        let expected = second::desk::desk(&job, &Operation::ALL);
+        assert!(xliff_desk::job(&job) == expected, "job {number} of seed {}", SEED + 2);
+    }
+}
+
 /// A table whose bytes are random, lent to each operation: nothing faults, all is refused by
 /// the check's number.
 #[test]

@@ -8,7 +8,10 @@ ghost use Rattle.xliff.specs.Join.{join};
 ghost use Rattle.xliff.specs.SetTarget.{set-target};
 ghost use Rattle.xliff.specs.RemoveTarget.{remove-target};
 ghost use Rattle.xliff.specs.Rewrite.{rewrite};
+ghost use Rattle.xliff.specs.Desk.{desk};
 ghost use Rattle.answers.specs.Answers.{answer-meaning};
+ghost use Rattle.writer.specs.Pieces.{lead};
+ghost use Rattle.both_ends.specs.Received.{Meets};
 ghost use Rattle.desk_library.specs.Told.{told, Tells};
 
 fn tell(a: Answer, number: &mut u8, value: &mut usize) -> bool
@@ -110,4 +113,13 @@ pub extern "C" fn xliff_desk_rewrite(
 {
     let a = rewrite::rewrite(table, side, id, form, out);
     tell(a, number, value)
+}
+
+// What the desk program prints for a job, at the head of `out`; its length.
+#[no_mangle]
+pub extern "C" fn xliff_desk_job(job: &[u8], out: &mut [u8; 1048576]) -> usize
+    ensures { λ r. ⌜ (r ≡ length (desk (now (job .entry)))) × (now (out .exit) ≡ lead (desk (now (job .entry))) (now (out .entry))) ⌝ }
+    ensures meets { λ r. ⌜ Meets (now (job .entry)) ⌝ }
+{
+    both_ends::run(job, out)
 }
