@@ -8,7 +8,7 @@ use native.Mathlib.Omega.{arith}
 use lib.ListN.{length, take, drop, getD}
 use mir.Val.{Fits}
 use mir.Syntax.{w8}
-use Rattle.xliff.specs.Bytes.{Bytes, no-bytes, one-byte, two-at, enough, gather}
+use Rattle.xliff.specs.Bytes.{Bytes, two-at, enough, gather}
 use Rattle.xliff.specs.Answer.{answer}
 use Rattle.xliff.specs.Parse.{is}
 use Rattle.xliff.specs.Check.{Valid}
@@ -18,13 +18,8 @@ use Rattle.xliff.specs.BothEnds.{Demand-3}
 use Rattle.xliff.proofs.lists.Tests.{byte-at}
 use Rattle.xliff.proofs.unit.Table.{bytes-drop}
 use Rattle.xliff.proofs.both_ends.Demand3.{both-ends}
-use Rattle.part_contents.proofs.HoldLaws.{bytes-known}
+use Rattle.part_contents.proofs.HoldLaws.{bytes-known, bytes-take}
 use Rattle.both_ends.specs.Received.{job-of, sent, calls-from, calls, unreadable-from, unreadable, Meets, Demand-3-of-the-program}
-
-bytes-take : (n : ℕ) (s : List ℕ) → Bytes s → Bytes (take n s)
-bytes-take zero s h = no-bytes
-bytes-take (suc n) [] h = no-bytes
-bytes-take (suc n) (b ∷ s) (one-byte p h) = one-byte p (bytes-take n s h)
 
 two-small : (s : List ℕ) (i : ℕ) → Bytes s → two-at s i < 65536
 unfolding two-at

@@ -19,6 +19,3 @@ Room f c o = (xs : Content) × Holds c xs × (length (content-bytes (f xs)) ≤ 
 -- the answer n and the output l are those of what f makes of the content
 abbrev pub Wrote : (Content → Content) → List ℕ → List ℕ → ℕ → List ℕ → Type 0
 Wrote f c o n l = (xs : Content) → Holds c xs → (n ≡ length (content-bytes (f xs))) × (l ≡ lead (content-bytes (f xs)) o)
-
-abbrev pub Long : (Content → Content) → List ℕ → ℕ → Type 0
-Long f c n = (xs : Content) → Holds c xs → n ≡ length (content-bytes (f xs))

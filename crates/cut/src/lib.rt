@@ -1,13 +1,12 @@
 // The two halves of a content that is cut, and two contents joined.
 ghost use mathlib.Core.Path.{_≡_};
-ghost use mathlib.Core.List.{[]};
-ghost use Prim.Native.Nat.{_+_, _-_, _<_, _≤_};
+ghost use Prim.Native.Nat.{_+_, _<_, _≤_};
 ghost use lib.ListN.{length};
 ghost use Rattle.writer.specs.Pieces.{lead};
 ghost use Rattle.walk.specs.Kept.{Fair};
 ghost use Rattle.cut.specs.Turned.{startOrEnd, codeOrMark, turnIf, One, CutOne, CutAll, textPiece};
 ghost use Rattle.xliff.specs.Split.{first-items, second-items};
-ghost use Rattle.cut.specs.Halves.{Some, Room, Wrote, Long};
+ghost use Rattle.cut.specs.Halves.{Room, Wrote};
 
 fn start_or_end(b: u8) -> u8
     ensures { λ r. ⌜ r ≡ startOrEnd b ⌝ }
@@ -103,24 +102,4 @@ pub fn put_second(out: &mut [u8], c: &[u8], k: usize) -> usize
     let n = put_text(out, &c[s..e]);
     let m = put_cut(&mut out[n..], &c[e..], &c[..at]);
     n + m
-}
-
-// The lengths of the halves.
-pub fn first_length(c: &[u8], k: usize) -> usize
-    requires { ⌜ Some (now c) ⌝ }
-    ensures { λ r. ⌜ Long (first-items k) (now (c .entry)) r ⌝ }
-{
-    let p = walk::place_of(c, k);
-    if p.into == 0 {
-        return p.at;
-    }
-    p.at + 4 + p.into
-}
-
-pub fn second_length(c: &[u8], k: usize) -> usize
-    requires { ⌜ Some (now c) ⌝ }
-    ensures { λ r. ⌜ Long (second-items k) (now (c .entry)) r ⌝ }
-{
-    let p = walk::place_of(c, k);
-    c.len() - p.at - p.into
 }

@@ -18,7 +18,7 @@ use Rattle.xliff.proofs.unit.Valid.{GoodPart, GoodParts, heads-unit}
 use Rattle.xliff.proofs.unit.Result.{Sent, sent}
 use Rattle.xliff.proofs.operations.SetValid.{some-part}
 use Rattle.xliff.proofs.operations.JoinValid.{part-good, orders-good}
-use Rattle.split_limits.proofs.StandLaws.{bytes-known}
+use Rattle.part_contents.proofs.HoldLaws.{bytes-known}
 use Rattle.split_limits.proofs.SizeLaws.{small-table, table-passes}
 use Rattle.result_rules.proofs.GoodLaws.{GoodUnit}
 use Rattle.join_result.specs.Result.{joined-unit}

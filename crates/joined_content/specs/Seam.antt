@@ -33,9 +33,3 @@ RoomJoined a b o = (xs ys : Content) × Holds a xs × Holds b ys × (length a + 
 
 abbrev pub WroteJoined : List ℕ → List ℕ → List ℕ → ℕ → List ℕ → Type 0
 WroteJoined a b o n l = (xs ys : Content) → Holds a xs → Holds b ys → (n ≡ length (content-bytes (xs ++ ys))) × (l ≡ lead (content-bytes (xs ++ ys)) o)
-
-abbrev pub BothHold : List ℕ → List ℕ → Type 0
-BothHold a b = (xs ys : Content) × Holds a xs × Holds b ys × (length a + length b < 65536)
-
-abbrev pub LongJoined : List ℕ → List ℕ → ℕ → Type 0
-LongJoined a b n = (n ≤ length a + length b) × ((xs ys : Content) → Holds a xs → Holds b ys → n ≡ length (content-bytes (xs ++ ys)))

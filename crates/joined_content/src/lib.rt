@@ -1,10 +1,10 @@
 // Two contents joined.
 ghost use mathlib.Core.Path.{_≡_};
-ghost use Prim.Native.Nat.{_+_, _-_, _<_, _≤_};
+ghost use Prim.Native.Nat.{_+_, _<_, _≤_};
 ghost use lib.ListN.{length};
 ghost use Rattle.walk.specs.Kept.{Fair};
 ghost use Rattle.walk.specs.Marks.{marked};
-ghost use Rattle.joined_content.specs.Seam.{LastOf, SeamOf, BothHold, LongJoined, RoomJoined, WroteJoined};
+ghost use Rattle.joined_content.specs.Seam.{LastOf, SeamOf, RoomJoined, WroteJoined};
 
 // Where the last record of a content begins.
 fn last_of(c: &[u8]) -> usize
@@ -62,16 +62,4 @@ pub fn put_joined(out: &mut [u8], a: &[u8], b: &[u8]) -> usize
     let q = writer::put_number(out, p + 2, x);
     let m = writer::put(&mut out[n..], &b[4..]);
     n + m
-}
-
-// The bytes of both in one.
-pub fn joined_length(a: &[u8], b: &[u8]) -> usize
-    requires { ⌜ BothHold (now a) (now b) ⌝ }
-    ensures { λ r. ⌜ LongJoined (now (a .entry)) (now (b .entry)) r ⌝ }
-{
-    let p = seam(a, b);
-    if p == a.len() {
-        return a.len() + b.len();
-    }
-    a.len() + b.len() - 4
 }

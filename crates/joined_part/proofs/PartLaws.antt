@@ -3,7 +3,7 @@ use Prim.Native.Nat.{ℕ, _+_, _-_, _≤_}
 use mathlib.Core.Path.{_≡_, sym, ap, ap₂, _∙_}
 use mathlib.Core.List.{List, _++_, append-assoc}
 use native.Mathlib.Omega.{arith}
-use lib.ListN.{length, take, drop, length-append, length-drop}
+use lib.ListN.{length, take, drop, length-append}
 use lib.Seq.{take-add, drop-drop}
 use Rattle.xliff.specs.Bytes.{two, gather, Bytes}
 use Rattle.xliff.specs.Unit.{Target, no-target, target, Part}
@@ -13,9 +13,8 @@ use Rattle.xliff.specs.Join.{join-heads, join-parts}
 use Rattle.xliff.proofs.lists.Each.{each-right}
 use Rattle.xliff.proofs.records.Parse.{AllGood}
 use Rattle.places.proofs.Places.{spell-append}
-use Rattle.cut.proofs.HalfLaws.{tail-room, slice-long}
+use Rattle.cut.proofs.HalfLaws.{slice-long}
 use Rattle.writer.specs.Pieces.{lead}
-use Rattle.writer.proofs.PieceLaws.{two-back}
 use Rattle.part_contents.proofs.HoldLaws.{good-rest, holds-slice, good-part, holds-source, target-ends}
 use Rattle.part_at.specs.declared.PartPlace.{PartPlace}
 use Rattle.part_at.specs.Stands.{TargetStands, PartStands}
@@ -106,22 +105,3 @@ module _ (t : List ℕ) (h : Bytes t) (b : List Part) (p : Part) (a : List Part)
   pub targets-wrote : (o : ℕ) (l : List ℕ) (n : ℕ) (z : List ℕ) → WroteTargets o (between t (x .target) (x .end)) (between t (y .target) (y .end)) l n z
       → (n ≡ length (target-bytes o (p .target) (q .target))) × (z ≡ lead (target-bytes o (p .target) (q .target)) l)
   targets-wrote o l n z w = w (p .target) (q .target) (target-slice t h b p a x s) (target-slice t h c q d y u)
-
--- three pieces written one behind the other
-pub lead-length : (a o : List ℕ) → length a ≤ length o → length (lead a o) ≡ length o
-lead-length a o h = omega (arith, length-append a (drop (length a) o), length-drop (length a) o)
-
-pub three-back : (o a b c l y z : List ℕ) (n e : ℕ) → n ≡ length a → l ≡ lead a o → y ≡ lead b (take (length l - n) (drop n l)) → e ≡ n + length b
-    → z ≡ lead c (take (length (take n l ++ (y ++ drop (length l - n) (drop n l))) - e) (drop e (take n l ++ (y ++ drop (length l - n) (drop n l)))))
-    → take e (take n l ++ (y ++ drop (length l - n) (drop n l))) ++ (z ++ drop (length (take n l ++ (y ++ drop (length l - n) (drop n l))) - e) (drop e (take n l ++ (y ++ drop (length l - n) (drop n l)))))
-    ≡ lead ((a ++ b) ++ c) o
-three-back o a b c l y z n e h k u v w =
-    two-back o (a ++ b) c (take n l ++ (y ++ drop (length l - n) (drop n l))) z e
-    (v ∙ ap (λ (m : ℕ). m + length b) h ∙ sym (length-append a b)) (two-back o a b l y n h k u) w
-
-pub three-room : (o a b l y : List ℕ) (n e m : ℕ) → n ≡ length a → l ≡ lead a o → y ≡ lead b (take (length l - n) (drop n l)) → e ≡ n + length b → e + m ≤ length o
-    → m ≤ length (take (length (take n l ++ (y ++ drop (length l - n) (drop n l))) - e) (drop e (take n l ++ (y ++ drop (length l - n) (drop n l)))))
-three-room o a b l y n e m h k u v w =
-    let x : length (take n l ++ (y ++ drop (length l - n) (drop n l))) ≡ length o =
-    ap length (two-back o a b l y n h k u) ∙ lead-length (a ++ b) o (omega (arith, length-append a b)) in
-    tail-room (take n l ++ (y ++ drop (length l - n) (drop n l))) e m (omega arith)

@@ -22,7 +22,7 @@ pub bytes-known : (s : List ℕ) → ((i : ℕ) → Fits w8 (getD s i 0)) → By
 bytes-known [] h = no-bytes
 bytes-known (b ∷ s) h = let z : Fits w8 b = h 0 in let y : b < 256 = omega arith in one-byte y (bytes-known s (λ i. h (suc i)))
 
-bytes-take : (n : ℕ) (s : List ℕ) → Bytes s → Bytes (take n s)
+pub bytes-take : (n : ℕ) (s : List ℕ) → Bytes s → Bytes (take n s)
 bytes-take zero s h = no-bytes
 bytes-take (suc n) [] h = no-bytes
 bytes-take (suc n) (b ∷ s) (one-byte p h) = one-byte p (bytes-take n s h)

@@ -2,4 +2,3 @@ pub mod InsideLaws
 pub mod OffsetLaws
 pub mod TableLaws
 pub mod CheckLaws
-pub mod FoundLaws

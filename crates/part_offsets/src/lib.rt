@@ -3,7 +3,7 @@ ghost use mathlib.Core.Path.{_≡_};
 ghost use Prim.Native.Nat.{_≤_};
 ghost use lib.ListN.{length};
 ghost use Rattle.parts.specs.Parts.{SomeParts};
-ghost use Rattle.part_offsets.specs.Offsets.{isHead, Begins, PartWidth, OffsetOf, HasPart};
+ghost use Rattle.part_offsets.specs.Offsets.{isHead, Begins, PartWidth, OffsetOf};
 
 // Whether `t` begins with SG or IG.
 fn is_head(t: &[u8]) -> bool
@@ -43,15 +43,4 @@ pub fn offset_of(t: &[u8], k: usize) -> usize
         left -= 1;
     }
     at
-}
-
-// Whether the parts that stand in `t` have a number `n`, counted from 1.
-pub fn has_part(t: &[u8], n: usize) -> bool
-    requires { ⌜ SomeParts (now t) ⌝ }
-    ensures { λ r. ⌜ HasPart (now (t .entry)) n r ⌝ }
-{
-    if n == 0 {
-        return false;
-    }
-    offset_of(t, n - 1) < t.len()
 }

@@ -22,7 +22,7 @@ use Rattle.xliff.proofs.unit.Result.{Sent, sent}
 use Rattle.xliff.proofs.operations.SetValid.{some-part}
 use Rattle.part_at.specs.declared.PartPlace.{PartPlace}
 use Rattle.part_at.specs.Stands.{PartStands}
-use Rattle.split_limits.proofs.StandLaws.{bytes-known}
+use Rattle.part_contents.proofs.HoldLaws.{bytes-known}
 use Rattle.split_limits.proofs.SizeLaws.{small-table, table-passes}
 use Rattle.result_rules.proofs.GoodLaws.{GoodUnit}
 use Rattle.removed_target.specs.Removed.{removed-unit}

@@ -37,7 +37,8 @@ use Rattle.part_at.specs.declared.PartPlace.{PartPlace}
 use Rattle.part_at.specs.Stands.{PartStands}
 use Rattle.split_limits.specs.Cuts.{Checked}
 use Rattle.split_limits.specs.Added.{PartAdded, AddedIs, Placed}
-use Rattle.split_limits.proofs.StandLaws.{bytes-known, the-table}
+use Rattle.part_contents.proofs.HoldLaws.{bytes-known}
+use Rattle.split_limits.proofs.StandLaws.{the-table}
 
 -- the records of parts
 abbrev pub count : List Part → ℕ

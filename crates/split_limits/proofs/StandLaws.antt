@@ -1,5 +1,5 @@
 -- The contents of a part that stands in a table which passes the check.
-use Prim.Native.Nat.{ℕ, suc, _+_, _-_, _<_, _≤_}
+use Prim.Native.Nat.{ℕ, _+_, _-_, _≤_}
 use mathlib.Core.Path.{_≡_, refl, sym, ap₂, subst}
 use mathlib.Core.Bool.{Bool, true, false, not, _||_}
 use mathlib.Core.List.{List, [], _∷_}
@@ -10,7 +10,6 @@ use lib.Dec.{eqb, leb, ltb}
 use borrow.Author.Tests.{lt-ltb, le-ltb, le-leb, lt-leb, ltb-true, ltb-false, leb-true, leb-false}
 use mir.Val.{Fits}
 use mir.Syntax.{w8}
-use Rattle.xliff.specs.Bytes.{Bytes, no-bytes, one-byte}
 use Rattle.xliff.specs.Unit.{Target, no-target, target, Part, target-items}
 use Rattle.xliff.specs.Encode.{content-bytes}
 use Rattle.xliff.specs.Check.{table-refusal, Valid}
@@ -22,12 +21,8 @@ use Rattle.parts.specs.Parts.{GoodTarget, GoodPart}
 use Rattle.part_offsets.specs.Table.{TableOf}
 use Rattle.part_offsets.proofs.CheckLaws.{table-of}
 use Rattle.part_at.specs.declared.PartPlace.{PartPlace}
+use Rattle.part_contents.proofs.HoldLaws.{bytes-known}
 use Rattle.part_at.specs.Stands.{PartStands, TargetStands}
-
--- the elements of a slice of u8 are bytes: `c .shared-slice-known .given` says so of each
-pub bytes-known : (s : List ℕ) → ((i : ℕ) → Fits w8 (getD s i 0)) → Bytes s
-bytes-known [] h = no-bytes
-bytes-known (b ∷ s) h = let z : Fits w8 b = h 0 in let y : b < 256 = omega arith in one-byte y (bytes-known s (λ i. h (suc i)))
 
 each-first : (p : Part) (a : List Part) → Each GoodPart (p ∷ a) → GoodPart p
 each-first p a (each-cons g h) = g

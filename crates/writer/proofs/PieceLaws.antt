@@ -30,10 +30,6 @@ pub tail-back : (out p ys : List ℕ) (n : ℕ) → ys ≡ lead p (take (length 
     → take n out ++ (ys ++ drop (length out - n) (drop n out)) ≡ take n out ++ lead p (drop n out)
 tail-back out p ys n e = rw (e, tail-is, tail-ends, append-nil)
 
-pub range-back : (out p ys : List ℕ) (n : ℕ) → ys ≡ lead p (take (length out - n) (drop n out))
-    → take n out ++ (ys ++ drop (length out - n) (drop n out)) ≡ overlay out n p
-range-back out p ys n e = tail-back out p ys n e ∙ rw (drop-drop, append-assoc)
-
 -- the second piece behind the first
 pub two-back : (out a b xs ys : List ℕ) (n : ℕ) → n ≡ length a → xs ≡ lead a out → ys ≡ lead b (take (length xs - n) (drop n xs))
     → take n xs ++ (ys ++ drop (length xs - n) (drop n xs)) ≡ lead (a ++ b) out

@@ -1,5 +1,5 @@
 -- Pieces written into a lent output.
-use Prim.Native.Nat.{ℕ, _+_, _-_, _/_, _%_}
+use Prim.Native.Nat.{ℕ, _+_, _/_, _%_}
 use mathlib.Core.List.{List, [], _∷_, _++_}
 use lib.ListN.{length, take, drop, getD}
 
@@ -10,10 +10,6 @@ lead piece out = piece ++ drop (length piece) out
 -- the output with a piece from an index on
 abbrev pub overlay : List ℕ → ℕ → List ℕ → List ℕ
 overlay out at piece = take at out ++ piece ++ drop (at + length piece) out
-
--- the bytes from a to b
-abbrev pub part : ℕ → ℕ → List ℕ → List ℕ
-part a b s = take (b - a) (drop a s)
 
 -- a two-byte number, high byte first
 abbrev pub numberBytes : ℕ → List ℕ

@@ -1,9 +1,9 @@
 // Pieces written into a lent output.
 ghost use mathlib.Core.Path.{_≡_};
 ghost use mathlib.Core.List.{[], _∷_};
-ghost use Prim.Native.Nat.{_+_, _-_, _<_, _≤_};
+ghost use Prim.Native.Nat.{_+_, _<_, _≤_};
 ghost use lib.ListN.{length};
-ghost use Rattle.writer.specs.Pieces.{lead, overlay, part, numberBytes, markBytes};
+ghost use Rattle.writer.specs.Pieces.{lead, overlay, numberBytes, markBytes};
 
 // All of `src` at the head of `out`.
 pub fn put(out: &mut [u8], src: &[u8]) -> usize
@@ -25,15 +25,6 @@ pub fn put_byte(out: &mut [u8], at: usize, b: u8) -> usize
 {
     out[at] = b;
     at + 1
-}
-
-// The bytes of `src` from `a` to `b`, from the index `at`; the index behind them.
-pub fn put_range(out: &mut [u8], at: usize, src: &[u8], a: usize, b: usize) -> usize
-    requires { ⌜ (a ≤ b) × (b ≤ length (now src)) × (at + (b - a) ≤ length (now out)) ⌝ }
-    ensures { λ r. ⌜ (r ≡ at + (b - a)) × (now (out .exit) ≡ overlay (now (out .entry)) at (part a b (now (src .entry)))) ⌝ }
-{
-    let n = put(&mut out[at..], &src[a..b]);
-    at + n
 }
 
 // A two-byte number at the index `at`.

@@ -9,7 +9,7 @@ use Rattle.xliff.specs.Parse.{unit}
 use Rattle.writer.specs.Pieces.{lead}
 use Rattle.writer.proofs.PieceLaws.{tail-is}
 use Rattle.cut.proofs.HalfLaws.{tail-room}
-use Rattle.joined_part.proofs.PartLaws.{three-back, three-room}
+use Rattle.halves_of_part.proofs.PartLaws.{three-back, three-room}
 use Rattle.part_offsets.proofs.TableLaws.{table-long}
 use Rattle.split_limits.proofs.StandLaws.{the-table}
 use Rattle.split_limits.proofs.SizeLaws.{table-passes}

@@ -5,7 +5,7 @@ use mathlib.Core.Path.{sym, _∙_, ap}
 use native.Mathlib.Omega.{arith}
 use lib.ListN.{length, take, drop}
 use Rattle.cut.proofs.HalfLaws.{tail-room}
-use Rattle.joined_part.proofs.PartLaws.{three-back, three-room}
+use Rattle.halves_of_part.proofs.PartLaws.{three-back, three-room}
 use Rattle.joined_part.specs.Joined.{part-bytes}
 use Rattle.parts.proofs.OrderLaws.{ordered-length}
 use Rattle.parts.specs.Parts.{moved, ordered}

@@ -1,6 +1,7 @@
 use Rattle.part_contents.proofs.HoldLaws.{bytes-known, target-ends}
-use Rattle.joined_part.proofs.PartLaws.{lead-length}
-use Rattle.joined_part.proofs.PartLaws.{joined-is, joined-long, heads-are, heads-asked, sources-asked, sources-wrote, targets-asked, targets-wrote, three-back, three-room}
+use Rattle.cut.proofs.LoopLaws.{lead-length}
+use Rattle.halves_of_part.proofs.PartLaws.{three-back, three-room}
+use Rattle.joined_part.proofs.PartLaws.{joined-is, joined-long, heads-are, heads-asked, sources-asked, sources-wrote, targets-asked, targets-wrote}
 use Rattle.joined_part.specs.Joined.{target-bytes, part-bytes}
 use Rattle.cut.proofs.HalfLaws.{tail-room}
 use Rattle.writer.specs.Pieces.{lead}
