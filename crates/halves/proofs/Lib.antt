@@ -1,4 +1,4 @@
-pub mod Scans
+pub mod NoHalves
 pub mod Runs
 pub mod Others
 pub mod TwoSequences

@@ -11,8 +11,9 @@ use Rattle.places.specs.Markers.{item-at, is-marked}
 use Rattle.views.specs.Views.{itemsAt}
 use Rattle.keys.specs.Keys.{key, keysAt, otherKey}
 use Rattle.keys.proofs.KeyLaws.{other-key}
-use Rattle.halves.specs.Nearest.{next, previous, others, half-before, half-after, marker-at}
-use Rattle.halves.proofs.Scans.{next-same, previous-same}
+use Rattle.halves.specs.Nearest.{others, half-before, half-after, marker-at}
+use Rattle.id_links.specs.Nearest.{next, previous}
+use Rattle.id_links.proofs.Scans.{next-same, previous-same}
 
 pub length-keys : (t os : List ℕ) → length (keysAt t os) ≡ length os
 unfolding keysAt itemsAt

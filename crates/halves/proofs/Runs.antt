@@ -15,8 +15,9 @@ use Rattle.xliff.specs.Sequences.{items}
 use Rattle.xliff.specs.Rules.{nearest, enclosed, behind-item}
 use Rattle.xliff.proofs.lists.Tests.{any-append, or-none, or-true}
 use Rattle.places.specs.Markers.{placed-at}
-use Rattle.halves.specs.Nearest.{next, previous, run, earlier, marker-at}
-use Rattle.halves.proofs.Scans.{next-low, previous-high}
+use Rattle.halves.specs.Nearest.{run, earlier, marker-at}
+use Rattle.id_links.specs.Nearest.{next, previous}
+use Rattle.id_links.proofs.Scans.{next-low, previous-high}
 
 -- the items of the offsets from an index on
 pub items-run : (t os : List ℕ) (n a : ℕ) → a + n ≡ length os → items (placed-at t (drop a os)) ≡ run (marker-at t os) a n

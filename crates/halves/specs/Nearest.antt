@@ -1,21 +1,12 @@
 -- The nearest other half of a marker, before and after it in its sequence, by the keys of the markers.
 use Prim.Native.Nat.{ℕ, zero, suc, _-_}
-use mathlib.Core.Bool.{Bool, cond}
+use mathlib.Core.Bool.{Bool}
 use mathlib.Core.List.{List, [], _∷_}
 use lib.ListN.{length, getD}
 use Rattle.xliff.specs.Item.{Item}
 use Rattle.places.specs.Markers.{item-at}
 use Rattle.keys.specs.Keys.{otherKey}
-
--- the first of the n indices from a on that passes a test; a + n where none does
-unfoldable pub next : (ℕ → Bool) → ℕ → ℕ → ℕ
-next p a zero = a
-next p a (suc n) = cond (p a) a (next p (suc a) n)
-
--- the last of the indices below i that passes, plus one; 0 where none does
-unfoldable pub previous : (ℕ → Bool) → ℕ → ℕ
-previous p zero = 0
-previous p (suc i) = cond (p i) (suc i) (previous p i)
+use Rattle.id_links.specs.Nearest.{next, previous}
 
 -- of markers with these keys: whether k's is the other half of i's
 abbrev pub others : List ℕ → ℕ → ℕ → Bool

@@ -16,8 +16,9 @@ use Rattle.views.specs.declared.View.{View}
 use Rattle.views.specs.Views.{viewOf}
 use Rattle.keys.specs.Keys.{keysAt, classKey}
 use Rattle.keys.proofs.KeyLaws.{class-key}
-use Rattle.halves.specs.Nearest.{next, previous, half-before, half-after, run, marker-at}
-use Rattle.halves.proofs.Scans.{next-same, next-low}
+use Rattle.halves.specs.Nearest.{half-before, half-after, run, marker-at}
+use Rattle.id_links.specs.Nearest.{next, previous}
+use Rattle.id_links.proofs.Scans.{next-same, next-low}
 use Rattle.halves.proofs.Runs.{items-run, run-split, any-next, any-previous, enclosed-some, enclosed-none}
 use Rattle.halves.proofs.Others.{key-at, before-is, after-is, not-own}
 use Rattle.overlap.specs.Nine.{strayAt, closedStart}

@@ -15,8 +15,9 @@ use Rattle.views.specs.declared.View.{View}
 use Rattle.views.proofs.ViewLaws.{items-at}
 use Rattle.keys.specs.Keys.{keysAt, halfKey, idKey}
 use Rattle.keys.proofs.KeyLaws.{half-key, id-key}
-use Rattle.halves.specs.Nearest.{next, half-after, run, marker-at}
-use Rattle.halves.proofs.Scans.{next-same}
+use Rattle.halves.specs.Nearest.{half-after, run, marker-at}
+use Rattle.id_links.specs.Nearest.{next}
+use Rattle.id_links.proofs.Scans.{next-same}
 use Rattle.halves.proofs.Others.{length-keys, key-at, after-is}
 use Rattle.halves.proofs.Runs.{items-run}
 use Rattle.whole_pair.specs.declared.FoundPair.the-variants.{Complete, Missing}

@@ -11,7 +11,7 @@ ghost use Rattle.xliff.specs.Rewrite.{side-sequence, find-whole};
 ghost use Rattle.places.specs.Passes.{Passes};
 ghost use Rattle.views.specs.Views.{itemsAt};
 ghost use Rattle.keys.specs.Keys.{keysAt};
-ghost use Rattle.halves.specs.Nearest.{next};
+ghost use Rattle.id_links.specs.Nearest.{next};
 ghost use Rattle.whole_pair.specs.Pairs.{pairOf, startsAt};
 
 // Whether its start has the mark of pc or mrk; whether its end's canReorder is not the PC letter.

@@ -1,5 +1,6 @@
-use Rattle.halves.proofs.Scans.{next-hit, next-miss, next-end}
-use Rattle.halves.specs.Nearest.{half-after, next, others}
+use Rattle.id_links.proofs.Scans.{next-hit, next-miss, next-end}
+use Rattle.halves.specs.Nearest.{half-after, others}
+use Rattle.id_links.specs.Nearest.{next}
 use lib.ListN.{length}
 use native.Mathlib.Omega.{arith}
 use mathlib.Core.Path.{_≡_, _∙_, sym, ap}

@@ -1,5 +1,6 @@
-use Rattle.halves.proofs.Scans.{previous-hit, previous-miss, previous-none}
-use Rattle.halves.specs.Nearest.{half-before, previous, others}
+use Rattle.id_links.proofs.Scans.{previous-hit, previous-miss, previous-none}
+use Rattle.halves.specs.Nearest.{half-before, others}
+use Rattle.id_links.specs.Nearest.{previous}
 use native.Mathlib.Omega.{arith}
 use mathlib.Core.Path.{_≡_, _∙_, refl, sym, ap}
 use Prim.Native.Nat.{_≤_}

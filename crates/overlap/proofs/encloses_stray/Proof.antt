@@ -1,7 +1,8 @@
 use Rattle.overlap.proofs.TestLaws.{not-closed, no-end, with-end}
 use Rattle.overlap.specs.Nine.{strayAt}
 use Rattle.halves.proofs.Others.{length-keys}
-use Rattle.halves.specs.Nearest.{half-after, next, earlier, marker-at}
+use Rattle.halves.specs.Nearest.{half-after, earlier, marker-at}
+use Rattle.id_links.specs.Nearest.{next}
 use Rattle.views.specs.Views.{viewOf}
 use Rattle.places.specs.Markers.{item-at}
 use lib.ListN.{length}

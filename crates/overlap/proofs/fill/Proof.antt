@@ -1,4 +1,4 @@
-use Rattle.overlap.proofs.FillLaws.{set-next}
+use Rattle.id_links.proofs.Filled.{set-next}
 use Rattle.halves.specs.Nearest.{half-before, half-after}
 use lib.ListN.{length, getD}
 use native.Mathlib.Omega.{arith}

@@ -1,6 +1,6 @@
 use Rattle.overlap.specs.Nine.{strayKey, strayAt}
-use Rattle.halves.proofs.Scans.{next-hit, next-miss, next-end}
-use Rattle.halves.specs.Nearest.{next}
+use Rattle.id_links.proofs.Scans.{next-hit, next-miss, next-end}
+use Rattle.id_links.specs.Nearest.{next}
 use lib.ListN.{getD}
 use native.Mathlib.Omega.{arith}
 use mathlib.Core.Path.{_≡_, _∙_, refl, sym, ap₂}

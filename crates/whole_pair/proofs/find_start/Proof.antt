@@ -3,8 +3,8 @@ use mathlib.Core.Path.{_≡_, _∙_, sym, ap}
 use native.Mathlib.Omega.{arith}
 use lib.ListN.{length}
 use Rattle.whole_pair.specs.Pairs.{startsAt}
-use Rattle.halves.specs.Nearest.{next}
-use Rattle.halves.proofs.Scans.{next-hit, next-miss, next-end}
+use Rattle.id_links.specs.Nearest.{next}
+use Rattle.id_links.proofs.Scans.{next-hit, next-miss, next-end}
 use borrow.Author.Needs.{needs}
 use Rattle.whole_pair.proofs.find_start.Statement.{statement}
 use Rattle.whole_pair.proofs.find_start.Tie as tie

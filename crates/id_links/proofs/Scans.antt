@@ -1,14 +1,9 @@
 -- The scans for the nearest index that passes a test, one step each.
-use Prim.Native.Nat.{ℕ, zero, suc, _+_, _-_, _/_, _≤_, _<_}
+use Prim.Native.Nat.{ℕ, zero, suc, _+_, _-_, _≤_, _<_}
 use mathlib.Core.Path.{_≡_, refl, ap, _∙_, subst}
 use mathlib.Core.Bool.{Bool, true, false, cond}
-use mathlib.Core.List.{List}
 use native.Mathlib.Omega.{arith}
-use lib.ListN.{length, getD}
-use lib.Dec.{eqb}
-use Rattle.xliff.proofs.lists.Tests.{and-false}
-use Rattle.keys.specs.Keys.{halfKey, otherKey}
-use Rattle.halves.specs.Nearest.{next, previous, others, half-before, half-after}
+use Rattle.id_links.specs.Nearest.{next, previous}
 
 module _ (p : ℕ → Bool) (m j : ℕ) where
   pub next-hit : j < m → p j ≡ true → next p j (m - j) ≡ j
@@ -87,25 +82,53 @@ module _ (p q : ℕ → Bool) where
       by : (b c : Bool) → b ≡ c → previous p i ≡ previous q i → cond b (suc i) (previous p i) ≡ cond c (suc i) (previous q i)
       by b c e ih = rw (e, ih)
 
--- what is no half has no other half
-no-other : (x y : ℕ) → halfKey x ≡ 0 → otherKey x y ≡ false
-no-other x y e = rw (e, and-false (eqb (x / 8) (y / 8)))
-
-previous-never : (p : ℕ → Bool) → ((k : ℕ) → p k ≡ false) → (i : ℕ) → previous p i ≡ 0
+-- a test that nothing passes
+pub previous-never : (p : ℕ → Bool) → ((k : ℕ) → p k ≡ false) → (i : ℕ) → previous p i ≡ 0
 unfolding previous
 previous-never p h zero = refl
 previous-never p h (suc i) = rw (h i) (previous-never p h i)
 
-next-never : (p : ℕ → Bool) → ((k : ℕ) → p k ≡ false) → (a n : ℕ) → next p a n ≡ a + n
+pub next-never : (p : ℕ → Bool) → ((k : ℕ) → p k ≡ false) → (a n : ℕ) → next p a n ≡ a + n
 unfolding next
 next-never p h a zero = omega arith
 next-never p h a (suc n) = rw (h a) (next-never p h (suc a) n ∙ (let z : suc a + n ≡ a + suc n = omega arith in z))
 
-pub no-half-before : (keys : List ℕ) (i : ℕ) → halfKey (getD keys i 0) ≡ 0 → half-before keys i ≡ 0
-unfolding half-before
-no-half-before keys i e = previous-never (others keys i) (λ k. no-other (getD keys i 0) (getD keys k 0) e) i
+-- the index found passes
+pub previous-passes : (p : ℕ → Bool) (i : ℕ) → 0 < previous p i → p (previous p i - 1) ≡ true
+unfolding previous
+previous-passes p zero h = absurd (omega (arith, h))
+previous-passes p (suc i) h = by (p i) refl h (previous-passes p i)
+  where
+    by : (b : Bool) → p i ≡ b → 0 < cond b (suc i) (previous p i) → (0 < previous p i → p (previous p i - 1) ≡ true) → p (cond b (suc i) (previous p i) - 1) ≡ true
+    by true e l ih = ap p (let z : suc i - 1 ≡ i = omega arith in z) ∙ e
+    by false e l ih = ih l
 
-pub no-half-after : (keys : List ℕ) (i : ℕ) → i < length keys → halfKey (getD keys i 0) ≡ 0 → half-after keys i ≡ length keys
-unfolding half-after
-no-half-after keys i l e =
-    next-never (others keys i) (λ k. no-other (getD keys i 0) (getD keys k 0) e) (suc i) (length keys - suc i) ∙ (let z : suc i + (length keys - suc i) ≡ length keys = omega arith in z)
+pub next-passes : (p : ℕ → Bool) (a n : ℕ) → next p a n < a + n → p (next p a n) ≡ true
+unfolding next
+next-passes p a zero h = absurd (omega (arith, h))
+next-passes p a (suc n) h = by (p a) refl h (λ l. next-passes p (suc a) n l)
+  where
+    by : (b : Bool) → p a ≡ b → cond b a (next p (suc a) n) < a + suc n → (next p (suc a) n < suc a + n → p (next p (suc a) n) ≡ true) → p (cond b a (next p (suc a) n)) ≡ true
+    by true e l ih = e
+    by false e l ih = ih (omega (arith, l))
+
+-- a search may pass over what fails a wider test
+module _ (p q : ℕ → Bool) (wider : (k : ℕ) → q k ≡ false → p k ≡ false) where
+  pub previous-past : (i : ℕ) → previous p i ≡ previous p (previous q i)
+  unfolding previous
+  previous-past zero = refl
+  previous-past (suc i) = by (q i) refl (previous-past i)
+    where
+      by : (b : Bool) → q i ≡ b → previous p i ≡ previous p (previous q i) → previous p (suc i) ≡ previous p (cond b (suc i) (previous q i))
+      by true e ih = refl
+      by false e ih = rw (wider i e) ih
+
+  pub next-past : (a n : ℕ) → next p a n ≡ next p (next q a n) (a + n - next q a n)
+  unfolding next
+  next-past a zero = ap (next p a) (let z : 0 ≡ a + 0 - a = omega arith in z)
+  next-past a (suc n) = by (q a) refl (next-past (suc a) n)
+    where
+      by : (b : Bool) → q a ≡ b → next p (suc a) n ≡ next p (next q (suc a) n) (suc a + n - next q (suc a) n)
+          → next p a (suc n) ≡ next p (cond b a (next q (suc a) n)) (a + suc n - cond b a (next q (suc a) n))
+      by true e ih = ap (next p a) (let z : suc n ≡ a + suc n - a = omega arith in z)
+      by false e ih = rw (wider a e) (ih ∙ ap (next p (next q (suc a) n)) (let z : suc a + n - next q (suc a) n ≡ a + suc n - next q (suc a) n = omega arith in z))

@@ -1,0 +1,4 @@
+pub mod Scans
+pub mod Filled
+pub mod Chains
+pub mod After
