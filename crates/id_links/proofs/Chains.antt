@@ -1,19 +1,19 @@
 -- Laws of linked keys: one key more, and what a search along the links passes over.
-use Prim.Native.Nat.{ℕ, zero, suc, _+_, _-_, _/_, _≤_, _<_}
-use mathlib.Core.Path.{_≡_, refl, sym, ap, ap₂, _∙_, subst}
+use Prim.Native.Nat.{ℕ, zero, suc, _+_, _-_, _≤_, _<_}
+use mathlib.Core.Path.{_≡_, refl, sym, ap, _∙_, subst}
 use mathlib.Core.Bool.{Bool, true, false, _||_, cond, true≢false}
 use mathlib.Core.List.{List, [], _∷_, _++_}
 use native.Mathlib.Omega.{arith}
 use borrow.Author.Count.{below-more}
-use borrow.Author.Tests.{eq-eqb, ne-eqb, eqb-true}
+use borrow.Author.Tests.{eq-eqb, eqb-true}
 use lib.Dec.{eqb}
 use lib.ListN.{length, getD, set, take, length-append, length-set, List·getD-append}
 use lib.Seq.{getD-set-same, getD-set-other, getD-append-seam, take-suc, take-all, length-take-le}
 use Rattle.xliff.specs.Bytes.{any}
 use Rattle.xliff.proofs.lists.Tests.{any-append, or-none, or-true}
-use Rattle.id_links.specs.Nearest.{next, previous}
+use Rattle.id_links.specs.Nearest.{previous}
 use Rattle.id_links.specs.Links.{group, in-group, Linked, Headed}
-use Rattle.id_links.proofs.Scans.{previous-same, previous-high, previous-past}
+use Rattle.id_links.proofs.Scans.{previous-same}
 
 module _ (keys : List ℕ) (k : ℕ) where
   -- what stands before the last key

@@ -1,13 +1,11 @@
 -- Laws of ids as numbers.
-use Prim.Native.Nat.{ℕ, zero, suc, _+_, _-_, _≤_, _<_}
+use Prim.Native.Nat.{ℕ, _-_, _≤_}
 use mathlib.Core.Path.{_≡_, refl, _∙_, ap, ap₂}
-use mathlib.Core.Bool.{Bool, true, false, _||_, cond}
-use mathlib.Core.List.{List, [], _∷_}
+use mathlib.Core.Bool.{cond}
+use mathlib.Core.List.{[], _∷_}
 use native.Mathlib.Omega.{arith}
 use borrow.Author.Tests.{eq-eqb, ne-eqb}
-use lib.ListN.{length, drop, getD, drop-of-length-le}
 use lib.Dec.{eqb}
-use Rattle.xliff.specs.Bytes.{any}
 use Rattle.xliff.specs.Rules.{Owner, of-part, start-name}
 use Rattle.xliff.specs.Item.{Half, start, end, Fields, isolated, class, half, id-of}
 use Rattle.ids.specs.Keys.{owner, Keyed, named}
@@ -26,23 +24,6 @@ named-none at = refl
 pub part-owner : owner 1 ≡ of-part
 unfolding owner
 part-owner = refl
-
--- some element from an index on passes a test
-drop-first : (p : ℕ → Bool) (l : List ℕ) (i : ℕ) → i < length l → any p (drop i l) ≡ p (getD l i 0) || any p (drop (suc i) l)
-unfolding any
-drop-first p [] i h = absurd (omega arith)
-drop-first p (x ∷ l) zero h = refl
-drop-first p (x ∷ l) (suc i) h = drop-first p l i (omega arith)
-
-pub any-on : (p : ℕ → Bool) (l : List ℕ) (i : ℕ) → i < length l → p (getD l i 0) ≡ true → any p (drop i l) ≡ true
-any-on p l i h e = drop-first p l i h ∙ rw e
-
-pub any-off : (p : ℕ → Bool) (l : List ℕ) (i : ℕ) → i < length l → p (getD l i 0) ≡ false → any p (drop i l) ≡ any p (drop (i + 1) l)
-any-off p l i h e = drop-first p l i h ∙ rw e (ap (λ (k : ℕ). any p (drop k l)) (let z : suc i ≡ i + 1 = omega arith in z))
-
-pub any-end : (p : ℕ → Bool) (l : List ℕ) (i : ℕ) → length l ≤ i → any p (drop i l) ≡ false
-unfolding any
-any-end p l i h = rw (drop-of-length-le l h)
 
 pub head-named : (id k at : ℕ) → (id ≡ 0 → ⊥) → Keyed 1 id k → named k at ≡ cond (eqb id 0) [] (record { owner = of-part; name = id; at = at } ∷ [])
 head-named id k at n e = rw (ne-eqb id 0 n) (named-some 1 id k at (omega arith) e ∙ ap (λ (o : Owner). record { owner = o; name = id; at = at } ∷ []) part-owner)

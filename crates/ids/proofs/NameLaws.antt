@@ -7,6 +7,7 @@ use mathlib.Core.Option.{none}
 use native.Mathlib.Omega.{arith}
 use borrow.Author.Tests.{eqb-true}
 use lib.ListN.{length, take, drop, set}
+use lib.Seq.{take-suc-set}
 use lib.Dec.{eqb}
 use Rattle.xliff.specs.Bytes.{any}
 use Rattle.xliff.specs.Answer.{refusal}
@@ -26,7 +27,7 @@ use Rattle.orders.proofs.WalkLaws.{Stepped}
 use Rattle.ids.specs.Keys.{owner, named, clashTest, ReadKeyed, ownerOf}
 
 unfoldable pub named-key : ℕ → Named
-named-key k = record { owner = owner (k / 65536); name = k % 65536; at = 0 }
+named-key k = record { owner = owner (k % 64); name = k / 64; at = 0 }
 
 -- the stored numbers are the ids met
 unfoldable pub Met : List ℕ → ℕ → List Named → Type 0
@@ -52,9 +53,9 @@ share-same m n = by (eqb m 2) (eqb m 3) (eqb n 2) (eqb n 3) refl refl refl refl
     by false true false false p q r s = refl
     by false false c d p q r s = refl
 
-clash-same : (a at b : ℕ) → clashes (record { owner = owner (a / 65536); name = a % 65536; at = at }) (named-key b) ≡ clashTest a b
+clash-same : (a at b : ℕ) → clashes (record { owner = owner (a % 64); name = a / 64; at = at }) (named-key b) ≡ clashTest a b
 unfolding clashes named-key
-clash-same a at b = ap (λ (s : Bool). eqb (a % 65536) (b % 65536) && not s) (share-same (a / 65536) (b / 65536))
+clash-same a at b = ap (λ (s : Bool). eqb (a / 64) (b / 64) && not s) (share-same (a % 64) (b % 64))
 
 any-same : {A : Type 0} (p q : A → Bool) → ((x : A) → p x ≡ q x) → (l : List A) → any p l ≡ any q l
 unfolding any
@@ -63,20 +64,15 @@ any-same p q e (x ∷ l) = ap₂ _||_ (e x) (any-same p q e l)
 
 -- an id clashes with one that was met
 hits : (a at n : ℕ) (keys : List ℕ) (met : List Named) → Met keys n met
-    → any (clashes (record { owner = owner (a / 65536); name = a % 65536; at = at })) met ≡ any (clashTest a) (take n keys)
+    → any (clashes (record { owner = owner (a % 64); name = a / 64; at = at })) met ≡ any (clashTest a) (take n keys)
 unfolding Met
-hits a at n keys met m = m (record { owner = owner (a / 65536); name = a % 65536; at = at }) ∙ any-same _ _ (clash-same a at) (take n keys)
+hits a at n keys met m = m (record { owner = owner (a % 64); name = a / 64; at = at }) ∙ any-same _ _ (clash-same a at) (take n keys)
 
-take-set : (l : List ℕ) (n k : ℕ) → take n (set l n k) ≡ take n l
+pub take-set : (l : List ℕ) (n k : ℕ) → take n (set l n k) ≡ take n l
 take-set [] zero k = refl
 take-set [] (suc n) k = refl
 take-set (x ∷ l) zero k = refl
 take-set (x ∷ l) (suc n) k = ap {B = List ℕ} (λ r. x ∷ r) (take-set l n k)
-
-take-more : (l : List ℕ) (n k : ℕ) → n < length l → take (suc n) (set l n k) ≡ take n l ++ (k ∷ [])
-take-more [] n k h = absurd (omega arith)
-take-more (x ∷ l) zero k h = refl
-take-more (x ∷ l) (suc n) k h = ap {B = List ℕ} (λ r. x ∷ r) (take-more l n k (omega arith))
 
 or-turn : (a b : Bool) → a || b ≡ b || (a || false)
 or-turn true true = refl
@@ -85,13 +81,13 @@ or-turn false true = refl
 or-turn false false = refl
 
 met-more : (keys : List ℕ) (n : ℕ) (met : List Named) → Met keys n met → (k at : ℕ) → n < length keys → (x : Named)
-    → any (clashes x) (record { owner = owner (k / 65536); name = k % 65536; at = at } ∷ met) ≡ any (λ k. clashes x (named-key k)) (take (n + 1) (set keys n k))
+    → any (clashes x) (record { owner = owner (k % 64); name = k / 64; at = at } ∷ met) ≡ any (λ k. clashes x (named-key k)) (take (n + 1) (set keys n k))
 unfolding Met any clashes named-key
 met-more keys n met m k at h x =
     or-turn (clashes x (named-key k)) (any (clashes x) met)
     ∙ ap (λ (b : Bool). b || (clashes x (named-key k) || false)) (m x)
     ∙ sym (any-append (λ k. clashes x (named-key k)) (take n keys) (k ∷ []))
-    ∙ ap (any (λ k. clashes x (named-key k))) (sym (take-more keys n k h) ∙ ap (λ (j : ℕ). take j (set keys n k)) (let z : suc n ≡ n + 1 = omega arith in z))
+    ∙ ap (any (λ k. clashes x (named-key k))) (sym (take-suc-set keys n k h) ∙ ap (λ (j : ℕ). take j (set keys n k)) (let z : suc n ≡ n + 1 = omega arith in z))
 
 module _ (keys : List ℕ) (n : ℕ) (met : List Named) (m : Met keys n met) (k at : ℕ) (rest : List Named) where
   pub name-hit : cond (eqb k 0) false (any (clashTest k) (take n keys)) ≡ true → first-clash met (named k at ++ rest) ≡ refusal 6 at
@@ -99,7 +95,7 @@ module _ (keys : List ℕ) (n : ℕ) (met : List Named) (m : Met keys n met) (k 
   name-hit e = by (eqb k 0) e
     where
       by : (b : Bool) → cond b false (any (clashTest k) (take n keys)) ≡ true
-          → first-clash met (cond b [] (record { owner = owner (k / 65536); name = k % 65536; at = at } ∷ []) ++ rest) ≡ refusal 6 at
+          → first-clash met (cond b [] (record { owner = owner (k % 64); name = k / 64; at = at } ∷ []) ++ rest) ≡ refusal 6 at
       by true e = absurd (true≢false (sym e))
       by false e = rw (hits k at n keys met m ∙ e)
 
@@ -109,10 +105,10 @@ module _ (keys : List ℕ) (n : ℕ) (met : List Named) (m : Met keys n met) (k 
   name-miss h e = by (eqb k 0) e
     where
       by : (b : Bool) → cond b false (any (clashTest k) (take n keys)) ≡ false
-          → (met′ : List Named) × (first-clash met (cond b [] (record { owner = owner (k / 65536); name = k % 65536; at = at } ∷ []) ++ rest) ≡ first-clash met′ rest)
+          → (met′ : List Named) × (first-clash met (cond b [] (record { owner = owner (k % 64); name = k / 64; at = at } ∷ []) ++ rest) ≡ first-clash met′ rest)
           × ((x : Named) → any (clashes x) met′ ≡ any (λ k. clashes x (named-key k)) (take (cond b n (n + 1)) (set keys n k)))
       by true e = (met, refl, λ x. m x ∙ ap (any (λ k. clashes x (named-key k))) (sym (take-set keys n k)))
-      by false e = (record { owner = owner (k / 65536); name = k % 65536; at = at } ∷ met, rw (hits k at n keys met m ∙ e), λ x. met-more keys n met m k at h x)
+      by false e = (record { owner = owner (k % 64); name = k / 64; at = at } ∷ met, rw (hits k at n keys met m ∙ e), λ x. met-more keys n met m k at h x)
 
 -- the owner after a record
 owner-after : (o : ℕ) (cs : List ℕ) (r : Read) → state-after of-source (λ q. of-target) head-name (λ q at. []) start-name no-name (owner o) (meaning cs r) ≡ owner (ownerOf o r)

@@ -22,11 +22,11 @@ owner o = cond (eqb o 2) of-source (cond (eqb o 3) of-target of-part)
 
 -- the number of an owner and an id
 abbrev pub Keyed : ℕ → ℕ → ℕ → Type 0
-Keyed o id k = (k / 65536 ≡ o) × (k % 65536 ≡ id)
+Keyed o id k = (k % 64 ≡ o) × (k / 64 ≡ id)
 
 -- the id that a number is, if it is not 0
 unfoldable pub named : ℕ → ℕ → List Named
-named k at = cond (eqb k 0) [] (record { owner = owner (k / 65536); name = k % 65536; at = at } ∷ [])
+named k at = cond (eqb k 0) [] (record { owner = owner (k % 64); name = k / 64; at = at } ∷ [])
 
 abbrev pub PairKeyed : ℕ → Half → Fields → ℕ → Type 0
 PairKeyed o h f k = (w : spec.Form) (at : ℕ) → named k at ≡ start-name (owner o) (record { item = spec.pair (half h) w (fields f); at = at })
@@ -46,7 +46,7 @@ ReadKeyed o r k = (cs : List ℕ) (at : ℕ) → named k at ≡ found-at of-sour
 
 abbrev pub clashTest : ℕ → ℕ → Bool
 clashTest a b =
-    eqb (a % 65536) (b % 65536) && not (eqb (a / 65536) 2 && eqb (b / 65536) 3 || eqb (a / 65536) 3 && eqb (b / 65536) 2)
+    eqb (a / 64) (b / 64) && not (eqb (a % 64) 2 && eqb (b % 64) 3 || eqb (a % 64) 3 && eqb (b % 64) 2)
 
 abbrev pub ownerIn : ℕ → Record → ℕ
 ownerIn o (UnitStart c) = o

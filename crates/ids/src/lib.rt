@@ -1,4 +1,4 @@
-// Rule 6. An id and its owner are one number: 65536 times 1 for a part, 2 for the source, 3 for a target, plus the id; 0 is none.
+// Rule 6. An id and its owner are one number: 64 times the id, plus 1 for a part, 2 for the source, 3 for a target; 0 is none.
 use answers::Place;
 use table::Fields;
 use table::Half;
@@ -8,6 +8,7 @@ use table::Record;
 ghost use mathlib.Core.Path.{_≡_};
 ghost use mathlib.Core.Bool.{true, false, cond};
 ghost use Prim.Native.Nat.{_+_, _-_, _*_, _/_, _%_, _<_, _≤_};
+ghost use lib.ListN.{length};
 ghost use lib.Dec.{eqb};
 ghost use Rattle.answers.specs.Answers.{refusal-at};
 ghost use Rattle.xliff.specs.Bytes.{any};
@@ -15,6 +16,7 @@ ghost use Rattle.xliff.specs.Parse.{unit};
 ghost use Rattle.xliff.specs.Rules.{fault-6};
 ghost use Rattle.places.specs.Passes.{Passes};
 ghost use Rattle.ids.specs.Keys.{Keyed, PairKeyed, ItemKeyed, HeadKeyed, RecordKeyed, ReadKeyed, clashTest, ownerIn, ownerOf};
+ghost use Rattle.ids.specs.KeyLinks.{Links, LinkedIf};
 
 fn wide(x: u16) -> u32
     ensures { λ r. ⌜ (r ≡ x) × (r < 65536) ⌝ }
@@ -26,7 +28,7 @@ fn key(o: u32, id: u16) -> u32
     requires { ⌜ o ≤ 3 ⌝ }
     ensures { λ r. ⌜ Keyed o id r ⌝ }
 {
-    o * 65536 + wide(id)
+    wide(id) * 64 + o
 }
 
 fn pair_key(o: u32, h: Half, f: Fields) -> u32
@@ -112,61 +114,70 @@ fn owner_of(o: u32, r: Read) -> u32
 fn clash_with(a: u32, b: u32) -> bool
     ensures { λ r. ⌜ r ≡ clashTest a b ⌝ }
 {
-    if a % 65536 != b % 65536 {
+    if a / 64 != b / 64 {
         return false;
     }
-    let m = a / 65536;
-    let n = b / 65536;
+    let m = a % 64;
+    let n = b % 64;
     !(((m == 2) & (n == 3)) | ((m == 3) & (n == 2)))
 }
 
-// Whether `k` clashes with an earlier one.
-fn clash(keys: &[u32], k: u32) -> bool
+// Whether `k` clashes with an earlier one: along the links of its group.
+fn clash(keys: &[u32], links: &[u16], heads: &[u16], k: u32) -> bool
+    requires { ⌜ Links (now keys) (now links) (now heads) × (length (now keys) ≤ 1024) ⌝ }
     ensures { λ r. ⌜ r ≡ any (clashTest k) (now (keys .entry)) ⌝ }
 {
-    let mut i = 0;
-    while i < keys.len() {
-        if clash_with(k, keys[i]) {
+    let mut j = id_links::wide(heads[id_links::group_of(k)]);
+    while 0 < j {
+        if clash_with(k, keys[j - 1]) {
             return true;
         }
-        i += 1;
+        j = id_links::wide(links[j - 1]);
     }
     false
 }
 
-fn clash_if(keys: &[u32], k: u32) -> bool
+fn clash_if(keys: &[u32], links: &[u16], heads: &[u16], k: u32) -> bool
+    requires { ⌜ Links (now keys) (now links) (now heads) × (length (now keys) ≤ 1024) ⌝ }
     ensures { λ r. ⌜ r ≡ cond (eqb k 0) false (any (clashTest k) (now (keys .entry))) ⌝ }
 {
     if k == 0 {
         return false;
     }
-    clash(keys, k)
+    clash(keys, links, heads, k)
 }
 
-fn count_if(k: u32, n: usize) -> usize
-    requires { ⌜ n < 1024 ⌝ }
-    ensures { λ r. ⌜ r ≡ cond (eqb k 0) n (n + 1) ⌝ }
+// One more key, unless it is 0; how many there are then.
+fn link_if(links: &mut [u16], heads: &mut [u16], n: usize, k: u32) -> usize
+    requires { ⌜ (n < 1024) × (length (now links) ≡ 1024) × (length (now heads) ≡ 256) ⌝ }
+    ensures { λ r. ⌜ (r ≡ cond (eqb k 0) n (n + 1)) × LinkedIf (now (links .entry)) (now (heads .entry)) n k (now (links .exit)) (now (heads .exit)) ⌝ }
 {
-    if k == 0 { n } else { n + 1 }
+    if k == 0 {
+        return n;
+    }
+    id_links::link(links, heads, n, k);
+    n + 1
 }
 
-// Rule 6. Quadratic in the ids: each is compared with those before it.
+// Rule 6. Linear: each id is compared with those before it whose last eight bits are the same; quadratic only if they are of all.
 pub fn rule_6(t: &[u8]) -> Place
     requires { ⌜ Passes (now t) ⌝ }
     ensures { λ r. ⌜ refusal-at 6 r ≡ fault-6 (unit (now (t .entry)) .parts) ⌝ }
 {
     let mut keys = [0u32; 1024];
+    let mut links = [0u16; 1024];
+    let mut heads = [0u16; 256];
     let mut n: usize = 0;
     let mut o: u32 = 2;
     let mut at: usize = 0;
     while at < t.len() {
         let r = table::known_of(&t[at..]);
         let k = key_of(o, r);
-        if clash_if(&keys[..n], k) {
+        if clash_if(&keys[..n], &links, &heads, k) {
             return Place::At(at);
         }
         keys[n] = k;
-        n = count_if(k, n);
+        n = link_if(&mut links, &mut heads, n, k);
         o = owner_of(o, r);
         at += syntax::width_of(r);
     }

@@ -1,28 +1,30 @@
-use Prim.Native.Nat.{ℕ, _≤_, _-_, _+_}
-use lib.Dec.{eqb}
-use mathlib.Core.List.{List, []}
-use mathlib.Core.Path.{_≡_, refl, sym, _∙_, ap, ap₂, subst}
-use native.Mathlib.Omega.{arith}
-use lib.ListN.{length, set, length-set, length-take}
-use Rattle.table.specs.Meaning.{width}
-use Rattle.text.proofs.Laws.{tail-is}
-use Rattle.xliff.specs.Parse.{unit}
-use Rattle.xliff.specs.Encode.{Record, unit-records}
-use Rattle.xliff.specs.Rules.{fault-6, first-clash, Named}
-use Rattle.places.specs.Found.{names-found}
-use Rattle.places.proofs.Places.{At, at-start}
-use Rattle.orders.proofs.WalkLaws.{stepped}
-use Rattle.ids.specs.Keys.{owner, ownerOf}
 use Rattle.ids.proofs.NameLaws.{Met, name-hit, name-miss, owner-bound, count-bound, names-step, names-end, names-start, met-none}
+use Rattle.ids.proofs.LinkLaws.{links-none, links-more}
+use Rattle.ids.specs.KeyLinks.{Links}
+use Rattle.ids.specs.Keys.{owner, ownerOf}
+use Rattle.orders.proofs.WalkLaws.{stepped}
+use Rattle.places.proofs.Places.{At, at-start}
+use Rattle.places.specs.Found.{names-found}
+use Rattle.xliff.specs.Rules.{fault-6, first-clash, Named}
+use Rattle.xliff.specs.Encode.{Record, unit-records}
+use Rattle.xliff.specs.Parse.{unit}
+use Rattle.text.proofs.Laws.{tail-is}
+use Rattle.table.specs.Meaning.{width}
+use lib.ListN.{length, set, take, length-set, length-take}
+use native.Mathlib.Omega.{arith}
+use mathlib.Core.Path.{_≡_, refl, sym, _∙_, ap, ap₂, subst}
+use mathlib.Core.List.{List, []}
+use lib.Dec.{eqb}
+use Prim.Native.Nat.{ℕ, _≤_, _-_, _+_}
 use borrow.Author.Needs.{needs}
 use Rattle.ids.proofs.rule_6.Statement.{statement}
 use Rattle.ids.proofs.rule_6.Tie as tie
 
 abbrev Inv-loop : tie.InvT-loop
-Inv-loop t keys₀ n₀ o₀ at₀ keys n o at = (rs : List Record) × (met : List Named) × At t at rs × (fault-6 (unit t .parts) ≡ first-clash met (names-found (owner o) at rs)) × Met keys n met × (n + length rs ≤ 1024) × (length keys ≡ 1024) × ((1 ≤ o) × (o ≤ 3))
+Inv-loop t keys₀ links₀ heads₀ n₀ o₀ at₀ keys links heads n o at = (rs : List Record) × (met : List Named) × At t at rs × (fault-6 (unit t .parts) ≡ first-clash met (names-found (owner o) at rs)) × Met keys n met × (n + length rs ≤ 1024) × (length keys ≡ 1024) × ((1 ≤ o) × (o ≤ 3)) × Links (take n keys) links heads
 
 abbrev μ-loop : tie.MeasureT-loop
-μ-loop t keys₀ n₀ o₀ at₀ keys n o at = length t - at
+μ-loop t keys₀ links₀ heads₀ n₀ o₀ at₀ keys links heads n o at = length t - at
 
 pub rule-6-spec : {M : Type 1} → statement M
 rule-6-spec =
@@ -30,7 +32,7 @@ rule-6-spec =
     (tie.spec
     Inv-loop
     μ-loop
-    (λ c. (unit-records (unit (c .before .args .t .now)), [], at-start (c .before .args .t .now) (c .before .pre), names-start (c .before .args .t .now), met-none _, omega (arith, c .before .pre .few), refl, (omega arith, omega arith)))
+    (λ c. (unit-records (unit (c .before .args .t .now)), [], at-start (c .before .args .t .now) (c .before .pre), names-start (c .before .args .t .now), met-none _, omega (arith, c .before .pre .few), refl, (omega arith, omega arith), links-none))
     (λ c. search needs)
     (λ c. search needs)
     (λ c. search needs)
@@ -38,14 +40,18 @@ rule-6-spec =
     (λ c κs. c .before .before .before .loop .inv .7)
     (λ c. omega (arith, c .before .before .before .before .loop .inv .5, c .before .before .before .before .loop .inv .6))
     (λ c. omega (arith, length-take (c .before .before .before .before .before .loop .n) (c .before .before .before .before .before .loop .keys), c .before .before .before .before .before .loop .inv .5, c .before .before .before .before .before .loop .inv .6))
-    (λ c κs. search needs)
-    (λ c. let s = stepped (c .before .before .before .before .before .before .before .before .before .args .t .now) (c .before .before .before .before .before .before .before .loop .at) (c .before .before .before .before .before .before .before .loop .inv .0) (c .before .before .before .before .known-of .result) (c .before .before .before .before .before .before .before .loop .inv .2) (c .before .before .before .before .before .before .loop-test .taken) (simp tail-is at (c .before .before .before .before .known-of .ensures)) in sym (c .before .before .before .before .before .before .before .loop .inv .3 ∙ ap (first-clash (c .before .before .before .before .before .before .before .loop .inv .1)) (names-step (c .before .before .before .before .before .before .before .before .before .args .t .now) (c .before .before .before .before .before .before .before .loop .at) (c .before .before .before .before .before .before .before .loop .inv .0) (c .before .before .before .before .known-of .result) s (c .before .before .before .before .before .before .before .loop .o) (c .before .before .before .key-of .result) (c .before .before .before .key-of .ensures)) ∙ name-hit (c .before .before .before .before .before .before .before .loop .keys) (c .before .before .before .before .before .before .before .loop .n) (c .before .before .before .before .before .before .before .loop .inv .1) (c .before .before .before .before .before .before .before .loop .inv .4) (c .before .before .before .key-of .result) (c .before .before .before .before .before .before .before .loop .at) (names-found (owner (ownerOf (c .before .before .before .before .before .before .before .loop .o) (c .before .before .before .before .known-of .result))) (c .before .before .before .before .before .before .before .loop .at + width (c .before .before .before .before .known-of .result)) (s .others)) (sym (c .before .clash-if .ensures) ∙ (c .if1 .taken))))
     (λ c. search needs)
-    (λ c. let s = stepped (c .before .before .before .before .before .before .before .before .before .args .t .now) (c .before .before .before .before .before .before .before .loop .at) (c .before .before .before .before .before .before .before .loop .inv .0) (c .before .before .before .before .known-of .result) (c .before .before .before .before .before .before .before .loop .inv .2) (c .before .before .before .before .before .before .loop-test .taken) (simp tail-is at (c .before .before .before .before .known-of .ensures)) in (omega (arith, c .before .before .before .before .before .before .before .loop .inv .5, c .before .before .before .before .before .before .before .loop .inv .6, ap length (s .split))))
-    (λ c κs. let s = stepped (c .before .before .before .before .before .before .before .before .before .args .t .now) (c .before .before .before .before .before .before .before .loop .at) (c .before .before .before .before .before .before .before .loop .inv .0) (c .before .before .before .before .known-of .result) (c .before .before .before .before .before .before .before .loop .inv .2) (c .before .before .before .before .before .before .loop-test .taken) (simp tail-is at (c .before .before .before .before .known-of .ensures)) in (omega (arith, c .before .before .before .before .before .before .before .loop .inv .5, c .before .before .before .before .before .before .before .loop .inv .6, ap length (s .split))))
+    (λ c. search needs)
+    (λ c κs. (c .before .before .before .before .before .before .before .loop .inv .8, omega (arith, length-take (c .before .before .before .before .before .before .before .loop .n) (c .before .before .before .before .before .before .before .loop .keys), c .before .before .before .before .before .before .before .loop .inv .5)))
+    (λ c. let s = stepped (c .before .before .before .before .before .before .before .before .before .before .before .args .t .now) (c .before .before .before .before .before .before .before .before .before .loop .at) (c .before .before .before .before .before .before .before .before .before .loop .inv .0) (c .before .before .before .before .before .before .known-of .result) (c .before .before .before .before .before .before .before .before .before .loop .inv .2) (c .before .before .before .before .before .before .before .before .loop-test .taken) (simp tail-is at (c .before .before .before .before .before .before .known-of .ensures)) in sym (c .before .before .before .before .before .before .before .before .before .loop .inv .3 ∙ ap (first-clash (c .before .before .before .before .before .before .before .before .before .loop .inv .1)) (names-step (c .before .before .before .before .before .before .before .before .before .before .before .args .t .now) (c .before .before .before .before .before .before .before .before .before .loop .at) (c .before .before .before .before .before .before .before .before .before .loop .inv .0) (c .before .before .before .before .before .before .known-of .result) s (c .before .before .before .before .before .before .before .before .before .loop .o) (c .before .before .before .before .before .key-of .result) (c .before .before .before .before .before .key-of .ensures)) ∙ name-hit (c .before .before .before .before .before .before .before .before .before .loop .keys) (c .before .before .before .before .before .before .before .before .before .loop .n) (c .before .before .before .before .before .before .before .before .before .loop .inv .1) (c .before .before .before .before .before .before .before .before .before .loop .inv .4) (c .before .before .before .before .before .key-of .result) (c .before .before .before .before .before .before .before .before .before .loop .at) (names-found (owner (ownerOf (c .before .before .before .before .before .before .before .before .before .loop .o) (c .before .before .before .before .before .before .known-of .result))) (c .before .before .before .before .before .before .before .before .before .loop .at + width (c .before .before .before .before .before .before .known-of .result)) (s .others)) (sym (c .before .clash-if .ensures) ∙ (c .if1 .taken))))
+    (λ c. search needs)
+    (λ c. let s = stepped (c .before .before .before .before .before .before .before .before .before .before .before .args .t .now) (c .before .before .before .before .before .before .before .before .before .loop .at) (c .before .before .before .before .before .before .before .before .before .loop .inv .0) (c .before .before .before .before .before .before .known-of .result) (c .before .before .before .before .before .before .before .before .before .loop .inv .2) (c .before .before .before .before .before .before .before .before .loop-test .taken) (simp tail-is at (c .before .before .before .before .before .before .known-of .ensures)) in (omega (arith, c .before .before .before .before .before .before .before .before .before .loop .inv .5, c .before .before .before .before .before .before .before .before .before .loop .inv .6, ap length (s .split))))
+    (λ c. search needs)
+    (λ c. search needs)
+    (λ c κs. let s = stepped (c .before .before .before .before .before .before .before .before .before .before .before .before .before .args .t .now) (c .before .before .before .before .before .before .before .before .before .before .before .loop .at) (c .before .before .before .before .before .before .before .before .before .before .before .loop .inv .0) (c .before .before .before .before .before .before .before .before .known-of .result) (c .before .before .before .before .before .before .before .before .before .before .before .loop .inv .2) (c .before .before .before .before .before .before .before .before .before .before .loop-test .taken) (simp tail-is at (c .before .before .before .before .before .before .before .before .known-of .ensures)) in ((omega (arith, c .before .before .before .before .before .before .before .before .before .before .before .loop .inv .5, c .before .before .before .before .before .before .before .before .before .before .before .loop .inv .6, ap length (s .split))), c .before .before .before .before .before .before .before .before .before .before .before .loop .inv .8 .0, c .before .before .before .before .before .before .before .before .before .before .before .loop .inv .8 .1))
     (λ c κs. search needs)
     (λ c κs. search needs)
-    (λ c. let s = stepped (c .before .before .before .before .before .before .before .before .before .before .before .before .args .t .now) (c .before .before .before .before .before .before .before .before .before .before .loop .at) (c .before .before .before .before .before .before .before .before .before .before .loop .inv .0) (c .before .before .before .before .before .before .before .known-of .result) (c .before .before .before .before .before .before .before .before .before .before .loop .inv .2) (c .before .before .before .before .before .before .before .before .before .loop-test .taken) (simp tail-is at (c .before .before .before .before .before .before .before .known-of .ensures)) in omega (arith, s .fits, c .width-of .ensures))
-    (λ c. let s = stepped (c .before .before .before .before .before .before .before .before .before .before .before .before .args .t .now) (c .before .before .before .before .before .before .before .before .before .before .loop .at) (c .before .before .before .before .before .before .before .before .before .before .loop .inv .0) (c .before .before .before .before .before .before .before .known-of .result) (c .before .before .before .before .before .before .before .before .before .before .loop .inv .2) (c .before .before .before .before .before .before .before .before .before .loop-test .taken) (simp tail-is at (c .before .before .before .before .before .before .before .known-of .ensures)) in omega (arith, s .fits, s .moves, c .width-of .ensures))
-    (λ c. let s = stepped (c .before .before .before .before .before .before .before .before .before .before .before .before .args .t .now) (c .before .before .before .before .before .before .before .before .before .before .loop .at) (c .before .before .before .before .before .before .before .before .before .before .loop .inv .0) (c .before .before .before .before .before .before .before .known-of .result) (c .before .before .before .before .before .before .before .before .before .before .loop .inv .2) (c .before .before .before .before .before .before .before .before .before .loop-test .taken) (simp tail-is at (c .before .before .before .before .before .before .before .known-of .ensures)) in let m = name-miss (c .before .before .before .before .before .before .before .before .before .before .loop .keys) (c .before .before .before .before .before .before .before .before .before .before .loop .n) (c .before .before .before .before .before .before .before .before .before .before .loop .inv .1) (c .before .before .before .before .before .before .before .before .before .before .loop .inv .4) (c .before .before .before .before .before .before .key-of .result) (c .before .before .before .before .before .before .before .before .before .before .loop .at) (names-found (owner (ownerOf (c .before .before .before .before .before .before .before .before .before .before .loop .o) (c .before .before .before .before .before .before .before .known-of .result))) (c .before .before .before .before .before .before .before .before .before .before .loop .at + width (c .before .before .before .before .before .before .before .known-of .result)) (s .others)) (omega (arith, c .before .before .before .before .before .before .before .before .before .before .loop .inv .5, c .before .before .before .before .before .before .before .before .before .before .loop .inv .6, ap length (s .split))) (sym (c .before .before .before .before .clash-if .ensures) ∙ (c .before .before .before .if1 .left)) in (s .others, m .0, subst (λ (k : ℕ). At (c .before .before .before .before .before .before .before .before .before .before .before .before .args .t .now) (c .before .before .before .before .before .before .before .before .before .before .loop .at + k) (s .others)) (sym (c .width-of .ensures)) (s .rest), c .before .before .before .before .before .before .before .before .before .before .loop .inv .3 ∙ ap (first-clash (c .before .before .before .before .before .before .before .before .before .before .loop .inv .1)) (names-step (c .before .before .before .before .before .before .before .before .before .before .before .before .args .t .now) (c .before .before .before .before .before .before .before .before .before .before .loop .at) (c .before .before .before .before .before .before .before .before .before .before .loop .inv .0) (c .before .before .before .before .before .before .before .known-of .result) s (c .before .before .before .before .before .before .before .before .before .before .loop .o) (c .before .before .before .before .before .before .key-of .result) (c .before .before .before .before .before .before .key-of .ensures)) ∙ m .1 ∙ ap₂ (λ (a b : ℕ). first-clash (m .0) (names-found (owner a) (c .before .before .before .before .before .before .before .before .before .before .loop .at + b) (s .others))) (sym (c .before .owner-of .ensures)) (sym (c .width-of .ensures)), subst (λ (j : ℕ). Met (set (c .before .before .before .before .before .before .before .before .before .before .loop .keys) (c .before .before .before .before .before .before .before .before .before .before .loop .n) (c .before .before .before .before .before .before .key-of .result)) j (m .0)) (sym (c .before .before .count-if .ensures)) (m .2), subst (λ (j : ℕ). j + length (s .others) ≤ 1024) (sym (c .before .before .count-if .ensures)) (count-bound (eqb (c .before .before .before .before .before .before .key-of .result) 0) (c .before .before .before .before .before .before .before .before .before .before .loop .n) (length (s .others)) (omega (arith, c .before .before .before .before .before .before .before .before .before .before .loop .inv .5, ap length (s .split)))), length-set (c .before .before .before .before .before .before .before .before .before .before .loop .keys) (c .before .before .before .before .before .before .before .before .before .before .loop .n) (c .before .before .before .before .before .before .key-of .result) ∙ c .before .before .before .before .before .before .before .before .before .before .loop .inv .6, subst (λ (j : ℕ). (1 ≤ j) × (j ≤ 3)) (sym (c .before .owner-of .ensures)) (owner-bound (c .before .before .before .before .before .before .before .before .before .before .loop .o) (c .before .before .before .before .before .before .before .known-of .result) (c .before .before .before .before .before .before .before .before .before .before .loop .inv .7))))
+    (λ c. let s = stepped (c .before .before .before .before .before .before .before .before .before .before .before .before .before .before .before .before .before .before .args .t .now) (c .before .before .before .before .before .before .before .before .before .before .before .before .before .before .before .before .loop .at) (c .before .before .before .before .before .before .before .before .before .before .before .before .before .before .before .before .loop .inv .0) (c .before .before .before .before .before .before .before .before .before .before .before .before .before .known-of .result) (c .before .before .before .before .before .before .before .before .before .before .before .before .before .before .before .before .loop .inv .2) (c .before .before .before .before .before .before .before .before .before .before .before .before .before .before .before .loop-test .taken) (simp tail-is at (c .before .before .before .before .before .before .before .before .before .before .before .before .before .known-of .ensures)) in omega (arith, s .fits, c .width-of .ensures))
+    (λ c. let s = stepped (c .before .before .before .before .before .before .before .before .before .before .before .before .before .before .before .before .before .before .args .t .now) (c .before .before .before .before .before .before .before .before .before .before .before .before .before .before .before .before .loop .at) (c .before .before .before .before .before .before .before .before .before .before .before .before .before .before .before .before .loop .inv .0) (c .before .before .before .before .before .before .before .before .before .before .before .before .before .known-of .result) (c .before .before .before .before .before .before .before .before .before .before .before .before .before .before .before .before .loop .inv .2) (c .before .before .before .before .before .before .before .before .before .before .before .before .before .before .before .loop-test .taken) (simp tail-is at (c .before .before .before .before .before .before .before .before .before .before .before .before .before .known-of .ensures)) in omega (arith, s .fits, s .moves, c .width-of .ensures))
+    (λ c. let s = stepped (c .before .before .before .before .before .before .before .before .before .before .before .before .before .before .before .before .before .before .args .t .now) (c .before .before .before .before .before .before .before .before .before .before .before .before .before .before .before .before .loop .at) (c .before .before .before .before .before .before .before .before .before .before .before .before .before .before .before .before .loop .inv .0) (c .before .before .before .before .before .before .before .before .before .before .before .before .before .known-of .result) (c .before .before .before .before .before .before .before .before .before .before .before .before .before .before .before .before .loop .inv .2) (c .before .before .before .before .before .before .before .before .before .before .before .before .before .before .before .loop-test .taken) (simp tail-is at (c .before .before .before .before .before .before .before .before .before .before .before .before .before .known-of .ensures)) in let m = name-miss (c .before .before .before .before .before .before .before .before .before .before .before .before .before .before .before .before .loop .keys) (c .before .before .before .before .before .before .before .before .before .before .before .before .before .before .before .before .loop .n) (c .before .before .before .before .before .before .before .before .before .before .before .before .before .before .before .before .loop .inv .1) (c .before .before .before .before .before .before .before .before .before .before .before .before .before .before .before .before .loop .inv .4) (c .before .before .before .before .before .before .before .before .before .before .before .before .key-of .result) (c .before .before .before .before .before .before .before .before .before .before .before .before .before .before .before .before .loop .at) (names-found (owner (ownerOf (c .before .before .before .before .before .before .before .before .before .before .before .before .before .before .before .before .loop .o) (c .before .before .before .before .before .before .before .before .before .before .before .before .before .known-of .result))) (c .before .before .before .before .before .before .before .before .before .before .before .before .before .before .before .before .loop .at + width (c .before .before .before .before .before .before .before .before .before .before .before .before .before .known-of .result)) (s .others)) (omega (arith, c .before .before .before .before .before .before .before .before .before .before .before .before .before .before .before .before .loop .inv .5, c .before .before .before .before .before .before .before .before .before .before .before .before .before .before .before .before .loop .inv .6, ap length (s .split))) (sym (c .before .before .before .before .before .before .before .before .clash-if .ensures) ∙ (c .before .before .before .before .before .before .before .if1 .left)) in (s .others, m .0, subst (λ (k : ℕ). At (c .before .before .before .before .before .before .before .before .before .before .before .before .before .before .before .before .before .before .args .t .now) (c .before .before .before .before .before .before .before .before .before .before .before .before .before .before .before .before .loop .at + k) (s .others)) (sym (c .width-of .ensures)) (s .rest), c .before .before .before .before .before .before .before .before .before .before .before .before .before .before .before .before .loop .inv .3 ∙ ap (first-clash (c .before .before .before .before .before .before .before .before .before .before .before .before .before .before .before .before .loop .inv .1)) (names-step (c .before .before .before .before .before .before .before .before .before .before .before .before .before .before .before .before .before .before .args .t .now) (c .before .before .before .before .before .before .before .before .before .before .before .before .before .before .before .before .loop .at) (c .before .before .before .before .before .before .before .before .before .before .before .before .before .before .before .before .loop .inv .0) (c .before .before .before .before .before .before .before .before .before .before .before .before .before .known-of .result) s (c .before .before .before .before .before .before .before .before .before .before .before .before .before .before .before .before .loop .o) (c .before .before .before .before .before .before .before .before .before .before .before .before .key-of .result) (c .before .before .before .before .before .before .before .before .before .before .before .before .key-of .ensures)) ∙ m .1 ∙ ap₂ (λ (a b : ℕ). first-clash (m .0) (names-found (owner a) (c .before .before .before .before .before .before .before .before .before .before .before .before .before .before .before .before .loop .at + b) (s .others))) (sym (c .before .owner-of .ensures)) (sym (c .width-of .ensures)), subst (λ (j : ℕ). Met (set (c .before .before .before .before .before .before .before .before .before .before .before .before .before .before .before .before .loop .keys) (c .before .before .before .before .before .before .before .before .before .before .before .before .before .before .before .before .loop .n) (c .before .before .before .before .before .before .before .before .before .before .before .before .key-of .result)) j (m .0)) (sym (c .before .before .before .before .link-if .ensures .0)) (m .2), subst (λ (j : ℕ). j + length (s .others) ≤ 1024) (sym (c .before .before .before .before .link-if .ensures .0)) (count-bound (eqb (c .before .before .before .before .before .before .before .before .before .before .before .before .key-of .result) 0) (c .before .before .before .before .before .before .before .before .before .before .before .before .before .before .before .before .loop .n) (length (s .others)) (omega (arith, c .before .before .before .before .before .before .before .before .before .before .before .before .before .before .before .before .loop .inv .5, ap length (s .split)))), length-set (c .before .before .before .before .before .before .before .before .before .before .before .before .before .before .before .before .loop .keys) (c .before .before .before .before .before .before .before .before .before .before .before .before .before .before .before .before .loop .n) (c .before .before .before .before .before .before .before .before .before .before .before .before .key-of .result) ∙ c .before .before .before .before .before .before .before .before .before .before .before .before .before .before .before .before .loop .inv .6, subst (λ (j : ℕ). (1 ≤ j) × (j ≤ 3)) (sym (c .before .owner-of .ensures)) (owner-bound (c .before .before .before .before .before .before .before .before .before .before .before .before .before .before .before .before .loop .o) (c .before .before .before .before .before .before .before .before .before .before .before .before .before .known-of .result) (c .before .before .before .before .before .before .before .before .before .before .before .before .before .before .before .before .loop .inv .7)), subst (λ (j : ℕ). Links (take j (set (c .before .before .before .before .before .before .before .before .before .before .before .before .before .before .before .before .loop .keys) (c .before .before .before .before .before .before .before .before .before .before .before .before .before .before .before .before .loop .n) (c .before .before .before .before .before .before .before .before .before .before .before .before .key-of .result))) (c .before .before .before .before .link-if .last .0) (c .before .before .before .before .link-if .last .1 .0)) (sym (c .before .before .before .before .link-if .ensures .0)) (links-more (c .before .before .before .before .before .before .before .before .before .before .before .before .before .before .before .before .loop .keys) (c .before .before .before .before .before .before .before .before .before .before .before .before .before .before .before .before .loop .links) (c .before .before .before .before .before .before .before .before .before .before .before .before .before .before .before .before .loop .heads) (c .before .before .before .before .before .before .before .before .before .before .before .before .before .before .before .before .loop .n) (c .before .before .before .before .before .before .before .before .before .before .before .before .key-of .result) (omega (arith, c .before .before .before .before .before .before .before .before .before .before .before .before .before .before .before .before .loop .inv .5, c .before .before .before .before .before .before .before .before .before .before .before .before .before .before .before .before .loop .inv .6, ap length (s .split))) (c .before .before .before .before .before .before .before .before .before .before .before .before .before .before .before .before .loop .inv .6) (c .before .before .before .before .before .before .before .before .before .before .before .before .before .before .before .before .loop .inv .8) (c .before .before .before .before .link-if .last .0) (c .before .before .before .before .link-if .last .1 .0) (c .before .before .before .before .link-if .ensures .1))))
     (λ c. sym (c .before .loop .inv .3 ∙ names-end (c .before .before .before .args .t .now) (c .before .loop .at) (c .before .loop .inv .0) (owner (c .before .loop .o)) (c .before .loop .inv .1) (c .before .loop .inv .2) (c .loop-test .left))))
