@@ -2,11 +2,11 @@
 
 use std::io::Read;
 
-use xliff_desk::Answer;
+use xliff_desk::{Answer, Refusal};
 
 use crate::difference::marked;
 use crate::notation;
-use crate::records::in_notation;
+use crate::records::{in_notation, with_offsets};
 
 /// "lends outputs of 8,192 bytes".
 const ROOM: usize = 8192;
@@ -23,11 +23,11 @@ pub fn read(path: &str) -> Result<String, String> {
 /// Each request's answer in words, and the table before and after with the differences marked.
 pub fn run(text: &str) -> Result<String, String> {
     let job = notation::read(text).map_err(|mistake| mistake.to_string())?;
-    let mut shown = format!("check: {}\n", in_words(xliff_desk::check(&job.table)));
     let mut table = job.table;
-    if xliff_desk::check(&table).is_err() {
-        return Ok(shown);
-    }
+    let mut shown = match xliff_desk::check(&table) {
+        Ok(length) => format!("check: {}\n", in_words(Ok(length))),
+        Err(refusal) => return Ok(format!("check: {}", blamed(&table, refusal))),
+    };
     for request in job.requests {
         let mut out = vec![0; ROOM];
         let answer = request.ask(&table, &mut out);
@@ -42,9 +42,13 @@ pub fn run(text: &str) -> Result<String, String> {
     Ok(shown)
 }
 
+/// The answer of the check in words; of a refused table, the blamed record is marked.
 pub fn check(text: &str) -> Result<String, String> {
     let job = notation::read(text).map_err(|mistake| mistake.to_string())?;
-    Ok(format!("{}\n", in_words(xliff_desk::check(&job.table))))
+    match xliff_desk::check(&job.table) {
+        Ok(length) => Ok(format!("{}\n", in_words(Ok(length)))),
+        Err(refusal) => Err(blamed(&job.table, refusal).trim_end().to_string()),
+    }
 }
 
 /// A table in hexadecimal, as the desk prints it.
@@ -58,6 +62,16 @@ fn in_words(answer: Answer) -> String {
         Ok(length) => format!("OK {length}: accepted"),
         Err(refusal) => refusal.to_string(),
     }
+}
+
+/// A refused table, `>` before the record at the place of the refusal.
+fn blamed(table: &[u8], refusal: Refusal) -> String {
+    let mut shown = format!("{refusal}\n");
+    for (at, line) in with_offsets(table) {
+        let mark = if at == refusal.place { '>' } else { ' ' };
+        shown += &format!("  {mark} {line}\n");
+    }
+    shown
 }
 
 fn lines(table: &[u8]) -> String {

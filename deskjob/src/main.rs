@@ -6,7 +6,7 @@ use deskjob::commands;
 
 const USAGE: &str = "\
 deskjob run JOB     run the requests of a job, and show each answer and what it changed
-deskjob check JOB   check the job's table
+deskjob check JOB   check the job's table; exit status 1 if it is refused
 deskjob show HEX    show a table that the desk printed in hexadecimal
 JOB is a file in notation, - is standard input; README.md has an example.";
 

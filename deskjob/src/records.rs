@@ -43,17 +43,22 @@ pub fn fields_of(mark: &str) -> Option<&'static [Field]> {
 
 /// The records of a table or content, one a line; what is no record in hexadecimal.
 pub fn in_notation(bytes: &[u8]) -> Vec<String> {
+    with_offsets(bytes).into_iter().map(|(_, line)| line).collect()
+}
+
+/// The same lines, each with the offset of its record.
+pub fn with_offsets(bytes: &[u8]) -> Vec<(usize, String)> {
     let mut lines = Vec::new();
-    let mut rest = bytes;
-    while !rest.is_empty() {
-        match first_record(rest) {
+    let mut at = 0;
+    while at < bytes.len() {
+        match first_record(&bytes[at..]) {
             Some((line, length)) => {
-                lines.push(line);
-                rest = &rest[length..];
+                lines.push((at, line));
+                at += length;
             }
             None => {
-                let digits: String = rest.iter().map(|byte| format!("{byte:02X}")).collect();
-                lines.push(format!("{digits} (no record)"));
+                let digits: String = bytes[at..].iter().map(|byte| format!("{byte:02X}")).collect();
+                lines.push((at, format!("{digits} (no record)")));
                 break;
             }
         }

@@ -39,6 +39,20 @@ the table:
     assert_eq!(shown, expected);
 }
 
+/// README.md shows the example job and what it gives.
+#[test]
+fn the_readme_is_true() {
+    let readme = include_str!("../../README.md");
+    let job = include_str!("../examples/door.txt");
+    let shown = commands::run(job).unwrap();
+    let (answers, _) = shown.split_once("\nthe table:").unwrap();
+    for text in [job, answers] {
+        let block: Vec<String> =
+            text.lines().map(|line| format!("    {line}").trim_end().to_string()).collect();
+        assert!(readme.contains(&block.join("\n")), "README.md has not:\n{}", block.join("\n"));
+    }
+}
+
 #[test]
 fn a_printed_table_is_shown() {
     let shown = commands::show("554E59534700012D4954580002412E5545").unwrap();
@@ -49,8 +63,9 @@ fn a_printed_table_is_shown() {
 #[test]
 fn a_refused_table_is_told() {
     assert_eq!(
-        commands::check("UN Y\nUE\n").unwrap(),
-        "NO 2 3: unknown mark, cut record, bad field or letter, or a record out of sequence\n"
+        commands::check("UN Y\nUE\n").unwrap_err(),
+        "NO 2 3: unknown mark, cut record, bad field or letter, or a record out of sequence\n    \
+         UN Y\n  > UE"
     );
 }
 

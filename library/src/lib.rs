@@ -2,24 +2,53 @@
 //! document 01; nothing here repeats one.
 //!
 //! Each operation takes a table's bytes and writes its result at the head of `out`. Accepted:
-//! the result's length, and the bytes of `out` behind it are as they were. Refused: number and
-//! place, and all of `out` is as it was.
+//! the result's length, and the bytes of `out` behind it are as they were. Refused: a
+//! [`Refusal`], and all of `out` is as it was. Any bytes of any length get an answer.
+//!
+//! ```
+//! // UN Y, SG 1 - I, TX "A. B", UE
+//! let table = b"UNYSG\0\x01-ITX\0\x04A. BUE";
+//! let mut out = [0; 8192];
+//! let length = xliff_desk::split(table, 1, 2, 0, 2, &mut out)?;
+//! assert_eq!(&out[..length], b"UNYSG\0\x01-ITX\0\x02A.SG\0\x02-ITX\0\x02 BUE");
+//!
+//! // A cut behind the last item is refused, in words.
+//! let refusal = xliff_desk::split(table, 1, 4, 0, 2, &mut out).unwrap_err();
+//! assert_eq!(refusal.reason, xliff_desk::Reason::BadCut);
+//! assert_eq!((refusal.reason.number(), refusal.place), (13, 0));
+//! println!("{refusal}");
+//! # Ok::<(), xliff_desk::Refusal>(())
+//! ```
+
+#![warn(missing_docs)]
 
 mod raw;
 mod reason;
 
 pub use reason::{Reason, Refusal};
 
-/// "either accepted with a length, or refused".
+/// "either accepted with a length, or refused with a number and a place".
 pub type Answer = Result<usize, Refusal>;
 
-/// The numbers 1 to 10; an accepted table's length.
+/// Checks a table by the rules 1 to 10; gives an accepted table's length. The place of a refusal
+/// is the offset of the blamed record.
+///
+/// ```
+/// use xliff_desk::Reason;
+///
+/// assert_eq!(xliff_desk::check(b"UNYSG\0\x01-IUE"), Ok(11));
+/// // no parts: the end stands where a part must come
+/// let refusal = xliff_desk::check(b"UNYUE").unwrap_err();
+/// assert_eq!((refusal.reason, refusal.place), (Reason::BadRecord, 3));
+/// ```
 pub fn check(table: &[u8]) -> Answer {
     answer(|number, value| unsafe {
         raw::xliff_desk_check(table.as_ptr(), table.len(), number, value)
     })
 }
 
+/// Splits a part (counted from 1) behind so many items of its source and of its target. The
+/// second half gets `new_id` (0: none). The example is at the head of this crate.
 pub fn split(
     table: &[u8],
     part: u16,
@@ -44,6 +73,16 @@ pub fn split(
     })
 }
 
+/// Joins a part with the next.
+///
+/// ```
+/// // "A." and " B" become one text, in one segment
+/// let table = b"UNYSG\0\x01-ITX\0\x02A.SG\0\x02-ITX\0\x02 BUE";
+/// let mut out = [0; 64];
+/// let length = xliff_desk::join(table, 1, &mut out)?;
+/// assert_eq!(&out[..length], b"UNYSG\0\x01-ITX\0\x04A. BUE");
+/// # Ok::<(), xliff_desk::Refusal>(())
+/// ```
 pub fn join(table: &[u8], part: u16, out: &mut [u8]) -> Answer {
     answer(|number, value| unsafe {
         let (to, room) = (out.as_mut_ptr(), out.len());
@@ -51,6 +90,15 @@ pub fn join(table: &[u8], part: u16, out: &mut [u8]) -> Answer {
     })
 }
 
+/// Sets a part's target: the state's letter (`-` for an ignorable), and the content as records.
+///
+/// ```
+/// let table = b"UNYSG\0\x01-ITX\0\x02upUE";
+/// let mut out = [0; 64];
+/// let length = xliff_desk::set_target(table, 1, b'T', b"TX\0\x03auf", &mut out)?;
+/// assert_eq!(&out[..length], b"UNYSG\0\x01-TTX\0\x02upTG\0\x01TX\0\x03aufUE");
+/// # Ok::<(), xliff_desk::Refusal>(())
+/// ```
 pub fn set_target(table: &[u8], part: u16, state: u8, content: &[u8], out: &mut [u8]) -> Answer {
     answer(|number, value| unsafe {
         raw::xliff_desk_set_target(
@@ -68,6 +116,15 @@ pub fn set_target(table: &[u8], part: u16, state: u8, content: &[u8], out: &mut 
     })
 }
 
+/// Removes a part's target; a segment's state becomes I.
+///
+/// ```
+/// let table = b"UNYSG\0\x01-TTX\0\x02upTG\0\x01TX\0\x03aufUE";
+/// let mut out = [0; 64];
+/// let length = xliff_desk::remove_target(table, 1, &mut out)?;
+/// assert_eq!(&out[..length], b"UNYSG\0\x01-ITX\0\x02upUE");
+/// # Ok::<(), xliff_desk::Refusal>(())
+/// ```
 pub fn remove_target(table: &[u8], part: u16, out: &mut [u8]) -> Answer {
     answer(|number, value| unsafe {
         let (to, room) = (out.as_mut_ptr(), out.len());
@@ -75,6 +132,17 @@ pub fn remove_target(table: &[u8], part: u16, out: &mut [u8]) -> Answer {
     })
 }
 
+/// Rewrites the pair or annotation of an id on a side (`S` source, `T` target) to a form: `P` for
+/// pc or mrk, `S` for start and end marks. Only marks change.
+///
+/// ```
+/// // MO 7 Y and MC 7 become SM and EM
+/// let table = b"UNYSG\0\x01-IMO\0\x07YTX\0\x02upMC\0\x07UE";
+/// let mut out = [0; 64];
+/// let length = xliff_desk::rewrite(table, b'S', 7, b'S', &mut out)?;
+/// assert_eq!(&out[..length], b"UNYSG\0\x01-ISM\0\x07YTX\0\x02upEM\0\x07UE");
+/// # Ok::<(), xliff_desk::Refusal>(())
+/// ```
 pub fn rewrite(table: &[u8], side: u8, id: u16, form: u8, out: &mut [u8]) -> Answer {
     answer(|number, value| unsafe {
         let (to, room) = (out.as_mut_ptr(), out.len());
@@ -83,8 +151,13 @@ pub fn rewrite(table: &[u8], side: u8, id: u16, form: u8, out: &mut [u8]) -> Ans
     })
 }
 
-/// What the desk program prints for a job: a line for each request, and last the table in
-/// hexadecimal.
+/// What the desk program prints for a job (a table, then requests): a line for each request, and
+/// last the table in hexadecimal.
+///
+/// ```
+/// let printed = xliff_desk::job(b"UNYSG\0\x01-IUERT\0\x01");
+/// assert_eq!(printed, b"NO 20 0\n554E59534700012D495545\n");
+/// ```
 pub fn job(job: &[u8]) -> Vec<u8> {
     // No job prints more than this.
     let mut out = vec![0; 1_048_576];

@@ -2,29 +2,50 @@
 
 use std::fmt;
 
-/// Why a table or a request is refused.
+/// Why a table or a request is refused; [`Reason::text`] has each in words.
 #[derive(Clone, Copy, Debug, PartialEq, Eq)]
 pub enum Reason {
+    /// Number 1.
     TableTooLong,
+    /// Number 2.
     BadRecord,
+    /// Number 3.
     BadText,
+    /// Number 4.
     TooManyRecords,
+    /// Number 5.
     BadOrder,
+    /// Number 6.
     IdMetEarlier,
+    /// Number 7.
     HalfWithoutPartner,
+    /// Number 8.
     PartnersDiffer,
+    /// Number 9.
     Overlap,
+    /// Number 10.
     UnlikeTheSource,
+    /// Number 11.
     NoSuchPart,
+    /// Number 12.
     PartClosed,
+    /// Number 13.
     BadCut,
+    /// Number 14.
     IdTaken,
+    /// Number 15.
     TooLarge,
+    /// Number 16.
     OrdersNotInSequence,
+    /// Number 17.
     JoinBreaksPartners,
+    /// Number 18.
     CodeLost,
+    /// Number 19.
     FixedCodesChanged,
+    /// Number 20.
     NothingToChange,
+    /// Number 21.
     NotOnePair,
 }
 
@@ -54,14 +75,17 @@ impl Reason {
         Reason::NotOnePair,
     ];
 
+    /// The reason that has a number of document 01, if there is one.
     pub fn of_number(number: u8) -> Option<Reason> {
         Reason::ALL.get(usize::from(number).checked_sub(1)?).copied()
     }
 
+    /// Its number in document 01.
     pub fn number(self) -> u8 {
         self as u8 + 1
     }
 
+    /// Its words.
     pub fn text(self) -> &'static str {
         match self {
             Reason::TableTooLong => "the table has more than 8,192 bytes",
@@ -115,7 +139,10 @@ impl Reason {
 /// "refused with a number and a place".
 #[derive(Clone, Copy, Debug, PartialEq, Eq)]
 pub struct Refusal {
+    /// Why.
     pub reason: Reason,
+    /// In a refused table, the offset of the blamed record; in set target's content, the offset in
+    /// it; else 0.
     pub place: usize,
 }
 
