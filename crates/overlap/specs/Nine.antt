@@ -9,6 +9,10 @@ use Rattle.views.specs.declared.View.{View}
 use Rattle.keys.specs.Keys.{classKey}
 use Rattle.halves.specs.Nearest.{half-before, half-after}
 
+-- the first n elements of an array are those of a function
+abbrev pub Filled : (ℕ → ℕ) → ℕ → List ℕ → Type 0
+Filled f n l = (k : ℕ) → k < n → getD l k 0 ≡ f k
+
 -- arrays that hold the nearest other halves of the markers
 abbrev pub Halves : List ℕ → List ℕ → List ℕ → Type 0
 Halves keys starts ends = (k : ℕ) → k < length keys → (getD starts k 0 ≡ half-before keys k) × (getD ends k 0 ≡ half-after keys k)

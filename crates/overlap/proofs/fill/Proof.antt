@@ -1,37 +1,79 @@
-use Rattle.id_links.proofs.Filled.{set-next}
-use Rattle.halves.specs.Nearest.{half-before, half-after}
-use lib.ListN.{length, getD}
-use native.Mathlib.Omega.{arith}
-use mathlib.Core.Path.{_≡_}
-use Prim.Native.Nat.{ℕ, _≤_, _<_, _-_}
+use Rattle.id_links.proofs.Scans.{previous-none}
+use Rattle.id_links.specs.Links.{in-group}
+use lib.ListN.{getD-replicate}
+use mathlib.Core.List.{[]}
+use mathlib.Core.Path.{_∙_, sym}
 use borrow.Author.Needs.{needs}
 use Rattle.overlap.proofs.fill.Statement.{statement}
 use Rattle.overlap.proofs.fill.Tie as tie
+use Rattle.overlap.proofs.fill.Reads as reads
+use Rattle.overlap.proofs.fill.Lts as lts
+use Rattle.id_links.proofs.link_after.Reads as link-after-reads
+use Rattle.id_links.proofs.link_before.Reads as link-before-reads
+use Rattle.overlap.proofs.fill_ends.Reads as fill-ends-reads
+use Rattle.overlap.proofs.fill_starts.Reads as fill-starts-reads
 
-abbrev Inv-loop : tie.InvT-loop
-Inv-loop keys starts₀ ends₀ i₀ starts ends i = (i ≤ length keys) × (length starts ≡ 1024) × (length ends ≡ 1024) × ((k : ℕ) → k < i → getD starts k 0 ≡ half-before keys k) × ((k : ℕ) → k < i → getD ends k 0 ≡ half-after keys k)
+-- src/lib.rt:57:33
+slice-aggregate-link-before : tie.Need-slice-aggregate-link-before
+slice-aggregate-link-before c = search needs
 
-abbrev μ-loop : tie.MeasureT-loop
-μ-loop keys starts₀ ends₀ i₀ starts ends i = length keys - i
+-- src/lib.rt:57:45
+slice-aggregate-link-before-2 : tie.Need-slice-aggregate-link-before-2
+slice-aggregate-link-before-2 c = search needs
+
+-- src/lib.rt:57:5
+link-before-requires : tie.Need-link-before-requires
+link-before-requires c κs = (c .before .before .before .before .before .pre .0, search needs, search needs, λ g l. getD-replicate 256 g 0 0 l ∙ sym (previous-none (in-group [] g)))
+
+-- src/lib.rt:58:23
+slice-aggregate-fill-starts : tie.Need-slice-aggregate-fill-starts
+slice-aggregate-fill-starts c = search needs
+
+-- src/lib.rt:58:5
+fill-starts-requires : tie.Need-fill-starts-requires
+fill-starts-requires c κs = search needs
+
+-- src/lib.rt:59:32
+slice-aggregate-link-after : tie.Need-slice-aggregate-link-after
+slice-aggregate-link-after c = search needs
+
+-- src/lib.rt:59:5
+link-after-requires : tie.Need-link-after-requires
+link-after-requires c κs = search needs
+
+-- src/lib.rt:60:21
+slice-aggregate-fill-ends : tie.Need-slice-aggregate-fill-ends
+slice-aggregate-fill-ends c = search needs
+
+-- src/lib.rt:60:5
+fill-ends-requires : tie.Need-fill-ends-requires
+fill-ends-requires c κs = search needs
+
+-- src/lib.rt:51:1
+same-length : tie.Need-same-length
+same-length c = search needs
+
+-- src/lib.rt:51:1
+same-length-2 : tie.Need-same-length-2
+same-length-2 c = search needs
+
+-- src/lib.rt:51:1
+returns : tie.Need-returns
+returns c = (c .before .before .before .before .before .before .before .before .before .before .fill-starts .ensures .0, c .before .before .fill-ends .ensures .0, λ k h. (c .before .before .before .before .before .before .before .before .before .before .fill-starts .ensures .1 k h, c .before .before .fill-ends .ensures .1 k h))
 
 pub fill-spec : {M : Type 1} → statement M
 fill-spec =
     tie.close
     (tie.spec
-    Inv-loop
-    μ-loop
-    (λ c. (search needs, search needs, search needs, (λ k h. absurd (omega (arith, h))), (λ k h. absurd (omega (arith, h)))))
-    (λ c κs. search needs)
-    (λ c. omega (arith, c .half-before .ensures .1, (c .before .loop-test .taken), c .before .before .before .before .before .before .pre .0))
-    (λ c. search needs)
-    (λ c. search needs)
-    (λ c κs. search needs)
-    (λ c. omega (arith, c .half-after .ensures .2, c .before .before .before .before .before .before .before .pre .0))
-    (λ c. search needs)
-    (λ c. search needs)
-    (λ c. search needs)
-    (λ c. search needs)
-    (λ c. (search needs, search needs, search needs, set-next (half-before (c .before .before .before .before .before .before .before .args .keys .now)) (c .before .before .before .loop .starts) (c .before .before .before .loop .i) (c .before .half-before .result) (omega (arith, (c .before .before .loop-test .taken), c .before .before .before .before .before .before .before .pre .0)) (c .before .half-before .ensures .0) (c .before .before .before .loop .inv .3), set-next (half-after (c .before .before .before .before .before .before .before .args .keys .now)) (c .before .before .before .loop .ends) (c .before .before .before .loop .i) (c .half-after .result) (omega (arith, (c .before .before .loop-test .taken), c .before .before .before .before .before .before .before .pre .0)) (c .half-after .ensures .0) (c .before .before .before .loop .inv .4)))
-    (λ c. search needs)
-    (λ c. search needs)
-    (λ c. (search needs, search needs, λ k h. (c .before .loop .inv .3 k (omega (arith, h, (c .loop-test .left))), c .before .loop .inv .4 k (omega (arith, h, (c .loop-test .left)))))))
+    slice-aggregate-link-before
+    slice-aggregate-link-before-2
+    link-before-requires
+    slice-aggregate-fill-starts
+    fill-starts-requires
+    slice-aggregate-link-after
+    link-after-requires
+    slice-aggregate-fill-ends
+    fill-ends-requires
+    same-length
+    same-length-2
+    returns)
