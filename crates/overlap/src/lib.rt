@@ -21,7 +21,7 @@ ghost use Rattle.sequences.specs.Marks.{offsets};
 ghost use Rattle.places.specs.Markers.{placed-at, target-offsets};
 
 // The nearest other half before each marker, of keys that are linked to those before them.
-// Linear in the markers where few ids are of one group, quadratic where all are.
+// Linear in the markers where few of them are of one group, quadratic where all are.
 fn fill_starts(keys: &[u32], links: &[u16], starts: &mut [u16])
     requires { ⌜ (length (now keys) ≤ 1024) × (length (now links) ≡ 1024) × (length (now starts) ≡ 1024) × Linked (now keys) (now links) ⌝ }
     ensures { λ r. ⌜ (length (now (starts .exit)) ≡ 1024) × Filled (half-before (now (keys .entry))) (length (now (keys .entry))) (now (starts .exit)) ⌝ }
@@ -34,7 +34,7 @@ fn fill_starts(keys: &[u32], links: &[u16], starts: &mut [u16])
 }
 
 // The nearest other half after each marker, of keys that are linked to those after them.
-// Linear in the markers where few ids are of one group, quadratic where all are.
+// Linear in the markers where few of them are of one group, quadratic where all are.
 fn fill_ends(keys: &[u32], links: &[u16], ends: &mut [u16])
     requires { ⌜ (length (now keys) ≤ 1024) × (length (now links) ≡ 1024) × (length (now ends) ≡ 1024) × LinkedAfter (now keys) (now links) ⌝ }
     ensures { λ r. ⌜ (length (now (ends .exit)) ≡ 1024) × Filled (half-after (now (keys .entry))) (length (now (keys .entry))) (now (ends .exit)) ⌝ }
@@ -47,7 +47,7 @@ fn fill_ends(keys: &[u32], links: &[u16], ends: &mut [u16])
 }
 
 // The nearest other halves of all markers.
-// Linear in the markers where few ids are of one group, quadratic where all are.
+// Linear in the markers where few of them are of one group, quadratic where all are.
 fn fill(keys: &[u32], starts: &mut [u16], ends: &mut [u16])
     requires { ⌜ (length (now keys) ≤ 1024) × (length (now starts) ≡ 1024) × (length (now ends) ≡ 1024) ⌝ }
     ensures { λ r. ⌜ (length (now (starts .exit)) ≡ 1024) × (length (now (ends .exit)) ≡ 1024) × Halves (now (keys .entry)) (now (starts .exit)) (now (ends .exit)) ⌝ }
