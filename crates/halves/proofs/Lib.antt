@@ -1,4 +1,5 @@
 pub mod NoHalves
+pub mod Follow
 pub mod Runs
 pub mod Others
 pub mod TwoSequences

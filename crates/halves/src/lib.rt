@@ -1,7 +1,8 @@
-// The nearest other half of a marker, before and after it in its sequence.
+// The nearest other half of a marker, before and after it in its sequence: by a scan of the keys, or along the links of its group.
 ghost use mathlib.Core.Path.{_≡_};
 ghost use Prim.Native.Nat.{_<_, _≤_};
 ghost use lib.ListN.{length};
+ghost use Rattle.id_links.specs.Links.{Linked, LinkedAfter};
 ghost use Rattle.halves.specs.Nearest.{half-before, half-after};
 
 // Linear in the markers before `i`: a scan of their keys.
@@ -54,4 +55,58 @@ pub fn half_after(keys: &[u32], i: usize) -> usize
         return keys.len();
     }
     scan_after(keys, i)
+}
+
+// Linear in the markers before `i` of its group: the links lead to them.
+fn follow_before(keys: &[u32], links: &[u16], i: usize) -> usize
+    requires { ⌜ Linked (now keys) (now links) × (length (now keys) ≤ 1024) × (length (now links) ≡ 1024) × (i < length (now keys)) ⌝ }
+    ensures { λ r. ⌜ (r ≡ half-before (now (keys .entry)) i) × (r ≤ i) ⌝ }
+{
+    let key = keys[i];
+    let mut j = views::wide(links[i]);
+    while 0 < j {
+        if keys::is_other(key, keys[j - 1]) {
+            return j;
+        }
+        j = views::wide(links[j - 1]);
+    }
+    0
+}
+
+// Linear in the markers after `i` of its group: the links lead to them.
+fn follow_after(keys: &[u32], links: &[u16], i: usize) -> usize
+    requires { ⌜ LinkedAfter (now keys) (now links) × (length (now keys) ≤ 1024) × (length (now links) ≡ 1024) × (i < length (now keys)) ⌝ }
+    ensures { λ r. ⌜ (r ≡ half-after (now (keys .entry)) i) × (i < r) × (r ≤ length (now (keys .entry))) ⌝ }
+{
+    let key = keys[i];
+    let mut j = keys.len() - views::wide(links[i]);
+    while j < keys.len() {
+        if keys::is_other(key, keys[j]) {
+            return j;
+        }
+        j = keys.len() - views::wide(links[j]);
+    }
+    j
+}
+
+// `half_before`, of keys that are linked to those before them.
+pub fn linked_before(keys: &[u32], links: &[u16], i: usize) -> usize
+    requires { ⌜ Linked (now keys) (now links) × (length (now keys) ≤ 1024) × (length (now links) ≡ 1024) × (i < length (now keys)) ⌝ }
+    ensures { λ r. ⌜ (r ≡ half-before (now (keys .entry)) i) × (r ≤ i) ⌝ }
+{
+    if keys::half_of(keys[i]) == 0 {
+        return 0;
+    }
+    follow_before(keys, links, i)
+}
+
+// `half_after`, of keys that are linked to those after them.
+pub fn linked_after(keys: &[u32], links: &[u16], i: usize) -> usize
+    requires { ⌜ LinkedAfter (now keys) (now links) × (length (now keys) ≤ 1024) × (length (now links) ≡ 1024) × (i < length (now keys)) ⌝ }
+    ensures { λ r. ⌜ (r ≡ half-after (now (keys .entry)) i) × (i < r) × (r ≤ length (now (keys .entry))) ⌝ }
+{
+    if keys::half_of(keys[i]) == 0 {
+        return keys.len();
+    }
+    follow_after(keys, links, i)
 }

@@ -1,5 +1,5 @@
 -- Rule 9 on keys.
-use Prim.Native.Nat.{ℕ, _-_, _<_}
+use Prim.Native.Nat.{ℕ, _<_}
 use mathlib.Core.Path.{_≡_}
 use mathlib.Core.Bool.{Bool, not, _&&_, _||_}
 use mathlib.Core.List.{List}
@@ -9,9 +9,13 @@ use Rattle.views.specs.declared.View.{View}
 use Rattle.keys.specs.Keys.{classKey}
 use Rattle.halves.specs.Nearest.{half-before, half-after}
 
+-- the first n elements of an array are those of a function
+abbrev pub Filled : (ℕ → ℕ) → ℕ → List ℕ → Type 0
+Filled f n l = (k : ℕ) → k < n → getD l k 0 ≡ f k
+
 -- arrays that hold the nearest other halves of the markers
 abbrev pub Halves : List ℕ → List ℕ → List ℕ → Type 0
-Halves keys starts ends = (k : ℕ) → k < length keys → (getD starts k 0 ≡ half-before keys k) × (getD ends k 0 ≡ half-after keys k)
+Halves keys starts ends = Filled (half-before keys) (length keys) starts × Filled (half-after keys) (length keys) ends
 
 -- a marker between the indices `first` and `end`, by its nearest other halves: isolated, or of a pair whose other half is not there too
 abbrev pub strayKey : ℕ → ℕ → ℕ → ℕ → ℕ → Bool

@@ -9,9 +9,10 @@ ghost use Prim.Native.Nat.{suc, _+_, _-_, _<_, _≤_};
 ghost use lib.ListN.{length, drop};
 ghost use Rattle.answers.specs.Answers.{refusal-at, toward};
 ghost use Rattle.keys.specs.Keys.{keysAt};
-ghost use Rattle.halves.specs.Nearest.{marker-at, earlier};
+ghost use Rattle.halves.specs.Nearest.{half-before, half-after, marker-at, earlier};
 ghost use Rattle.id_links.specs.Nearest.{next};
-ghost use Rattle.overlap.specs.Nine.{Halves, strayKey, strayAt, closedStart};
+ghost use Rattle.id_links.specs.Links.{Linked, LinkedAfter};
+ghost use Rattle.overlap.specs.Nine.{Filled, Halves, strayKey, strayAt, closedStart};
 ghost use Rattle.xliff.specs.Sequences.{blamed, items};
 ghost use Rattle.xliff.specs.Rules.{bad-9, fault-9};
 ghost use Rattle.xliff.specs.Parse.{unit};
@@ -19,18 +20,44 @@ ghost use Rattle.places.specs.Passes.{Passes};
 ghost use Rattle.sequences.specs.Marks.{offsets};
 ghost use Rattle.places.specs.Markers.{placed-at, target-offsets};
 
+// The nearest other half before each marker, of keys that are linked to those before them.
+// Linear in the markers where few of them are of one group, quadratic where all are.
+fn fill_starts(keys: &[u32], links: &[u16], starts: &mut [u16])
+    requires { ⌜ (length (now keys) ≤ 1024) × (length (now links) ≡ 1024) × (length (now starts) ≡ 1024) × Linked (now keys) (now links) ⌝ }
+    ensures { λ r. ⌜ (length (now (starts .exit)) ≡ 1024) × Filled (half-before (now (keys .entry))) (length (now (keys .entry))) (now (starts .exit)) ⌝ }
+{
+    let mut i = 0;
+    while i < keys.len() {
+        starts[i] = halves::linked_before(keys, links, i) as u16;
+        i += 1;
+    }
+}
+
+// The nearest other half after each marker, of keys that are linked to those after them.
+// Linear in the markers where few of them are of one group, quadratic where all are.
+fn fill_ends(keys: &[u32], links: &[u16], ends: &mut [u16])
+    requires { ⌜ (length (now keys) ≤ 1024) × (length (now links) ≡ 1024) × (length (now ends) ≡ 1024) × LinkedAfter (now keys) (now links) ⌝ }
+    ensures { λ r. ⌜ (length (now (ends .exit)) ≡ 1024) × Filled (half-after (now (keys .entry))) (length (now (keys .entry))) (now (ends .exit)) ⌝ }
+{
+    let mut i = 0;
+    while i < keys.len() {
+        ends[i] = halves::linked_after(keys, links, i) as u16;
+        i += 1;
+    }
+}
+
 // The nearest other halves of all markers.
-// Quadratic in the markers: two scans of the keys for each.
+// Linear in the markers where few of them are of one group, quadratic where all are.
 fn fill(keys: &[u32], starts: &mut [u16], ends: &mut [u16])
     requires { ⌜ (length (now keys) ≤ 1024) × (length (now starts) ≡ 1024) × (length (now ends) ≡ 1024) ⌝ }
     ensures { λ r. ⌜ (length (now (starts .exit)) ≡ 1024) × (length (now (ends .exit)) ≡ 1024) × Halves (now (keys .entry)) (now (starts .exit)) (now (ends .exit)) ⌝ }
 {
-    let mut i = 0;
-    while i < keys.len() {
-        starts[i] = halves::half_before(keys, i) as u16;
-        ends[i] = halves::half_after(keys, i) as u16;
-        i += 1;
-    }
+    let mut links = [0u16; 1024];
+    let mut heads = [0u16; 256];
+    id_links::link_before(keys, &mut links, &mut heads);
+    fill_starts(keys, &links, starts);
+    id_links::link_after(keys, &mut links);
+    fill_ends(keys, &links, ends);
 }
 
 // Whether a marker between `first` and `end`, with these nearest other halves, is isolated or has its other half elsewhere.
@@ -117,7 +144,7 @@ fn overlapping(
 }
 
 // Rule 9 over the markers of a sequence, below `start`.
-// Quadratic in the markers: `fill` and `overlapping`.
+// Quadratic in the markers: `overlapping`.
 pub fn nine_in(t: &[u8], os: &[u16], keys: &[u32], start: Place) -> Place
     requires { ⌜ (now keys ≡ keysAt (now t) (now os)) × (length (now os) ≤ 1024) ⌝ }
     ensures { λ r. ⌜ refusal-at 9 r ≡ toward 9 start (blamed bad-9 [] (placed-at (now (t .entry)) (now (os .entry)))) ⌝ }
