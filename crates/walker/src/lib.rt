@@ -9,8 +9,8 @@ ghost use Rattle.table.specs.Meaning.{meaning, width, body};
 ghost use Rattle.table.specs.Known.{Known};
 ghost use Rattle.glance.specs.Glances.{Glanced};
 ghost use Rattle.walker.specs.Offsets.{After};
-use table::Read;
 use glance::Glance;
+use table::Read;
 
 // Over the lent table: the slice, and the offset of the next record.
 pub struct Walker<'a> {
@@ -65,7 +65,10 @@ pub fn glance<'a>(w: Walker<'a>) -> Glance
 pub fn passed<'a>(w: Walker<'a>) -> Walker<'a>
     ensures { λ r. ⌜ (r .table ≡ w .entry .table) × After (now (w .entry .table)) (w .entry .next) (r .next) ⌝ }
 {
-    Walker { table: w.table, next: after_at(w.table, w.next) }
+    Walker {
+        table: w.table,
+        next: after_at(w.table, w.next),
+    }
 }
 
 // What callers use: their proofs have no walk.
