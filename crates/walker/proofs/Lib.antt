@@ -1,1 +1,3 @@
 pub mod OffsetLaws
+pub mod Contracts
+pub mod Asks
