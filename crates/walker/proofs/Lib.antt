@@ -1,3 +1,6 @@
 pub mod OffsetLaws
 pub mod Contracts
-pub mod Asks
+pub mod Apart
+pub mod ByCallee
+pub mod Made
+pub mod ByWalker
