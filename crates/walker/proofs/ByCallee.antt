@@ -45,10 +45,10 @@ module _ (R : RattleType) (ty : Ty) (Told : List ℕ → ℕ → R .Denot → Ty
     params = 1;
     locals = local ty valueLocal ∷ local (T′.mir (named 0)) valueLocal ∷ local (sliceTy (tyRef erased imm (tyInt w8))) valueLocal ∷ local (tyInt w64) valueLocal ∷ [];
     body =
-      seq (assign (place 2 []) (rvOpd (copy (place 1 (field 0 ∷ [])))))
-      (seq (assign (place 3 []) (rvOpd (copy (place 1 (field 1 ∷ [])))))
-      (seq (call callee (copy (place 2 []) ∷ copy (place 3 []) ∷ []) (place 0 []))
-      return));
+        seq (assign (place 2 []) (rvOpd (copy (place 1 (field 0 ∷ [])))))
+        (seq (assign (place 3 []) (rvOpd (copy (place 1 (field 1 ∷ [])))))
+        (seq (call callee (copy (place 2 []) ∷ copy (place 3 []) ∷ []) (place 0 []))
+        return));
   }
 
   abbrev stayed : Stays (on-walker R Told .signature .params) (on-walker R Told .kept)

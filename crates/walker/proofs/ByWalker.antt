@@ -52,9 +52,9 @@ module _ (R : RattleType) (ty : Ty) (Told : List ℕ → ℕ → R .Denot → Ty
     params = 2;
     locals = local ty valueLocal ∷ local (sliceTy (tyRef (named 0) imm (tyInt w8))) valueLocal ∷ local (tyInt w64) valueLocal ∷ local (T′.mir erased) valueLocal ∷ [];
     body =
-      seq (call #walker·new (copy (place 1 []) ∷ copy (place 2 []) ∷ []) (place 3 []))
-      (seq (call asked (copy (place 3 []) ∷ []) (place 0 []))
-      return);
+        seq (call #walker·new (copy (place 1 []) ∷ copy (place 2 []) ∷ []) (place 3 []))
+        (seq (call asked (copy (place 3 []) ∷ []) (place 0 []))
+        return);
   }
 
   -- what is told of the walker made is told of the slice and the offset
@@ -67,8 +67,8 @@ module _ (R : RattleType) (ty : Ty) (Told : List ℕ → ℕ → R .Denot → Ty
       abbrev αᵉ : NamedLft
       αᵉ = record { mir = erased; lft = κ }
 
-      abbrev Given-new : SProp 𝓤
-      Given-new = New 𝓤 H A mem run .pre (to-new 𝓤 H A mem run κ q s n)
+      abbrev Pre-new : SProp 𝓤
+      Pre-new = New 𝓤 H A mem run .pre (to-new 𝓤 H A mem run κ q s n)
 
       abbrev to : Walker → Val → OnWalker R Told 𝓤 H A .Ghost
       to = to-walker R Told 𝓤 H A κ q
@@ -81,7 +81,7 @@ module _ (R : RattleType) (ty : Ty) (Told : List ℕ → ℕ → R .Denot → Ty
       walk C Λ fm known-new known p =
           qed W (raw (onEntry 𝓤 H A (on-slice R Told .signature) (κ, tt) (q, tt) (s, (n, tt)) (values s n)) ∷ []) ∵ enter ! C Λ by-walker (value s ∷ vint w64 n ∷ []) _ $
           alloc1 ! (λ l₀. alloc1 ! (λ l₁. alloc1 ! (λ l₂. alloc1 ! (λ l₃. alloc0 ! $ params1 ! $ pass1 ! (init ! 4 refl (shr-slice-lawful 𝓤 H A W (named 0) κ u8 .typed s (value s ∷ []) p .0)) $ pass1 ! (init ! 2 refl (tt, record { fits = ok })) $ pass0 ! $
-          move ! (8 ∷ []) $ use1 W (raw Given-new ⊛ ‵ (Slice κ s)) (goes-new 𝓤 H A mem run κ q s n W) $ split ! $
+          move ! (8 ∷ []) $ use1 W (raw Pre-new ⊛ ‵ (Slice κ s)) (goes-new 𝓤 H A mem run κ q s n W) $ split ! $
           calls-at ! fm (New 𝓤 H A mem run) known-new (to-new 𝓤 H A mem run κ q s n) (and-then ! (load ! (from ! (stop !)) (look ! 6 refl)) (and-then ! (load ! (from ! (stop !)) (look ! 4 refl)) (no-more !))) (λ u.
           use1 W (later (some (λ (r : Walker). ((‵ (flft κ q) ⊛ ‵ ftrue) ⊛ ‵ (Held (κ, tt) .own r (u ∷ []))) ⊛ raw (ensured 𝓤 H A new.ended (new.clauses 𝓤 H A mem run) (κ, tt) (s, (n, tt)) tt r)))) (id⊢ 𝓤 _) $ await ! tt $ pick ! (λ r.
           split ! $ move ! (1 ∷ []) $ use1 W (raw (fact 𝓤 (Made s n r))) (new-said 𝓤 H A mem run κ q s n r) $ heard ! (Made s n r) (λ e. split ! $ move ! (1 ∷ []) $
