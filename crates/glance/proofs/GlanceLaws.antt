@@ -1,5 +1,5 @@
 -- A glance agrees with what the reader finds.
-use Prim.Native.Nat.{ℕ, _+_, _-_}
+use Prim.Native.Nat.{ℕ, _+_, _-_, _≤_}
 use mathlib.Core.Path.{_≡_, refl, sym, subst}
 use mathlib.Core.Bool.{Bool, true, false, cond}
 use mathlib.Core.List.{List}
@@ -14,7 +14,7 @@ use Rattle.table.specs.declared.Record.{Record}
 use Rattle.table.specs.declared.Record.the-variants.{Text}
 use Rattle.table.specs.declared.Read.{Read}
 use Rattle.table.specs.declared.Read.the-variants.{Good, Ill, Broken}
-use Rattle.table.proofs.ReadLaws.{record-is}
+use Rattle.table.proofs.ReadLaws.{record-is, no-record}
 use Rattle.glance.specs.declared.Glance.{Glance}
 use Rattle.glance.specs.Glances.{glanceIn, Agrees, on-good, on-ill, on-broken, Glanced, partGlance, itemGlance, targetGlance, glanceT, glanceS, glanceE, glanceI, rareGlance, glanceOf}
 
@@ -165,3 +165,7 @@ glanced t g e =
       wide = r .1;
       agrees = subst (λ (z : Glance). Agrees z (recordOf t false)) (sym e) (record-agrees t);
     }
+
+-- beyond the end there is no record
+pub nothing-glanced : (s : List ℕ) (at : ℕ) (g : Glance) → length s ≤ at → Glanced (drop at s) g
+nothing-glanced s at g h = let n = no-record s at h in record { found = Broken false; means = n .0; wide = n .1; agrees = on-broken }

@@ -2,7 +2,7 @@
 ghost use mathlib.Core.Path.{_≡_};
 ghost use mathlib.Core.Bool.{true, false};
 ghost use Prim.Native.Nat.{_+_, _≤_};
-ghost use lib.ListN.{length};
+ghost use lib.ListN.{length, drop};
 ghost use Rattle.text.specs.Pick.{pick};
 ghost use Rattle.glance.specs.Glances.{partGlance, itemGlance, targetGlance, glanceT, glanceS, glanceE, glanceI, rareGlance, Glanced};
 
@@ -133,4 +133,14 @@ pub fn glance_of(t: &[u8]) -> Glance
         return glance_e(b);
     }
     rare_glance(a, b)
+}
+
+// A glance at the record at an offset of `s`; beyond the end there is none.
+pub fn glance_at(s: &[u8], at: usize) -> Glance
+    ensures { λ r. ⌜ Glanced (drop at (now (s .entry))) r ⌝ }
+{
+    if s.len() < at {
+        return item_glance(false, 0);
+    }
+    glance_of(&s[at..])
 }

@@ -38,7 +38,7 @@ use Rattle.text.proofs.TextLaws.{text-good, text-bad-is}
 -- an answer is that of a record of the specification; where it is known, an ill text may be taken for a text
 pub data Tied (t : List ℕ) (known : Bool) : Read → encode.Record → Type 0 where
   tied : {r : Read} {x : encode.Record} → meaning (body t) r ≡ x → width r ≡ length (record-bytes x) → Tied t known r x
-  taken : {w : ℕ} → known ≡ true → Tied t known (Good Text w) ill-text
+  taken : {w : ℕ} → known ≡ true → w ≤ length t → Tied t known (Good Text w) ill-text
 
 -- letters
 or-false : (a : Bool) → a || false ≡ a
@@ -201,16 +201,16 @@ module _ (t : List ℕ) (known : Bool) where
   text-found n s e f l false h = subst (λ (o : Option (List ℕ)). Tied t known Ill (text-record o)) (sym (text-bad-is s h)) (tied refl refl)
 
   -- a text that is not looked at
-  text-taken : (n : ℕ) (s : List ℕ) → two-at t 2 ≡ n → take n (drop 4 t) ≡ s → length s ≡ n → (b : Bool) → textOk s ≡ b → known ≡ true
+  text-taken : (n : ℕ) (s : List ℕ) → two-at t 2 ≡ n → take n (drop 4 t) ≡ s → length s ≡ n → 4 + n ≤ length t → (b : Bool) → textOk s ≡ b → known ≡ true
       → Tied t known (Good Text (4 + n)) (text-record (text-of s))
   unfolding text-record
-  text-taken n s e f l true h k = text-found n s e f l true h
-  text-taken n s e f l false h k = subst (λ (o : Option (List ℕ)). Tied t known (Good Text (4 + n)) (text-record o)) (sym (text-bad-is s h)) (taken k)
+  text-taken n s e f l m true h k = text-found n s e f l true h
+  text-taken n s e f l m false h k = subst (λ (o : Option (List ℕ)). Tied t known (Good Text (4 + n)) (text-record o)) (sym (text-bad-is s h)) (taken k m)
 
-  text-by : (n : ℕ) (s : List ℕ) → two-at t 2 ≡ n → take n (drop 4 t) ≡ s → length s ≡ n → (k : Bool) → known ≡ k
+  text-by : (n : ℕ) (s : List ℕ) → two-at t 2 ≡ n → take n (drop 4 t) ≡ s → length s ≡ n → 4 + n ≤ length t → (k : Bool) → known ≡ k
       → Tied t known (cond k (Good Text (4 + n)) (cond (textOk s) (Good Text (4 + n)) Ill)) (text-record (text-of s))
-  text-by n s e f l true k = text-taken n s e f l (textOk s) refl k
-  text-by n s e f l false k = text-found n s e f l (textOk s) refl
+  text-by n s e f l m true k = text-taken n s e f l m (textOk s) refl k
+  text-by n s e f l m false k = text-found n s e f l (textOk s) refl
 
   text-tied : Tied t known (textOf t known) (read-as TX t)
   unfolding textOf read-as whole two-at
@@ -224,7 +224,8 @@ module _ (t : List ℕ) (known : Bool) where
           (cond (a && b) (text-record (text-of (take (numberAt t 2) (drop 4 t)))) (broken false))
       by true true p q =
           text-by (numberAt t 2) (take (numberAt t 2) (drop 4 t)) refl refl
-          (take-length (numberAt t 2) (drop 4 t) (omega (arith, leb-true (numberAt t 2) (length t - 4) q, length-drop 4 t))) known refl
+          (take-length (numberAt t 2) (drop 4 t) (omega (arith, leb-true (numberAt t 2) (length t - 4) q, length-drop 4 t)))
+          (omega (arith, leb-true 4 (length t) p, leb-true (numberAt t 2) (length t - 4) q)) known refl
       by true false p q = broken-tied t known false
       by false b p q = broken-tied t known false
 
@@ -355,7 +356,7 @@ module _ (t : List ℕ) (known : Bool) where
       letter-tied (getD t 0 0) 67 _ _ (λ n. read-as (mark-of n (getD t 1 0)) t) after-c-tied (λ e7.
       rw (e0, e1, e2, e3, e4, e5, e6, e7) unknown-tied))))))))
 
-record-tied : (t : List ℕ) (known : Bool) → Tied t known (recordOf t known) (read t)
+pub record-tied : (t : List ℕ) (known : Bool) → Tied t known (recordOf t known) (read t)
 unfolding recordOf read mark-at read-as
 record-tied [] known = broken-tied [] known false
 record-tied (a ∷ []) known = broken-tied (a ∷ []) known false
@@ -366,19 +367,22 @@ record-is t r e = by (subst (λ (z : Read). Tied t false z (read t)) (sym e) (re
   where
     by : {z : Read} {x : encode.Record} → Tied t false z x → (meaning (body t) z ≡ x) × (width z ≡ length (record-bytes x))
     by (tied p q) = (p, q)
-    by (taken k) = absurd (false≢true k)
+    by (taken k m) = absurd (false≢true k)
 
 pub known-is : (t : List ℕ) (r : Read) → r ≡ recordOf t true → Known t r
 known-is t r e = by refl (subst (λ (z : Read). Tied t true z (read t)) (sym e) (record-tied t true))
   where
     by : {z : Read} {x : encode.Record} → read t ≡ x → Tied t true z x → Known t z
     by f (tied p q) = same-record (p ∙ sym f) (q ∙ ap (λ (y : encode.Record). length (record-bytes y)) (sym f))
-    by f (taken k) = some-text f
+    by f (taken k m) = some-text f
 
 -- beyond the end there is no record
-pub nothing-there : (s : List ℕ) (at : ℕ) → length s ≤ at → Known (drop at s) (Broken false)
+pub no-record : (s : List ℕ) (at : ℕ) → length s ≤ at → (meaning (body (drop at s)) (Broken false) ≡ read (drop at s)) × (width (Broken false) ≡ length (record-bytes (read (drop at s))))
 unfolding read read-as mark-at record-bytes
-nothing-there s at h = rw (drop-of-length-le s h) (same-record refl refl)
+no-record s at h = rw (drop-of-length-le s h) (refl, refl)
+
+pub nothing-there : (s : List ℕ) (at : ℕ) → length s ≤ at → Known (drop at s) (Broken false)
+nothing-there s at h = let n = no-record s at h in same-record (n .0) (n .1)
 
 -- a known record that the specification does not read as an ill text
 pub known-same : (t : List ℕ) (r : Read) → Known t r → (read t ≡ ill-text → ⊥) → (meaning (body t) r ≡ read t) × (width r ≡ length (record-bytes (read t)))

@@ -1,5 +1,5 @@
 -- What the reader finds where a text's characters are not looked at.
-use Prim.Native.Nat.{ℕ}
+use Prim.Native.Nat.{ℕ, _≤_}
 use mathlib.Core.Path.{_≡_}
 use mathlib.Core.List.{List}
 use lib.ListN.{length}
@@ -14,3 +14,10 @@ use Rattle.table.specs.declared.Read.the-variants.{Good}
 pub data Known (t : List ℕ) : Read → Type 0 where
   same-record : {r : Read} → meaning (body t) r ≡ read t → width r ≡ length (record-bytes (read t)) → Known t r
   some-text : {w : ℕ} → read t ≡ ill-text → Known t (Good Text w)
+
+-- the width of what the reader finds so: no more than there are bytes
+pub record KnownWidth (t : List ℕ) (w : ℕ) : Type 0 where
+  pub found : Read
+  pub known : Known t found
+  pub wide : w ≡ width found
+  pub fits : w ≤ length t

@@ -1,0 +1,96 @@
+// The records of a lent table, one by one: a struct of the slice and the offset of the next record, and thin functions over it. The borrow
+// checker covers no function over such a struct, so each is proved by hand, and leaves the work to one on a slice and an offset.
+ghost use mathlib.Core.Path.{_≡_};
+ghost use lib.ListN.{drop, length};
+ghost use Rattle.xliff.specs.Encode.{record-bytes};
+ghost use Rattle.xliff.specs.Parse.{read};
+ghost use Rattle.table.specs.Meaning.{meaning, width, body};
+ghost use Rattle.table.specs.Known.{Known};
+ghost use Rattle.glance.specs.Glances.{Glanced};
+ghost use Rattle.walker.specs.Offsets.{After};
+use glance::Glance;
+use table::Read;
+
+// Over the lent table: the slice, and the offset of the next record.
+pub struct Walker<'a> {
+    pub table: &'a [u8],
+    pub next: usize,
+}
+
+// The offset behind the record at `at`, which was read before; `at` where none is good.
+fn after_at(t: &[u8], at: usize) -> usize
+    ensures { λ r. ⌜ After (now (t .entry)) at r ⌝ }
+{
+    if t.len() < at {
+        return at;
+    }
+    at + table::known_width(&t[at..])
+}
+
+pub fn new<'a>(table: &'a [u8], next: usize) -> Walker<'a>
+    ensures { λ r. ⌜ (r .table ≡ table .entry) × (r .next ≡ next) ⌝ }
+{
+    Walker { table, next }
+}
+
+pub fn next<'a>(w: Walker<'a>) -> usize
+    ensures { λ r. ⌜ r ≡ w .entry .next ⌝ }
+{
+    w.next
+}
+
+// The next record.
+pub fn record<'a>(w: Walker<'a>) -> Read
+    ensures { λ r. ⌜ (meaning (body (drop (w .entry .next) (now (w .entry .table)))) r ≡ read (drop (w .entry .next) (now (w .entry .table)))) × (width r ≡ length (record-bytes (read (drop (w .entry .next) (now (w .entry .table)))))) ⌝ }
+{
+    table::record_at(w.table, w.next)
+}
+
+// The next record, which was read before.
+pub fn known<'a>(w: Walker<'a>) -> Read
+    ensures { λ r. ⌜ Known (drop (w .entry .next) (now (w .entry .table))) r ⌝ }
+{
+    table::known_at(w.table, w.next)
+}
+
+// A glance at the next record, which was read before.
+pub fn glance<'a>(w: Walker<'a>) -> Glance
+    ensures { λ r. ⌜ Glanced (drop (w .entry .next) (now (w .entry .table))) r ⌝ }
+{
+    glance::glance_at(w.table, w.next)
+}
+
+// The walker behind its record, which was read before.
+pub fn passed<'a>(w: Walker<'a>) -> Walker<'a>
+    ensures { λ r. ⌜ (r .table ≡ w .entry .table) × After (now (w .entry .table)) (w .entry .next) (r .next) ⌝ }
+{
+    Walker {
+        table: w.table,
+        next: after_at(w.table, w.next),
+    }
+}
+
+// What callers use: their proofs have no walk.
+pub fn record_at(t: &[u8], at: usize) -> Read
+    ensures { λ r. ⌜ (meaning (body (drop at (now (t .entry)))) r ≡ read (drop at (now (t .entry)))) × (width r ≡ length (record-bytes (read (drop at (now (t .entry)))))) ⌝ }
+{
+    record(new(t, at))
+}
+
+pub fn known_at(t: &[u8], at: usize) -> Read
+    ensures { λ r. ⌜ Known (drop at (now (t .entry))) r ⌝ }
+{
+    known(new(t, at))
+}
+
+pub fn glance_at(t: &[u8], at: usize) -> Glance
+    ensures { λ r. ⌜ Glanced (drop at (now (t .entry))) r ⌝ }
+{
+    glance(new(t, at))
+}
+
+pub fn after(t: &[u8], at: usize) -> usize
+    ensures { λ r. ⌜ After (now (t .entry)) at r ⌝ }
+{
+    next(passed(new(t, at)))
+}
