@@ -10,6 +10,7 @@ use Rattle.xliff.specs.Unit.{Target, no-target, target, Part, has-target}
 use Rattle.xliff.specs.Encode as encode
 use Rattle.xliff.specs.Encode.{opening, closing, part-head, target-head, text-run, inline, ill-text, broken, record-bytes, content-records, target-records, part-records, spell, content-bytes}
 use Rattle.places.proofs.Places.{At, content-inner}
+use Rattle.walker.specs.Offsets.{After}
 use Rattle.table.specs.Meaning.{meaning, width, body}
 use Rattle.table.specs.declared.Record.the-variants.{Unit as UnitStart, UnitEnd, Segment, Ignorable, Target as TargetHead, Text, Inline}
 use Rattle.table.specs.declared.Read.{Read}
@@ -115,26 +116,23 @@ module _ (t : List ℕ) (at : ℕ) (r : Read) (m : Means t at r) (w : ℕ) (wide
       subst (λ (k : Target). TargetSpan at k place) (sym (none-is e g rest a b)) (record { ends = omega (arith, n); order = o; has = h })
 
 -- at the head of a part
-module _ (t : List ℕ) (at : ℕ) (r : Read) (m : Means t at r) (w : ℕ) (wide : w ≡ width r) where
+module _ (t : List ℕ) (at next : ℕ) (after : After t at next) where
   part-first : (p : Part) (rest : List encode.Record) → At t at (part-records p ++ rest)
-      → First t at (part-head (p .head)) (content-records (p .source) ++ (target-records (p .target) ++ rest)) r
+      → First t at (part-head (p .head)) (content-records (p .source) ++ (target-records (p .target) ++ rest)) (after .found)
   unfolding part-records
   part-first p rest a =
-      first-read t at (part-head (p .head)) (content-records (p .source) ++ (target-records (p .target) ++ rest)) r
-      (subst (λ (l : List encode.Record). At t at (part-head (p .head) ∷ l)) (append-assoc (content-records (p .source)) (target-records (p .target)) rest) a) m
+      first-read t at (part-head (p .head)) (content-records (p .source) ++ (target-records (p .target) ++ rest)) (after .found)
+      (subst (λ (l : List encode.Record). At t at (part-head (p .head) ∷ l)) (append-assoc (content-records (p .source)) (target-records (p .target)) rest) a) (after .known)
 
-  source-there : (p : Part) (rest : List encode.Record) → At t at (part-records p ++ rest) → At t (at + w) (content-records (p .source) ++ (target-records (p .target) ++ rest))
-  source-there p rest a = subst (λ (k : ℕ). At t (at + k) (content-records (p .source) ++ (target-records (p .target) ++ rest))) (sym wide) (part-first p rest a .then)
+  source-there : (p : Part) (rest : List encode.Record) → At t at (part-records p ++ rest) → At t next (content-records (p .source) ++ (target-records (p .target) ++ rest))
+  source-there p rest a = subst (λ (k : ℕ). At t k (content-records (p .source) ++ (target-records (p .target) ++ rest))) (sym (after .offset)) (part-first p rest a .then)
 
-  pub source-fits : PartFrom t at → at + w ≤ length t
-  source-fits (p, rest, a, b) = omega (arith, part-first p rest a .fits, wide)
-
-  pub source-content : PartFrom t at → ContentAt t (at + w)
+  pub source-content : PartFrom t at → ContentAt t next
   source-content (p, rest, a, b) =
       (content-records (p .source), target-records (p .target) ++ rest, source-there p rest a, content-inner (p .source), outer-target (p .target) rest b)
 
-  module _ (e : ℕ) (c : ContentEnds t (at + w) e) where
-    target-offset : (p : Part) (rest : List encode.Record) → At t at (part-records p ++ rest) → Begins rest → e ≡ at + w + length (content-bytes (p .source))
+  module _ (e : ℕ) (c : ContentEnds t next e) where
+    target-offset : (p : Part) (rest : List encode.Record) → At t at (part-records p ++ rest) → Begins rest → e ≡ next + length (content-bytes (p .source))
     unfolding content-bytes
     target-offset p rest a b = c (content-records (p .source)) (target-records (p .target) ++ rest) (source-there p rest a) (content-inner (p .source)) (outer-target (p .target) rest b)
 
@@ -142,17 +140,17 @@ module _ (t : List ℕ) (at : ℕ) (r : Read) (m : Means t at r) (w : ℕ) (wide
     unfolding content-bytes
     target-there p rest a b =
         subst (λ (k : ℕ). At t k (target-records (p .target) ++ rest)) (sym (target-offset p rest a b))
-        (at-past t (at + w) (content-records (p .source)) (target-records (p .target) ++ rest) (source-there p rest a))
+        (at-past t next (content-records (p .source)) (target-records (p .target) ++ rest) (source-there p rest a))
 
     pub part-target : PartFrom t at → TargetAt t e
     part-target (p, rest, a, b) = (p .target, rest, target-there p rest a b, b)
 
-    pub part-spans : (place : PartPlace) → (place .head ≡ at) × (place .source ≡ at + w) × (place .target ≡ e) × TargetSpans t e place → PartSpans t at place
+    pub part-spans : (place : PartPlace) → (place .head ≡ at) × (place .source ≡ next) × (place .target ≡ e) × TargetSpans t e place → PartSpans t at place
     unfolding record-bytes
     part-spans place (h, s, g, z) p rest a b =
         record {
           head = h;
-          source = omega (arith, s, wide, part-first p rest a .wide);
+          source = omega (arith, s, after .offset, part-first p rest a .wide);
           target = omega (arith, s, g, target-offset p rest a b);
           rest = subst (λ (k : ℕ). TargetSpan k (p .target) place) (sym g) (z (p .target) rest (target-there p rest a b) b);
         }

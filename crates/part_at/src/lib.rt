@@ -123,7 +123,7 @@ fn part_from(t: &[u8], at: usize) -> PartPlace
     requires { ⌜ PartFrom (now t) at ⌝ }
     ensures { λ r. ⌜ PartSpans (now (t .entry)) at r ⌝ }
 {
-    let source = at + syntax::width_of(table::known_at(t, at));
+    let source = walker::after(t, at);
     let target = content_end(t, source);
     target_place(t, at, source, target)
 }

@@ -116,7 +116,7 @@ pub fn count_records(t: &[u8]) -> usize
     let mut at = 0;
     let mut n = 0;
     while at < t.len() {
-        at += syntax::width_of(table::known_at(t, at));
+        at = walker::after(t, at);
         n += 1;
     }
     n

@@ -26,9 +26,7 @@ count-records-spec =
     μ-loop
     (λ c. (unit-records (unit (c .before .args .t .now)), at-start (c .before .args .t .now) ((c .before .pre)), omega arith))
     (λ c κs. search needs)
-    (λ c κs. search needs)
-    (λ c. let i = c .before .before .before .loop .inv in let s = stepped (c .before .before .before .before .before .args .t .now) (c .before .before .before .loop .at) (i .0) (c .before .known-at .result) (i .1) ((c .before .before .loop-test .taken)) (c .before .known-at .ensures) in omega (arith, s .fits, c .width-of .ensures))
-    (λ c. let i = c .before .before .before .loop .inv in omega (arith, i .2, c .before .before .before .before .before .pre .few))
-    (λ c. let i = c .before .before .before .loop .inv in let s = stepped (c .before .before .before .before .before .args .t .now) (c .before .before .before .loop .at) (i .0) (c .before .known-at .result) (i .1) ((c .before .before .loop-test .taken)) (c .before .known-at .ensures) in omega (arith, s .fits, s .moves, c .width-of .ensures))
-    (λ c. let i = c .before .before .before .loop .inv in let s = stepped (c .before .before .before .before .before .args .t .now) (c .before .before .before .loop .at) (i .0) (c .before .known-at .result) (i .1) ((c .before .before .loop-test .taken)) (c .before .known-at .ensures) in (s .others, subst (λ (k : ℕ). At (c .before .before .before .before .before .args .t .now) (c .before .before .before .loop .at + k) (s .others)) (sym (c .width-of .ensures)) (s .rest), omega (arith, i .2, ap (λ (l : List Record). length l) (s .split))))
+    (λ c. let i = c .before .before .loop .inv in omega (arith, i .2, c .before .before .before .before .pre .few))
+    (λ c. let i = c .before .before .loop .inv in let s = stepped (c .before .before .before .before .args .t .now) (c .before .before .loop .at) (i .0) (c .after .ensures .found) (i .1) (c .before .loop-test .taken) (c .after .ensures .known) in omega (arith, s .fits, s .moves, c .after .ensures .offset))
+    (λ c. let i = c .before .before .loop .inv in let s = stepped (c .before .before .before .before .args .t .now) (c .before .before .loop .at) (i .0) (c .after .ensures .found) (i .1) (c .before .loop-test .taken) (c .after .ensures .known) in (s .others, subst (λ (k : ℕ). At (c .before .before .before .before .args .t .now) k (s .others)) (sym (c .after .ensures .offset)) (s .rest), omega (arith, i .2, ap (λ (l : List Record). length l) (s .split))))
     (λ c. let i = c .before .loop .inv in omega (arith, i .2, ap (λ (l : List Record). length l) (at-end (c .before .before .before .args .t .now) (c .before .loop .at) (i .0) (i .1) ((c .loop-test .left))))))
