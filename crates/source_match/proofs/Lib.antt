@@ -1,3 +1,4 @@
 pub mod TestLaws
-pub mod TenLaws
 pub mod MatchLaws
+pub mod ChainLaws
+pub mod TenLaws
