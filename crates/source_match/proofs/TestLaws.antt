@@ -1,6 +1,6 @@
 -- The tests of rule 10 on views are the specification's, and ask for an id.
 use Prim.Native.Nat.{ℕ}
-use mathlib.Core.Path.{_≡_, refl, sym, _∙_, ap₂}
+use mathlib.Core.Path.{_≡_, refl, sym, _∙_, ap, ap₂}
 use mathlib.Core.Bool.{Bool, true, false, not, _&&_, _||_}
 use mathlib.Core.List.{List, [], _∷_}
 use lib.Dec.{eqb}
@@ -10,10 +10,11 @@ use Rattle.xliff.specs.Item as spec
 use Rattle.xliff.specs.Item.{half, Content, alike, class, id-of, fields}
 use Rattle.xliff.specs.Rules.{bad-10-source, bad-10-target, unlike-source, bad-copy, of-other-class, starts-id, agrees, same-half, may-copy}
 use Rattle.xliff.proofs.lists.Tests.{and-false, or-none}
-use Rattle.views.specs.Views.{viewOf}
+use Rattle.views.specs.Views.{viewOf, isCode}
 use Rattle.views.specs.declared.View.{View}
 use Rattle.views.proofs.ViewLaws.{code-same}
-use Rattle.source_match.specs.Ten.{testOf, testBy, startsId, badTenSource, badTenTarget}
+use Rattle.source_match.specs.Ten.{testOf, testBy, startsId, matchesIn, badTenSource, copiesNone, badTenTarget}
+use Rattle.source_match.specs.declared.Matches.{Matches}
 
 any-each : (p q : spec.Item → Bool) → ((x : spec.Item) → p x ≡ q x) → (l : List spec.Item) → any p l ≡ any q l
 unfolding any
@@ -56,6 +57,18 @@ any-by kind id x far l = any-each _ _ (λ y. by (eqb (id-of y) id) (testOf kind 
     by : (b c : Bool) → (b ≡ false → c ≡ false) → b && c ≡ c
     by true c h = refl
     by false c h = sym (h refl)
+
+-- rule 10 of a target item by the tests of the items with its id, and of those with the id that it copies
+module _ (x : View) (l : List spec.Item) (m : Matches) where
+  pub copies-none-is : ((x .of ≡ 0) → ⊥) → m ≡ matchesIn (x .of) x l → not (m .copies) ≡ copiesNone l x
+  unfolding matchesIn
+  copies-none-is h e = rw (ne-eqb (x .of) 0 h) (ap (λ (f : Matches). not (f .copies)) e ∙ ap not (any-by 3 (x .of) x (copies-far x) l))
+
+  pub bad-target-is : (code none : Bool) → m ≡ matchesIn (x .id) x l → code ≡ isCode x → none ≡ copiesNone l x
+      → m .differs || code && m .starts && (not (m .agrees) || not (eqb (x .of) 0)) || code && none ≡ badTenTarget l x
+  unfolding matchesIn
+  bad-target-is code none e f g =
+      rw (e, f, g, any-by 0 (x .id) x (starts-far x) l, any-by 1 (x .id) x (differs-far x) l, any-by 2 (x .id) x (agrees-far x) l) refl
 
 -- the tests are the specification's
 pub ten-source-is : (before : Content) (x : spec.Item) (after : Content) → badTenSource (viewOf x) ≡ bad-10-source before x after
