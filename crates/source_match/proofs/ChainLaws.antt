@@ -1,8 +1,8 @@
 -- What holds while the links of a group are followed.
-use Prim.Native.Nat.{ℕ, zero, suc, _-_, _%_, _≤_, _<_}
-use mathlib.Core.Path.{_≡_, refl, sym, _∙_, ap, subst}
-use mathlib.Core.Bool.{Bool, true, false}
-use mathlib.Core.List.{List, []}
+use Prim.Native.Nat.{ℕ, suc, _-_, _%_, _≤_, _<_}
+use mathlib.Core.Path.{_≡_, sym, _∙_, ap, subst}
+use mathlib.Core.Bool.{Bool, true}
+use mathlib.Core.List.{List}
 use native.Mathlib.Omega.{arith}
 use lib.ListN.{length, take, getD}
 use lib.Seq.{take-all}
@@ -15,7 +15,6 @@ use Rattle.halves.proofs.Others.{length-keys}
 use Rattle.places.specs.Markers.{item-at}
 use Rattle.views.specs.Views.{itemsAt}
 use Rattle.views.specs.declared.View.{View}
-use Rattle.keys.specs.Keys.{keysAt}
 use Rattle.source_match.specs.declared.Matches.{Matches}
 use Rattle.source_match.specs.Ten.{matchesBy, matchesIn, joined, LinkedItems}
 use Rattle.source_match.proofs.MatchLaws.{none-found, joined-apart, joined-none, matches-past, matches-last}
@@ -38,10 +37,11 @@ module _ (t os keys links heads : List ℕ) (id : ℕ) (x : View) (given : Linke
   pub follow-start : (j : ℕ) → j ≡ getD heads (id % 256) 0 → Following t os keys id x none-found j
   follow-start j e =
       let f : j ≡ previous chain (length os) = e ∙ given .2 (id % 256) (omega arith) ∙ ap (previous chain) so-many in
-      subst (λ (k : ℕ). Following t os keys id x none-found k) (sym f)
-      (previous-high chain (length os),
-      previous-passes chain (length os),
-      sym (matches-past t os keys id x (given .0) (length os) (omega arith)) ∙ ap (λ (l : List ℕ). matchesIn id x (itemsAt t l)) (take-all (length os) os (omega arith)))
+      subst (λ (k : ℕ). Following t os keys id x none-found k) (sym f) (
+        previous-high chain (length os),
+        previous-passes chain (length os),
+        sym (matches-past t os keys id x (given .0) (length os) (omega arith)) ∙ ap (λ (l : List ℕ). matchesIn id x (itemsAt t l)) (take-all (length os) os (omega arith)),
+      )
 
   link-of : (found : Matches) (j : ℕ) → 0 < j → Following t os keys id x found j → getD links (j - 1) 0 ≡ previous chain (j - 1)
   link-of found j h f = link-is keys links (id % 256) j (given .1) h (omega (arith, f .0, so-many)) (f .1 h)
@@ -52,15 +52,16 @@ module _ (t os keys links heads : List ℕ) (id : ℕ) (x : View) (given : Linke
   pub follow-next : (found more : Matches) (j at k : ℕ) → 0 < j → Following t os keys id x found j → at ≡ getD os (j - 1) 0
       → more ≡ joined found (matchesBy id x (item-at t at)) → k ≡ getD links (j - 1) 0 → Following t os keys id x more k
   follow-next found more j at k h f a e l =
-      subst (λ (n : ℕ). Following t os keys id x more n) (sym (l ∙ link-of found j h f))
-      (let z = previous-high chain (j - 1) in omega (arith, z, f .0),
-      previous-passes chain (j - 1),
-      ap (λ (m : Matches). joined m (first (previous chain (j - 1)))) (e ∙ ap (λ (n : ℕ). joined found (matchesBy id x (item-at t n))) a)
-      ∙ joined-apart found (matchesBy id x (item-at t (getD os (j - 1) 0))) (first (previous chain (j - 1)))
-      ∙ ap (λ (m : Matches). joined found (joined (matchesBy id x (item-at t (getD os (j - 1) 0))) m)) (sym (matches-past t os keys id x (given .0) (j - 1) (omega (arith, f .0))))
-      ∙ ap (joined found) (sym (matches-last t os keys id x (given .0) (j - 1) (omega (arith, h, f .0))))
-      ∙ ap (λ (n : ℕ). joined found (first n)) (let z : suc (j - 1) ≡ j = omega (arith, h) in z)
-      ∙ f .2)
+      subst (λ (n : ℕ). Following t os keys id x more n) (sym (l ∙ link-of found j h f)) (
+        let z = previous-high chain (j - 1) in omega (arith, z, f .0),
+        previous-passes chain (j - 1),
+        ap (λ (m : Matches). joined m (first (previous chain (j - 1)))) (e ∙ ap (λ (n : ℕ). joined found (matchesBy id x (item-at t n))) a)
+            ∙ joined-apart found (matchesBy id x (item-at t (getD os (j - 1) 0))) (first (previous chain (j - 1)))
+            ∙ ap (λ (m : Matches). joined found (joined (matchesBy id x (item-at t (getD os (j - 1) 0))) m)) (sym (matches-past t os keys id x (given .0) (j - 1) (omega (arith, f .0))))
+            ∙ ap (joined found) (sym (matches-last t os keys id x (given .0) (j - 1) (omega (arith, h, f .0))))
+            ∙ ap (λ (n : ℕ). joined found (first n)) (let z : suc (j - 1) ≡ j = omega (arith, h) in z)
+            ∙ f .2,
+      )
 
   pub follow-end : (found : Matches) (j : ℕ) → j ≤ 0 → Following t os keys id x found j → found ≡ matchesIn id x (itemsAt t os)
   unfolding matchesIn any itemsAt

@@ -1,29 +1,26 @@
 -- The four tests of rule 10 along the links of a group.
-use Prim.Native.Nat.{ℕ, zero, suc, _-_, _/_, _%_, _≤_, _<_}
+use Prim.Native.Nat.{ℕ, zero, suc, _/_, _%_, _≤_, _<_}
 use mathlib.Core.Path.{_≡_, refl, sym, _∙_, ap}
 use mathlib.Core.Bool.{Bool, true, false, _||_, cond}
 use mathlib.Core.List.{List, [], _∷_}
 use native.Mathlib.Omega.{arith}
 use lib.ListN.{length, take, getD}
-use lib.Seq.{take-all}
 use lib.Dec.{eqb}
-use borrow.Author.Tests.{eq-eqb, eqb-true, eqb-false, ne-eqb}
+use borrow.Author.Tests.{eqb-false, ne-eqb}
 use Rattle.xliff.specs.Bytes.{any}
 use Rattle.xliff.specs.Item as spec
 use Rattle.xliff.specs.Item.{id-of}
 use Rattle.xliff.proofs.lists.Tests.{or-none}
 use Rattle.id_links.specs.Nearest.{previous}
-use Rattle.id_links.specs.Links.{in-group, group, Linked, Headed}
-use Rattle.id_links.proofs.Scans.{previous-passes, previous-high}
-use Rattle.id_links.proofs.Chains.{link-is}
-use Rattle.halves.proofs.Others.{length-keys, key-at}
+use Rattle.id_links.specs.Links.{in-group, group}
+use Rattle.halves.proofs.Others.{key-at}
 use Rattle.places.specs.Markers.{item-at}
 use Rattle.views.specs.Views.{viewOf, itemsAt}
 use Rattle.views.specs.declared.View.{View}
 use Rattle.keys.specs.Keys.{key, keysAt}
 use Rattle.keys.proofs.KeyLaws.{id-key}
 use Rattle.source_match.specs.declared.Matches.{Matches}
-use Rattle.source_match.specs.Ten.{testOf, testBy, matchesOf, matchesBy, matchesIn, joined, LinkedItems}
+use Rattle.source_match.specs.Ten.{testOf, testBy, matchesOf, matchesBy, matchesIn, joined}
 
 -- field by field
 same-matches : {f g : Matches} → f .starts ≡ g .starts → f .differs ≡ g .differs → f .agrees ≡ g .agrees → f .copies ≡ g .copies → f ≡ g

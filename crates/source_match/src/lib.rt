@@ -9,7 +9,7 @@ ghost use Prim.Native.Nat.{_+_, _-_, _<_, _≤_};
 ghost use lib.ListN.{length};
 ghost use Rattle.answers.specs.Answers.{refusal-at, toward};
 ghost use Rattle.places.specs.Markers.{item-at};
-ghost use Rattle.views.specs.Views.{viewOf, itemsAt};
+ghost use Rattle.views.specs.Views.{itemsAt};
 ghost use Rattle.keys.specs.Keys.{key, keysAt};
 ghost use Rattle.source_match.specs.Ten.{testOf, matchesOf, matchesBy, matchesIn, joined, badTenSource, copiesNone, badTenTarget, LinkedItems};
 ghost use Rattle.xliff.specs.Sequences.{blamed, first-of};

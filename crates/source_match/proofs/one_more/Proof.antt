@@ -8,26 +8,12 @@ use Rattle.source_match.proofs.MatchLaws.{far-matches, near-matches}
 use borrow.Author.Needs.{needs}
 use Rattle.source_match.proofs.one_more.Statement.{statement}
 use Rattle.source_match.proofs.one_more.Tie as tie
-use Rattle.source_match.proofs.one_more.Reads as reads
-use Rattle.source_match.proofs.one_more.Lts as lts
-use Rattle.source_match.proofs.matches_of.Reads as matches-of-reads
-use Rattle.views.proofs.view_at.Reads as view-at-reads
-
--- src/lib.rt:64:9
-returns : tie.Need-returns
-returns c = far-matches (c .before .before .args .id) (c .before .before .args .x) (item-at (c .before .before .args .t .now) (c .before .before .args .at)) (c .before .before .args .k) (c .before .before .args .found) (c .before .before .pre) (not-true _ (c .if1 .taken))
-
--- src/lib.rt:66:27
-view-at-requires : tie.Need-view-at-requires
-view-at-requires c κs = search needs
-
--- src/lib.rt:66:9
-matches-of-requires : tie.Need-matches-of-requires
-matches-of-requires c κs = search needs
-
--- src/lib.rt:59:1
-returns-2 : tie.Need-returns-2
-returns-2 c = ap (λ (g : Matches). joined (c .before .before .before .before .before .before .before .before .before .before .before .before .args .found) g) (c .before .before .before .before .before .before .before .before .matches-of .ensures ∙ ap (λ (v : View). matchesOf (c .before .before .before .before .before .before .before .before .before .before .before .before .args .x) v) (c .before .before .before .before .before .before .before .before .before .view-at .ensures) ∙ near-matches (c .before .before .before .before .before .before .before .before .before .before .before .before .args .id) (c .before .before .before .before .before .before .before .before .before .before .before .before .args .x) (item-at (c .before .before .before .before .before .before .before .before .before .before .before .before .args .t .now) (c .before .before .before .before .before .before .before .before .before .before .before .before .args .at)) (c .before .before .before .before .before .before .before .before .before .before .before .before .args .k) (c .before .before .before .before .before .before .before .before .before .before .before .before .pre) (not-false _ (c .before .before .before .before .before .before .before .before .before .before .if1 .left)))
 
 pub one-more-spec : {M : Type 1} → statement M
-one-more-spec = tie.close (tie.spec returns view-at-requires matches-of-requires returns-2)
+one-more-spec =
+    tie.close
+    (tie.spec
+    (λ c. far-matches (c .before .before .args .id) (c .before .before .args .x) (item-at (c .before .before .args .t .now) (c .before .before .args .at)) (c .before .before .args .k) (c .before .before .args .found) (c .before .before .pre) (not-true _ (c .if1 .taken)))
+    (λ c κs. search needs)
+    (λ c κs. search needs)
+    (λ c. ap (λ (g : Matches). joined (c .before .before .before .before .before .before .before .before .before .before .before .before .args .found) g) (c .before .before .before .before .before .before .before .before .matches-of .ensures ∙ ap (λ (v : View). matchesOf (c .before .before .before .before .before .before .before .before .before .before .before .before .args .x) v) (c .before .before .before .before .before .before .before .before .before .view-at .ensures) ∙ near-matches (c .before .before .before .before .before .before .before .before .before .before .before .before .args .id) (c .before .before .before .before .before .before .before .before .before .before .before .before .args .x) (item-at (c .before .before .before .before .before .before .before .before .before .before .before .before .args .t .now) (c .before .before .before .before .before .before .before .before .before .before .before .before .args .at)) (c .before .before .before .before .before .before .before .before .before .before .before .before .args .k) (c .before .before .before .before .before .before .before .before .before .before .before .before .pre) (not-false _ (c .before .before .before .before .before .before .before .before .before .before .if1 .left)))))

@@ -15,12 +15,6 @@ use Rattle.halves.proofs.TwoSequences.{blamed-step}
 use borrow.Author.Needs.{needs}
 use Rattle.source_match.proofs.ten_target.Statement.{statement}
 use Rattle.source_match.proofs.ten_target.Tie as tie
-use Rattle.source_match.proofs.ten_target.Reads as reads
-use Rattle.source_match.proofs.ten_target.Lts as lts
-use Rattle.answers.proofs.lower_if.Reads as lower-if-reads
-use Rattle.source_match.proofs.bad_in_target.Reads as bad-in-target-reads
-use Rattle.views.proofs.view_at.Reads as view-at-reads
-use Rattle.views.proofs.wide.Reads as wide-reads
 
 abbrev Inv-loop : tie.InvT-loop
 Inv-loop t src skeys links heads os best₀ i₀ best i = (i ≤ length os) × (toward 10 best₀ (blamed (bad-10-target (itemsAt t src)) [] (placed-at t os)) ≡ toward 10 best (blamed (bad-10-target (itemsAt t src)) (earlier (marker-at t os) i) (placed-at t (drop i os))))
@@ -28,67 +22,21 @@ Inv-loop t src skeys links heads os best₀ i₀ best i = (i ≤ length os) × (
 abbrev μ-loop : tie.MeasureT-loop
 μ-loop t src skeys links heads os best₀ i₀ best i = length os - i
 
--- src/lib.rt:165:5
-loop-holds : tie.Need-loop-holds Inv-loop μ-loop
-unfolding earlier
-loop-holds c = (search needs, refl)
-
--- src/lib.rt:166:30
-mul-wide : tie.Need-mul-wide Inv-loop μ-loop
-mul-wide c = search needs
-
--- src/lib.rt:166:30
-shared-slice-read-wide : tie.Need-shared-slice-read-wide Inv-loop μ-loop
-shared-slice-read-wide c = search needs
-
--- src/lib.rt:166:13
-wide-requires : tie.Need-wide-requires Inv-loop μ-loop
-wide-requires c κs = search needs
-
--- src/lib.rt:168:56
-view-at-requires : tie.Need-view-at-requires Inv-loop μ-loop
-view-at-requires c κs = search needs
-
--- src/lib.rt:168:13
-bad-in-target-requires : tie.Need-bad-in-target-requires Inv-loop μ-loop
-bad-in-target-requires c κs = search needs
-
--- src/lib.rt:167:9
-lower-if-requires : tie.Need-lower-if-requires Inv-loop μ-loop
-lower-if-requires c κs = search needs
-
--- src/lib.rt:172:9
-add-i : tie.Need-add-i Inv-loop μ-loop
-add-i c = search needs
-
--- src/lib.rt:165:5
-loop-less : tie.Need-loop-less Inv-loop μ-loop
-loop-less c = search needs
-
--- src/lib.rt:165:5
-loop-again : tie.Need-loop-again Inv-loop μ-loop
-unfolding earlier
-loop-again c = (search needs, c .before .before .before .before .before .before .loop .inv .1 ∙ blamed-step 10 (bad-10-target (itemsAt (c .before .before .before .before .before .before .before .before .before .before .before .before .before .args .t .now) (c .before .before .before .before .before .before .before .before .before .before .before .before .before .args .src .now))) (c .before .before .before .before .before .before .before .before .before .before .before .before .before .args .t .now) (c .before .before .before .before .before .before .before .before .before .before .before .before .before .args .os .now) (c .before .before .before .before .before .before .loop .i) (c .before .before .before .before .before .before .loop .best) (c .before .bad-in-target .result) (c .before .before .before .wide .result) (c .lower-if .result) (c .before .before .before .before .before .loop-test .taken) (c .before .before .before .wide .ensures .0) (c .before .bad-in-target .ensures ∙ ap (badTenTarget (itemsAt (c .before .before .before .before .before .before .before .before .before .before .before .before .before .args .t .now) (c .before .before .before .before .before .before .before .before .before .before .before .before .before .args .src .now))) (c .before .before .view-at .ensures ∙ ap (λ (k : ℕ). viewOf (item-at (c .before .before .before .before .before .before .before .before .before .before .before .before .before .args .t .now) k)) (c .before .before .before .wide .ensures .0)) ∙ ten-target-is (marker-at (c .before .before .before .before .before .before .before .before .before .before .before .before .before .args .t .now) (c .before .before .before .before .before .before .before .before .before .before .before .before .before .args .os .now) (c .before .before .before .before .before .before .loop .i)) (itemsAt (c .before .before .before .before .before .before .before .before .before .before .before .before .before .args .t .now) (c .before .before .before .before .before .before .before .before .before .before .before .before .before .args .src .now)) (earlier (marker-at (c .before .before .before .before .before .before .before .before .before .before .before .before .before .args .t .now) (c .before .before .before .before .before .before .before .before .before .before .before .before .before .args .os .now)) (c .before .before .before .before .before .before .loop .i)) (items (placed-at (c .before .before .before .before .before .before .before .before .before .before .before .before .before .args .t .now) (drop (suc (c .before .before .before .before .before .before .loop .i)) (c .before .before .before .before .before .before .before .before .before .before .before .before .before .args .os .now))))) (c .lower-if .ensures))
-
--- src/lib.rt:151:1
-returns : tie.Need-returns Inv-loop μ-loop
-unfolding earlier
-returns c = sym (c .before .loop .inv .1 ∙ blamed-end (bad-10-target (itemsAt (c .before .before .before .before .before .before .before .before .args .t .now) (c .before .before .before .before .before .before .before .before .args .src .now))) (c .before .before .before .before .before .before .before .before .args .t .now) (c .before .before .before .before .before .before .before .before .args .os .now) (earlier (marker-at (c .before .before .before .before .before .before .before .before .args .t .now) (c .before .before .before .before .before .before .before .before .args .os .now)) (c .before .loop .i)) (c .before .loop .i) (c .before .loop .best) 10 (c .loop-test .left))
-
 pub ten-target-spec : {M : Type 1} → statement M
+unfolding earlier
 ten-target-spec =
     tie.close
     (tie.spec
     Inv-loop
     μ-loop
-    loop-holds
-    mul-wide
-    shared-slice-read-wide
-    wide-requires
-    view-at-requires
-    bad-in-target-requires
-    lower-if-requires
-    add-i
-    loop-less
-    loop-again
-    returns)
+    (λ c. (search needs, refl))
+    (λ c. search needs)
+    (λ c. search needs)
+    (λ c κs. search needs)
+    (λ c κs. search needs)
+    (λ c κs. search needs)
+    (λ c κs. search needs)
+    (λ c. search needs)
+    (λ c. search needs)
+    (λ c. (search needs, c .before .before .before .before .before .before .loop .inv .1 ∙ blamed-step 10 (bad-10-target (itemsAt (c .before .before .before .before .before .before .before .before .before .before .before .before .before .args .t .now) (c .before .before .before .before .before .before .before .before .before .before .before .before .before .args .src .now))) (c .before .before .before .before .before .before .before .before .before .before .before .before .before .args .t .now) (c .before .before .before .before .before .before .before .before .before .before .before .before .before .args .os .now) (c .before .before .before .before .before .before .loop .i) (c .before .before .before .before .before .before .loop .best) (c .before .bad-in-target .result) (c .before .before .before .wide .result) (c .lower-if .result) (c .before .before .before .before .before .loop-test .taken) (c .before .before .before .wide .ensures .0) (c .before .bad-in-target .ensures ∙ ap (badTenTarget (itemsAt (c .before .before .before .before .before .before .before .before .before .before .before .before .before .args .t .now) (c .before .before .before .before .before .before .before .before .before .before .before .before .before .args .src .now))) (c .before .before .view-at .ensures ∙ ap (λ (k : ℕ). viewOf (item-at (c .before .before .before .before .before .before .before .before .before .before .before .before .before .args .t .now) k)) (c .before .before .before .wide .ensures .0)) ∙ ten-target-is (marker-at (c .before .before .before .before .before .before .before .before .before .before .before .before .before .args .t .now) (c .before .before .before .before .before .before .before .before .before .before .before .before .before .args .os .now) (c .before .before .before .before .before .before .loop .i)) (itemsAt (c .before .before .before .before .before .before .before .before .before .before .before .before .before .args .t .now) (c .before .before .before .before .before .before .before .before .before .before .before .before .before .args .src .now)) (earlier (marker-at (c .before .before .before .before .before .before .before .before .before .before .before .before .before .args .t .now) (c .before .before .before .before .before .before .before .before .before .before .before .before .before .args .os .now)) (c .before .before .before .before .before .before .loop .i)) (items (placed-at (c .before .before .before .before .before .before .before .before .before .before .before .before .before .args .t .now) (drop (suc (c .before .before .before .before .before .before .loop .i)) (c .before .before .before .before .before .before .before .before .before .before .before .before .before .args .os .now))))) (c .lower-if .ensures)))
+    (λ c. sym (c .before .loop .inv .1 ∙ blamed-end (bad-10-target (itemsAt (c .before .before .before .before .before .before .before .before .args .t .now) (c .before .before .before .before .before .before .before .before .args .src .now))) (c .before .before .before .before .before .before .before .before .args .t .now) (c .before .before .before .before .before .before .before .before .args .os .now) (earlier (marker-at (c .before .before .before .before .before .before .before .before .args .t .now) (c .before .before .before .before .before .before .before .before .args .os .now)) (c .before .loop .i)) (c .before .loop .i) (c .before .loop .best) 10 (c .loop-test .left))))
