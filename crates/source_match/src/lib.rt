@@ -1,14 +1,14 @@
 // Rule 10: codes of targets match those of the source.
-// Throughout, `t` is the table, `src` and `tgt` the offsets of the markers of the source and the target sequence, `skeys` and `tkeys` their keys.
+// Throughout, `t` is the table, `src` and `tgt` the offsets of the markers of the source and the target sequence, `skeys` the keys of the source's.
+// `links` and `heads` link keys by the groups of their ids (`id_links`).
 use answers::Place;
 use views::View;
 ghost use mathlib.Core.Path.{_≡_};
-ghost use mathlib.Core.Bool.{true, false};
+ghost use mathlib.Core.Bool.{true};
 ghost use mathlib.Core.List.{[]};
-ghost use Prim.Native.Nat.{_+_, _-_, _<_, _≤_};
+ghost use Prim.Native.Nat.{_≤_};
 ghost use lib.ListN.{length};
 ghost use Rattle.answers.specs.Answers.{refusal-at, toward};
-ghost use Rattle.places.specs.Markers.{item-at};
 ghost use Rattle.views.specs.Views.{itemsAt};
 ghost use Rattle.keys.specs.Keys.{key, keysAt};
 ghost use Rattle.source_match.specs.Ten.{testOf, matchesOf, matchesBy, matchesIn, joined, badTenSource, copiesNone, badTenTarget, LinkedItems};
@@ -17,7 +17,7 @@ ghost use Rattle.xliff.specs.Rules.{bad-10-source, bad-10-target, fault-10};
 ghost use Rattle.xliff.specs.Parse.{unit};
 ghost use Rattle.places.specs.Passes.{Passes};
 ghost use Rattle.sequences.specs.Marks.{offsets};
-ghost use Rattle.places.specs.Markers.{placed-at, target-offsets};
+ghost use Rattle.places.specs.Markers.{item-at, placed-at, target-offsets};
 
 // The tests of an item against another: 0 gives its id, 1 gives it in another class, 2 is its like in the source, 3 is what it may be a copy of.
 fn passes(kind: u8, x: View, y: View) -> bool

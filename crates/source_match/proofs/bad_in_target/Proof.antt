@@ -1,5 +1,5 @@
 use Rattle.views.specs.Views.{itemsAt}
-use Rattle.source_match.proofs.TestLaws.{bad-target-is}
+use Rattle.source_match.proofs.IdLaws.{bad-target-is}
 use borrow.Author.Needs.{needs}
 use Rattle.source_match.proofs.bad_in_target.Statement.{statement}
 use Rattle.source_match.proofs.bad_in_target.Tie as tie

@@ -1,6 +1,6 @@
 use borrow.Author.Tests.{eq-eqb}
 use Rattle.views.specs.Views.{itemsAt}
-use Rattle.source_match.proofs.TestLaws.{copies-none-is}
+use Rattle.source_match.proofs.IdLaws.{copies-none-is}
 use borrow.Author.Needs.{needs}
 use Rattle.source_match.proofs.copies_none.Statement.{statement}
 use Rattle.source_match.proofs.copies_none.Tie as tie
