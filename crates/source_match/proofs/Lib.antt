@@ -1,3 +1,5 @@
 pub mod TestLaws
-pub mod TenLaws
+pub mod IdLaws
 pub mod MatchLaws
+pub mod ChainLaws
+pub mod TenLaws

@@ -1,65 +1,86 @@
--- The four tests of rule 10, one item further.
-use Prim.Native.Nat.{ℕ, suc, _+_, _/_, _≤_, _<_}
+-- The four tests of rule 10 of one item, and of the first items.
+use Prim.Native.Nat.{ℕ, zero, suc, _/_, _≤_, _<_}
 use mathlib.Core.Path.{_≡_, refl, sym, _∙_, ap}
-use mathlib.Core.Bool.{Bool, true, false, not, _||_}
-use mathlib.Core.List.{List, []}
+use mathlib.Core.Bool.{Bool, true, false, _||_, cond}
+use mathlib.Core.List.{List, [], _∷_}
 use native.Mathlib.Omega.{arith}
-use lib.ListN.{length, drop, getD, drop-of-length-le}
+use lib.ListN.{length, take, getD}
 use lib.Dec.{eqb}
 use Rattle.xliff.specs.Bytes.{any}
 use Rattle.xliff.specs.Item as spec
+use Rattle.xliff.specs.Item.{id-of}
 use Rattle.xliff.proofs.lists.Tests.{or-none}
+use Rattle.id_links.specs.Nearest.{previous}
 use Rattle.places.specs.Markers.{item-at}
 use Rattle.views.specs.Views.{viewOf, itemsAt}
 use Rattle.views.specs.declared.View.{View}
 use Rattle.keys.specs.Keys.{key}
+use Rattle.keys.proofs.KeyLaws.{id-key}
 use Rattle.source_match.specs.declared.Matches.{Matches}
-use Rattle.source_match.specs.Ten.{testOf, matchesOf, joined, matchesIn}
-use Rattle.source_match.proofs.TestLaws.{items-first, far-off}
+use Rattle.source_match.specs.Ten.{testOf, testBy, matchesOf, matchesBy, joined}
 
 -- field by field
-same-matches : {f g : Matches} → f .starts ≡ g .starts → f .differs ≡ g .differs → f .agrees ≡ g .agrees → f .copies ≡ g .copies → f ≡ g
+pub same-matches : {f g : Matches} → f .starts ≡ g .starts → f .differs ≡ g .differs → f .agrees ≡ g .agrees → f .copies ≡ g .copies → f ≡ g
 same-matches a b c d i = record { starts = a i; differs = b i; agrees = c i; copies = d i }
+
+abbrev pub none-found : Matches
+none-found = record { starts = false; differs = false; agrees = false; copies = false }
 
 or-apart : (a b c : Bool) → a || b || c ≡ a || (b || c)
 or-apart true b c = refl
 or-apart false b c = refl
 
-joined-apart : (f g h : Matches) → joined (joined f g) h ≡ joined f (joined g h)
+or-swap : (a b c : Bool) → a || (b || c) ≡ b || (a || c)
+or-swap true true c = refl
+or-swap true false c = refl
+or-swap false b c = refl
+
+pub joined-apart : (f g h : Matches) → joined (joined f g) h ≡ joined f (joined g h)
 joined-apart f g h =
     same-matches (or-apart (f .starts) (g .starts) (h .starts)) (or-apart (f .differs) (g .differs) (h .differs))
     (or-apart (f .agrees) (g .agrees) (h .agrees)) (or-apart (f .copies) (g .copies) (h .copies))
 
-joined-none : (f : Matches) → joined f (record { starts = false; differs = false; agrees = false; copies = false }) ≡ f
+pub joined-none : (f : Matches) → joined f none-found ≡ f
 joined-none f = same-matches (or-none (f .starts)) (or-none (f .differs)) (or-none (f .agrees)) (or-none (f .copies))
 
--- an item with neither id
-pub far-matches : (x : View) (y : spec.Item) (k : ℕ) (f : Matches) → k ≡ key y → not (eqb (k / 64) (x .id) || eqb (k / 64) (x .of)) ≡ true
-    → f ≡ joined f (matchesOf x (viewOf y))
-far-matches x y k f e h =
-    let g : not (eqb (key y / 64) (x .id) || eqb (key y / 64) (x .of)) ≡ true = ap (λ (n : ℕ). not (eqb (n / 64) (x .id) || eqb (n / 64) (x .of))) (sym e) ∙ h in
-    sym (ap (joined f) (same-matches (far-off 0 x y g) (far-off 1 x y g) (far-off 2 x y g) (far-off 3 x y g)) ∙ joined-none f)
+-- one item, by its key
+module _ (id : ℕ) (x : View) (y : spec.Item) where
+  pub test-other-id : (kind : ℕ) → eqb (id-of y) id ≡ false → testBy kind id x y ≡ false
+  unfolding testBy
+  test-other-id kind e = rw e refl
 
-matches-first : (x : View) (t os : List ℕ) (i : ℕ) → i < length os
-    → matchesIn x (itemsAt t (drop i os)) ≡ joined (matchesOf x (viewOf (item-at t (getD os i 0)))) (matchesIn x (itemsAt t (drop (suc i) os)))
-unfolding matchesIn
-matches-first x t os i h =
-    same-matches (items-first (λ y. testOf 0 x (viewOf y)) t os i h) (items-first (λ y. testOf 1 x (viewOf y)) t os i h)
-    (items-first (λ y. testOf 2 x (viewOf y)) t os i h) (items-first (λ y. testOf 3 x (viewOf y)) t os i h)
+  test-same-id : (kind : ℕ) → eqb (id-of y) id ≡ true → testBy kind id x y ≡ testOf kind x (viewOf y)
+  unfolding testBy
+  test-same-id kind e = rw e refl
 
--- what is found and what is still to come are all
-pub matches-start : (x : View) (t os : List ℕ) → joined (record { starts = false; differs = false; agrees = false; copies = false }) (matchesIn x (itemsAt t (drop 0 os))) ≡ matchesIn x (itemsAt t os)
-matches-start x t os = refl
+  id-is : (k : ℕ) → k ≡ key y → eqb (id-of y) id ≡ eqb (k / 64) id
+  id-is k e = sym (ap (λ (n : ℕ). eqb (n / 64) id) e ∙ ap (λ (n : ℕ). eqb n id) (id-key y))
 
-pub matches-on : (x : View) (t os : List ℕ) (i at : ℕ) (f g : Matches) → i < length os → at ≡ getD os i 0 → g ≡ joined f (matchesOf x (viewOf (item-at t at)))
-    → joined f (matchesIn x (itemsAt t (drop i os))) ≡ matchesIn x (itemsAt t os) → joined g (matchesIn x (itemsAt t (drop (i + 1) os))) ≡ matchesIn x (itemsAt t os)
-matches-on x t os i at f g l a e h =
-    ap (λ (m : Matches). joined m (matchesIn x (itemsAt t (drop (i + 1) os)))) (e ∙ ap (λ (n : ℕ). joined f (matchesOf x (viewOf (item-at t n)))) a)
-    ∙ joined-apart f (matchesOf x (viewOf (item-at t (getD os i 0)))) (matchesIn x (itemsAt t (drop (i + 1) os)))
-    ∙ ap (λ (n : ℕ). joined f (joined (matchesOf x (viewOf (item-at t (getD os i 0)))) (matchesIn x (itemsAt t (drop n os))))) (let z : i + 1 ≡ suc i = omega arith in z)
-    ∙ ap (joined f) (sym (matches-first x t os i l))
-    ∙ h
+  pub matches-other-id : (k : ℕ) (f : Matches) → k ≡ key y → eqb (k / 64) id ≡ false → f ≡ joined f (matchesBy id x y)
+  matches-other-id k f e h =
+      let g = id-is k e ∙ h in
+      sym (ap (joined f) (same-matches (test-other-id 0 g) (test-other-id 1 g) (test-other-id 2 g) (test-other-id 3 g)) ∙ joined-none f)
 
-pub matches-end : (x : View) (t os : List ℕ) (i : ℕ) (f : Matches) → length os ≤ i → joined f (matchesIn x (itemsAt t (drop i os))) ≡ matchesIn x (itemsAt t os) → f ≡ matchesIn x (itemsAt t os)
-unfolding matchesIn any itemsAt
-matches-end x t os i f l h = sym (joined-none f) ∙ ap (λ (ks : List ℕ). joined f (matchesIn x (itemsAt t ks))) (sym (drop-of-length-le os l)) ∙ h
+  pub matches-same-id : (k : ℕ) → k ≡ key y → eqb (k / 64) id ≡ true → matchesOf x (viewOf y) ≡ matchesBy id x y
+  matches-same-id k e h =
+      let g = id-is k e ∙ h in
+      sym (same-matches (test-same-id 0 g) (test-same-id 1 g) (test-same-id 2 g) (test-same-id 3 g))
+
+-- the first items, and what a search among them may pass over
+module _ (p : spec.Item → Bool) (t : List ℕ) where
+  pub items-last : (os : List ℕ) (i : ℕ) → i < length os → any p (itemsAt t (take (suc i) os)) ≡ p (item-at t (getD os i 0)) || any p (itemsAt t (take i os))
+  unfolding any itemsAt
+  items-last [] i h = absurd (omega arith)
+  items-last (o ∷ os) zero h = refl
+  items-last (o ∷ os) (suc i) h = ap (λ (b : Bool). p (item-at t o) || b) (items-last os i (omega arith)) ∙ or-swap (p (item-at t o)) (p (item-at t (getD os i 0))) (any p (itemsAt t (take i os)))
+
+  pub items-past : (os : List ℕ) (q : ℕ → Bool) → ((k : ℕ) → k < length os → q k ≡ false → p (item-at t (getD os k 0)) ≡ false)
+      → (i : ℕ) → i ≤ length os → any p (itemsAt t (take i os)) ≡ any p (itemsAt t (take (previous q i) os))
+  unfolding previous
+  items-past os q wider zero h = refl
+  items-past os q wider (suc i) h = by (q i) refl (items-past os q wider i (omega arith))
+    where
+      by : (b : Bool) → q i ≡ b → any p (itemsAt t (take i os)) ≡ any p (itemsAt t (take (previous q i) os))
+          → any p (itemsAt t (take (suc i) os)) ≡ any p (itemsAt t (take (cond b (suc i) (previous q i)) os))
+      by true e ih = refl
+      by false e ih = items-last os i (omega arith) ∙ ap (λ (b : Bool). b || any p (itemsAt t (take i os))) (wider i (omega arith) e) ∙ ih

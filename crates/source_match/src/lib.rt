@@ -1,23 +1,23 @@
 // Rule 10: codes of targets match those of the source.
-// Throughout, `t` is the table, `src` and `tgt` the offsets of the markers of the source and the target sequence, `skeys` and `tkeys` their keys.
+// Throughout, `t` is the table, `src` and `tgt` the offsets of the markers of the source and the target sequence, `skeys` the keys of the source's.
+// `links` and `heads` link keys by the groups of their ids (`id_links`).
 use answers::Place;
 use views::View;
 ghost use mathlib.Core.Path.{_≡_};
-ghost use mathlib.Core.Bool.{true, false};
+ghost use mathlib.Core.Bool.{true};
 ghost use mathlib.Core.List.{[]};
-ghost use Prim.Native.Nat.{_+_, _-_, _<_};
+ghost use Prim.Native.Nat.{_≤_};
 ghost use lib.ListN.{length};
 ghost use Rattle.answers.specs.Answers.{refusal-at, toward};
-ghost use Rattle.places.specs.Markers.{item-at};
-ghost use Rattle.views.specs.Views.{viewOf, itemsAt};
+ghost use Rattle.views.specs.Views.{itemsAt};
 ghost use Rattle.keys.specs.Keys.{key, keysAt};
-ghost use Rattle.source_match.specs.Ten.{testOf, matchesOf, joined, matchesIn, badTenSource, badTenTarget};
+ghost use Rattle.source_match.specs.Ten.{testOf, matchesOf, matchesBy, matchesIn, joined, badTenSource, copiesNone, badTenTarget, LinkedItems};
 ghost use Rattle.xliff.specs.Sequences.{blamed, first-of};
 ghost use Rattle.xliff.specs.Rules.{bad-10-source, bad-10-target, fault-10};
 ghost use Rattle.xliff.specs.Parse.{unit};
 ghost use Rattle.places.specs.Passes.{Passes};
 ghost use Rattle.sequences.specs.Marks.{offsets};
-ghost use Rattle.places.specs.Markers.{placed-at, target-offsets};
+ghost use Rattle.places.specs.Markers.{item-at, placed-at, target-offsets};
 
 // The tests of an item against another: 0 gives its id, 1 gives it in another class, 2 is its like in the source, 3 is what it may be a copy of.
 fn passes(kind: u8, x: View, y: View) -> bool
@@ -55,13 +55,12 @@ fn matches_of(x: View, y: View) -> Matches
     }
 }
 
-// The tests of one more item, at an offset, whose key is `k`. Only where the ids say that it may pass is the table read.
-fn one_more(t: &[u8], at: usize, k: u32, x: View, found: Matches) -> Matches
+// The tests of one more item, at an offset, whose key is `k`. Only where its id is `id` is the table read.
+fn one_more(t: &[u8], at: usize, k: u32, id: u16, x: View, found: Matches) -> Matches
     requires { ⌜ k ≡ key (item-at (now t) at) ⌝ }
-    ensures { λ r. ⌜ r ≡ joined found (matchesOf x (viewOf (item-at (now (t .entry)) at))) ⌝ }
+    ensures { λ r. ⌜ r ≡ joined found (matchesBy id x (item-at (now (t .entry)) at)) ⌝ }
 {
-    let id = k / 64;
-    if !((id == (x.id as u32)) | (id == (x.of as u32))) {
+    if !(k / 64 == (id as u32)) {
         return found;
     }
     let m = matches_of(x, views::view_at(t, at));
@@ -73,10 +72,19 @@ fn one_more(t: &[u8], at: usize, k: u32, x: View, found: Matches) -> Matches
     }
 }
 
-// The tests of all items; `os` and `keys` are the items' offsets and keys.
-fn all_matches(t: &[u8], os: &[u16], keys: &[u32], x: View) -> Matches
-    requires { ⌜ now keys ≡ keysAt (now t) (now os) ⌝ }
-    ensures { λ r. ⌜ r ≡ matchesIn x (itemsAt (now (t .entry)) (now (os .entry))) ⌝ }
+// The tests of all items whose id is `id`; `os` and `keys` are the items' offsets and keys.
+// Linear in the items of the group of `id`, from the last on along the links.
+fn matches_by(
+    t: &[u8],
+    os: &[u16],
+    keys: &[u32],
+    links: &[u16],
+    heads: &[u16],
+    id: u16,
+    x: View,
+) -> Matches
+    requires { ⌜ LinkedItems (now t) (now os) (now keys) (now links) (now heads) ⌝ }
+    ensures { λ r. ⌜ r ≡ matchesIn id x (itemsAt (now (t .entry)) (now (os .entry))) ⌝ }
 {
     let mut found = Matches {
         starts: false,
@@ -84,10 +92,12 @@ fn all_matches(t: &[u8], os: &[u16], keys: &[u32], x: View) -> Matches
         agrees: false,
         copies: false,
     };
-    let mut i = 0;
-    while i < os.len() {
-        found = one_more(t, views::wide(os[i]), keys[i], x, found);
-        i += 1;
+    let g = views::wide(id) % 256;
+    let mut j = views::wide(heads[g]);
+    while 0 < j {
+        let i = j - 1;
+        found = one_more(t, views::wide(os[i]), keys[i], id, x, found);
+        j = views::wide(links[i]);
     }
     found
 }
@@ -99,19 +109,31 @@ fn bad_copy_in_source(x: View) -> bool
     views::is_code(x) & !(x.of == 0)
 }
 
+// Whether a target item names an id that it is a copy of, and no item of the source is one that it may copy.
+fn copies_none(t: &[u8], os: &[u16], keys: &[u32], links: &[u16], heads: &[u16], x: View) -> bool
+    requires { ⌜ LinkedItems (now t) (now os) (now keys) (now links) (now heads) ⌝ }
+    ensures { λ r. ⌜ r ≡ copiesNone (itemsAt (now (t .entry)) (now (os .entry))) x ⌝ }
+{
+    if x.of == 0 {
+        return false;
+    }
+    let m = matches_by(t, os, keys, links, heads, x.of, x);
+    !m.copies
+}
+
 // Rule 10 of a target item.
-fn bad_in_target(t: &[u8], os: &[u16], keys: &[u32], x: View) -> bool
-    requires { ⌜ now keys ≡ keysAt (now t) (now os) ⌝ }
+fn bad_in_target(t: &[u8], os: &[u16], keys: &[u32], links: &[u16], heads: &[u16], x: View) -> bool
+    requires { ⌜ LinkedItems (now t) (now os) (now keys) (now links) (now heads) ⌝ }
     ensures { λ r. ⌜ r ≡ badTenTarget (itemsAt (now (t .entry)) (now (os .entry))) x ⌝ }
 {
-    let m = all_matches(t, os, keys, x);
+    let m = matches_by(t, os, keys, links, heads, x.id, x);
     let code = views::is_code(x);
     (m.differs | ((code & m.starts) & (!m.agrees | !(x.of == 0))))
-        | (code & (!(x.of == 0) & !m.copies))
+        | (code & copies_none(t, os, keys, links, heads, x))
 }
 
 // Rule 10 over the markers of the source sequence.
-pub fn ten_source(t: &[u8], os: &[u16]) -> Place
+fn ten_source(t: &[u8], os: &[u16]) -> Place
     ensures { λ r. ⌜ refusal-at 10 r ≡ first-of 10 (blamed bad-10-source [] (placed-at (now (t .entry)) (now (os .entry)))) ⌝ }
 {
     let mut best = Place::Nowhere;
@@ -124,9 +146,18 @@ pub fn ten_source(t: &[u8], os: &[u16]) -> Place
     best
 }
 
-// Rule 10 over the markers of the target sequence, below `start`. Quadratic in the markers: each looks at all keys of the source.
-pub fn ten_target(t: &[u8], src: &[u16], skeys: &[u32], os: &[u16], start: Place) -> Place
-    requires { ⌜ now skeys ≡ keysAt (now t) (now src) ⌝ }
+// Rule 10 over the markers of the target sequence, below `start`.
+// Each looks at the source items of two groups: linear in the markers, at most quadratic, where all ids fall into one group.
+fn ten_target(
+    t: &[u8],
+    src: &[u16],
+    skeys: &[u32],
+    links: &[u16],
+    heads: &[u16],
+    os: &[u16],
+    start: Place,
+) -> Place
+    requires { ⌜ LinkedItems (now t) (now src) (now skeys) (now links) (now heads) ⌝ }
     ensures { λ r. ⌜ refusal-at 10 r ≡ toward 10 start (blamed (bad-10-target (itemsAt (now (t .entry)) (now (src .entry)))) [] (placed-at (now (t .entry)) (now (os .entry)))) ⌝ }
 {
     let mut best = start;
@@ -134,7 +165,7 @@ pub fn ten_target(t: &[u8], src: &[u16], skeys: &[u32], os: &[u16], start: Place
     while i < os.len() {
         let at = views::wide(os[i]);
         best = answers::lower_if(
-            bad_in_target(t, src, skeys, views::view_at(t, at)),
+            bad_in_target(t, src, skeys, links, heads, views::view_at(t, at)),
             best,
             at,
         );
@@ -145,8 +176,11 @@ pub fn ten_target(t: &[u8], src: &[u16], skeys: &[u32], os: &[u16], start: Place
 
 // Rule 10, by the offsets of the markers of both sequences.
 pub fn rule_10(t: &[u8], src: &[u16], skeys: &[u32], tgt: &[u16]) -> Place
-    requires { ⌜ Passes (now t) × (now src ≡ offsets true 0 (now t)) × (now skeys ≡ keysAt (now t) (now src)) × (now tgt ≡ target-offsets (now t) 0 (length (unit (now t) .parts))) ⌝ }
+    requires { ⌜ Passes (now t) × (now src ≡ offsets true 0 (now t)) × (now skeys ≡ keysAt (now t) (now src)) × (now tgt ≡ target-offsets (now t) 0 (length (unit (now t) .parts))) × (length (now src) ≤ 1024) ⌝ }
     ensures { λ r. ⌜ refusal-at 10 r ≡ fault-10 (unit (now (t .entry)) .parts) ⌝ }
 {
-    ten_target(t, src, skeys, tgt, ten_source(t, src))
+    let mut links = [0u16; 1024];
+    let mut heads = [0u16; 256];
+    id_links::link_before(skeys, &mut links, &mut heads);
+    ten_target(t, src, skeys, &links, &heads, tgt, ten_source(t, src))
 }
