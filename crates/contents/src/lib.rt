@@ -61,7 +61,7 @@ pub fn contents(t: &[u8], targets: bool, out: &mut [u16]) -> usize
     let mut inside = false;
     let mut m: usize = 0;
     while at < t.len() {
-        let g = glance::glance_of(&t[at..]);
+        let g = walker::glance_at(t, at);
         m = sequences::put_if(is_found(g.head, inside, g.marker), out, m, at as u16);
         inside = inside_after(targets, g.head, inside);
         at += g.width;
@@ -83,7 +83,7 @@ fn bar_key(t: &[u8], at: usize) -> u32
     if t.len() < at {
         return 0;
     }
-    let r = table::known_of(&t[at..]);
+    let r = walker::known_at(t, at);
     key_by(head_of(r), keys::key_of(views::read_view(r)))
 }
 

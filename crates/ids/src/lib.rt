@@ -171,7 +171,7 @@ pub fn rule_6(t: &[u8]) -> Place
     let mut o: u32 = 2;
     let mut at: usize = 0;
     while at < t.len() {
-        let r = table::known_of(&t[at..]);
+        let r = walker::known_at(t, at);
         let k = key_of(o, r);
         if clash_if(&keys[..n], &links, &heads, k) {
             return Place::At(at);

@@ -26,7 +26,7 @@ pub fn is_order(t: &[u8], q: u16) -> bool
 {
     let mut at = 0;
     while at < t.len() {
-        let r = table::known_at(t, at);
+        let r = walker::known_at(t, at);
         if sets_order(part_at::order_of(r), q) {
             return true;
         }

@@ -27,7 +27,7 @@ pub fn count_parts(t: &[u8]) -> usize
     let mut at = 0;
     let mut n = 0;
     while at < t.len() {
-        let g = glance::glance_of(&t[at..]);
+        let g = walker::glance_at(t, at);
         n = plus_if(g.head == 0, n);
         at += g.width;
     }
@@ -67,7 +67,7 @@ pub fn rule_5(t: &[u8], n: usize) -> Place
     let mut used = [0u8; 65];
     let mut at = 0;
     while at < t.len() {
-        let g = glance::glance_of(&t[at..]);
+        let g = walker::glance_at(t, at);
         let w = g.width;
         match order_of(g) {
             Order::Is(q) => {

@@ -44,7 +44,7 @@ pub fn content_end(t: &[u8], start: usize) -> usize
 {
     let mut at = start;
     while at < t.len() {
-        let r = table::known_at(t, at);
+        let r = walker::known_at(t, at);
         if !is_content(r) {
             return at;
         }
@@ -93,7 +93,7 @@ fn target_place(t: &[u8], head: usize, source: usize, target: usize) -> PartPlac
     requires { ⌜ TargetAt (now t) target ⌝ }
     ensures { λ r. ⌜ (r .head ≡ head) × (r .source ≡ source) × (r .target ≡ target) × TargetSpans (now (t .entry)) target r ⌝ }
 {
-    let r = table::known_at(t, target);
+    let r = walker::known_at(t, target);
     let w = syntax::width_of(r);
     match order_of(r) {
         Order::Is(q) => {
@@ -131,7 +131,7 @@ fn part_from(t: &[u8], at: usize) -> PartPlace
 fn starts_part(t: &[u8], at: usize) -> bool
     ensures { λ r. ⌜ r ≡ is-part (read (drop at (now (t .entry)))) ⌝ }
 {
-    syntax::is_part(table::known_at(t, at))
+    syntax::is_part(walker::known_at(t, at))
 }
 
 pub enum FoundPart {

@@ -50,7 +50,7 @@ pub fn is_closed(t: &[u8], place: PartPlace) -> bool
     ensures { λ r. ⌜ ClosedIs (now (t .entry)) place r ⌝ }
 {
     let unit = t[2];
-    closed_by(unit, table::known_at(t, place.head))
+    closed_by(unit, walker::known_at(t, place.head))
 }
 
 fn item_id(i: Item) -> u16
@@ -101,7 +101,7 @@ pub fn is_taken(t: &[u8], id: u16) -> bool
     }
     let mut at = 0;
     while at < t.len() {
-        let r = table::known_at(t, at);
+        let r = walker::known_at(t, at);
         if id_of(r) == id {
             return true;
         }

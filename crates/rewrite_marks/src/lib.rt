@@ -101,7 +101,7 @@ fn put_forms(out: &mut [u8], t: &[u8], source: bool, id: u16, p: bool)
     let mut at: usize = 0;
     let mut inside = false;
     while at < t.len() {
-        let r = table::known_of(&t[at..]);
+        let r = walker::known_at(t, at);
         put_form(out, t, at, inside, id, p);
         inside = inside_of(source, inside, r);
         at += syntax::width_of(r);

@@ -37,7 +37,7 @@ pub fn sources(t: &[u8], out: &mut [u16]) -> usize
     let mut inside = false;
     let mut m: usize = 0;
     while at < t.len() {
-        let g = glance::glance_of(&t[at..]);
+        let g = walker::glance_at(t, at);
         m = put_if(inside & g.marker, out, m, at as u16);
         inside = inside_source(g.head, inside);
         at += g.width;
@@ -53,7 +53,7 @@ fn target_heads(t: &[u8], heads: &mut [u16]) -> usize
     let mut at: usize = 0;
     let mut m: usize = 0;
     while at < t.len() {
-        let g = glance::glance_of(&t[at..]);
+        let g = walker::glance_at(t, at);
         m = put_if(g.head == 1, heads, m, at as u16);
         at += g.width;
     }
@@ -72,14 +72,14 @@ fn target_markers(t: &[u8], heads: &[u16], i: usize, q: u16, out: &mut [u16], n:
     ensures { λ r. ⌜ (take r (now (out .exit)) ≡ take n (now (out .entry)) ++ of-order q (head-number (now (t .entry)) i)) × (r ≡ length (of-order q (head-number (now (t .entry)) i)) + n) × (length (now (out .exit)) ≡ length (now (out .entry))) ⌝ }
 {
     let head = wide(heads[i]);
-    let first = glance::glance_of(&t[head..]);
+    let first = walker::glance_at(t, head);
     if q != first.order {
         return n;
     }
     let mut at = head + first.width;
     let mut m = n;
     while at < t.len() {
-        let g = glance::glance_of(&t[at..]);
+        let g = walker::glance_at(t, at);
         if g.head != 2 {
             return m;
         }

@@ -145,7 +145,7 @@ pub fn read_view(r: Read) -> View
 pub fn view_at(t: &[u8], at: usize) -> View
     ensures { λ r. ⌜ r ≡ viewOf (item-at (now (t .entry)) at) ⌝ }
 {
-    read_view(table::known_at(t, at))
+    read_view(walker::known_at(t, at))
 }
 
 // An offset that an array holds.

@@ -16,12 +16,9 @@ bar-key-spec =
     tie.close
     (tie.spec
     (λ c. bar-key-out (c .before .before .args .t .now) (c .before .before .args .at) (omega (arith, (c .if1 .taken))))
-    (λ c. search needs)
-    (λ c. search needs)
-    (λ c. search needs)
     (λ c κs. search needs)
     (λ c κs. search needs)
     (λ c κs. search needs)
     (λ c κs. search needs)
     (λ c κs. search needs)
-    (λ c. c .key-by .ensures ∙ ap₂ (λ (n k : ℕ). cond (eqb n 1) 1 k) (c .before .before .before .head-of .ensures) (c .before .key-of .ensures ∙ ap keyOf (c .before .before .read-view .ensures)) ∙ bar-key-read (c .before .before .before .before .before .before .before .before .args .t .now) (c .before .before .before .before .before .before .before .before .args .at) (c .before .before .before .before .known-of .result) (simp tail-is at (c .before .before .before .before .known-of .ensures))))
+    (λ c. c .key-by .ensures ∙ ap₂ (λ (n k : ℕ). cond (eqb n 1) 1 k) (c .before .before .before .head-of .ensures) (c .before .key-of .ensures ∙ ap keyOf (c .before .before .read-view .ensures)) ∙ bar-key-read (c .before .before .before .before .before .before .before .args .t .now) (c .before .before .before .before .before .before .before .args .at) (c .before .before .before .before .known-at .result) (c .before .before .before .before .known-at .ensures)))

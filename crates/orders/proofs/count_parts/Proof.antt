@@ -26,12 +26,9 @@ count-parts-spec =
     Inv-loop
     μ-loop
     (λ c. (unit-records (unit (c .before .args .t .now)), at-start (c .before .args .t .now) ((c .before .pre)), omega arith))
-    (λ c. search needs)
-    (λ c. search needs)
-    (λ c. search needs)
     (λ c κs. search needs)
-    (λ c κs. omega (arith, c .before .before .before .before .loop .inv .2, c .before .before .before .before .before .before .pre .few-parts))
-    (λ c. let v = walked (c .before .before .before .before .before .before .before .before .args .t .now) (c .before .before .before .before .before .before .loop .at) (c .before .before .before .before .before .before .loop .inv .0) (c .before .before .before .glance-of .result) (c .before .before .before .before .before .before .loop .inv .1) (c .before .before .before .before .before .loop-test .taken) (simp tail-is at (c .before .before .before .glance-of .ensures)) in omega (arith, v .fits))
-    (λ c. let v = walked (c .before .before .before .before .before .before .before .before .args .t .now) (c .before .before .before .before .before .before .loop .at) (c .before .before .before .before .before .before .loop .inv .0) (c .before .before .before .glance-of .result) (c .before .before .before .before .before .before .loop .inv .1) (c .before .before .before .before .before .loop-test .taken) (simp tail-is at (c .before .before .before .glance-of .ensures)) in omega (arith, v .fits, v .moves))
-    (λ c. let v = walked (c .before .before .before .before .before .before .before .before .args .t .now) (c .before .before .before .before .before .before .loop .at) (c .before .before .before .before .before .before .loop .inv .0) (c .before .before .before .glance-of .result) (c .before .before .before .before .before .before .loop .inv .1) (c .before .before .before .before .before .loop-test .taken) (simp tail-is at (c .before .before .before .glance-of .ensures)) in (v .step .others, v .rest, omega (arith, c .before .before .before .before .before .before .loop .inv .2, parts-walked (c .before .before .before .before .before .before .before .before .args .t .now) (c .before .before .before .before .before .before .loop .at) (c .before .before .before .before .before .before .loop .inv .0) (c .before .before .before .glance-of .result) v, c .before .plus-if .ensures)))
+    (λ c κs. omega (arith, c .before .before .before .loop .inv .2, c .before .before .before .before .before .pre .few-parts))
+    (λ c. let v = walked (c .before .before .before .before .before .before .before .args .t .now) (c .before .before .before .before .before .loop .at) (c .before .before .before .before .before .loop .inv .0) (c .before .before .before .glance-at .result) (c .before .before .before .before .before .loop .inv .1) (c .before .before .before .before .loop-test .taken) (c .before .before .before .glance-at .ensures) in omega (arith, v .fits))
+    (λ c. let v = walked (c .before .before .before .before .before .before .before .args .t .now) (c .before .before .before .before .before .loop .at) (c .before .before .before .before .before .loop .inv .0) (c .before .before .before .glance-at .result) (c .before .before .before .before .before .loop .inv .1) (c .before .before .before .before .loop-test .taken) (c .before .before .before .glance-at .ensures) in omega (arith, v .fits, v .moves))
+    (λ c. let v = walked (c .before .before .before .before .before .before .before .args .t .now) (c .before .before .before .before .before .loop .at) (c .before .before .before .before .before .loop .inv .0) (c .before .before .before .glance-at .result) (c .before .before .before .before .before .loop .inv .1) (c .before .before .before .before .loop-test .taken) (c .before .before .before .glance-at .ensures) in (v .step .others, v .rest, omega (arith, c .before .before .before .before .before .loop .inv .2, parts-walked (c .before .before .before .before .before .before .before .args .t .now) (c .before .before .before .before .before .loop .at) (c .before .before .before .before .before .loop .inv .0) (c .before .before .before .glance-at .result) v, c .before .plus-if .ensures)))
     (λ c. parts-end (c .before .before .before .args .t .now) (c .before .loop .at) (c .before .loop .n) (c .before .loop .inv .0) (c .before .loop .inv .1) (c .loop-test .left) (c .before .loop .inv .2)))
