@@ -7,21 +7,21 @@ use native.Mathlib.Omega.{arith}
 use lib.Dec.{eqb, ltb}
 use lib.ListN.{length, drop, getD}
 use Rattle.xliff.specs.Bytes.{any}
-use Rattle.xliff.specs.Item.{Content, class, half, fields, other-half}
+use Rattle.xliff.specs.Item.{Item, Content, class, half, fields, other-half}
 use Rattle.xliff.specs.Sequences.{items}
 use Rattle.xliff.specs.Rules.{enclosed, stray, any-stray, bad-9}
 use Rattle.xliff.proofs.lists.Tests.{any-append, and-false}
 use Rattle.places.specs.Markers.{placed-at}
 use Rattle.views.specs.declared.View.{View}
 use Rattle.views.specs.Views.{viewOf}
-use Rattle.keys.specs.Keys.{keysAt, classKey}
-use Rattle.keys.proofs.KeyLaws.{class-key}
+use Rattle.keys.specs.Keys.{key, keysAt, classKey}
+use Rattle.keys.proofs.KeyLaws.{class-key, half-key}
 use Rattle.halves.specs.Nearest.{half-before, half-after, run, marker-at}
 use Rattle.id_links.specs.Nearest.{next, previous}
 use Rattle.id_links.proofs.Scans.{next-same, next-low}
 use Rattle.halves.proofs.Runs.{items-run, run-split, any-next, any-previous, enclosed-some, enclosed-none}
 use Rattle.halves.proofs.Others.{key-at, before-is, after-is, not-own}
-use Rattle.overlap.specs.Nine.{strayAt, closedStart}
+use Rattle.overlap.specs.Nine.{strayAt, pairStart, closedStart}
 
 module _ (t os : List ℕ) where
   -- the other half of a marker that stands in a run stands there too if the nearest before or the nearest after does
@@ -63,6 +63,16 @@ and-group true true c d = refl
 and-group true false c d = refl
 and-group false b c d = refl
 
+and-longer : (a b c : Bool) → a && b ≡ false → a && (b && c) ≡ false
+and-longer true b c e = ap (λ (d : Bool). d && c) e
+and-longer false b c e = refl
+
+closed-start : (x : Item) → pairStart (key x) ≡ false → closedStart (viewOf x) ≡ false
+unfolding viewOf
+closed-start x f =
+    and-longer (eqb (class x) 2) (eqb (half x) 1) (eqb (fields x .canOverlap) 78)
+    (sym (ap₂ (λ (c h : ℕ). eqb c 2 && eqb h 1) (class-key x) (half-key x)) ∙ f)
+
 -- Rule 9 of a marker
 module _ (t os : List ℕ) (i : ℕ) (h : i < length os) where
   encloses : Bool
@@ -93,6 +103,10 @@ module _ (t os : List ℕ) (i : ℕ) (h : i < length os) where
       ∙ ap (λ (k : ℕ). next (strayAt (keysAt t os) k e) k (e - k)) (let z : suc i ≡ i + 1 = omega arith in z)
       ∙ sym s)
       (let z : suc i + (e - suc i) ≡ e = omega (arith, g, after-is t os i h, next-low (λ k. other-half (marker-at t os i) (marker-at t os k)) (suc i) (length os - suc i)) in z)
+
+  -- the key tells that it is not the start of a pair
+  pub not-start : (before : Content) → pairStart (getD (keysAt t os) i 0) ≡ false → false ≡ bad-9 before (marker-at t os i) (items (placed-at t (drop (suc i) os)))
+  not-start before f = sym (bad-is before ∙ ap (λ (b : Bool). b && encloses) (closed-start (marker-at t os i) (ap pairStart (sym (key-at t os i h)) ∙ f)))
 
   module _ (before : Content) (v : View) (q : v ≡ viewOf (marker-at t os i)) where
     abbrev test : Bool

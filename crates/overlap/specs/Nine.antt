@@ -6,7 +6,7 @@ use mathlib.Core.List.{List}
 use lib.Dec.{eqb, ltb}
 use lib.ListN.{length, getD}
 use Rattle.views.specs.declared.View.{View}
-use Rattle.keys.specs.Keys.{classKey}
+use Rattle.keys.specs.Keys.{classKey, halfKey}
 use Rattle.halves.specs.Nearest.{half-before, half-after}
 
 -- the first n elements of an array are those of a function
@@ -24,6 +24,10 @@ strayKey key first end before after =
 
 abbrev pub strayAt : List ℕ → ℕ → ℕ → ℕ → Bool
 strayAt keys first end k = strayKey (getD keys k 0) first end (half-before keys k) (half-after keys k)
+
+-- the start of a pair
+abbrev pub pairStart : ℕ → Bool
+pairStart key = eqb (classKey key) 2 && eqb (halfKey key) 1
 
 -- the start of a pair with canOverlap N
 abbrev pub closedStart : View → Bool

@@ -12,7 +12,7 @@ ghost use Rattle.keys.specs.Keys.{keysAt};
 ghost use Rattle.halves.specs.Nearest.{half-before, half-after, marker-at, earlier};
 ghost use Rattle.id_links.specs.Nearest.{next};
 ghost use Rattle.id_links.specs.Links.{Linked, LinkedAfter};
-ghost use Rattle.overlap.specs.Nine.{Filled, Halves, strayKey, strayAt, closedStart};
+ghost use Rattle.overlap.specs.Nine.{Filled, Halves, strayKey, strayAt, pairStart, closedStart};
 ghost use Rattle.xliff.specs.Sequences.{blamed, items};
 ghost use Rattle.xliff.specs.Rules.{bad-9, fault-9};
 ghost use Rattle.xliff.specs.Parse.{unit};
@@ -90,6 +90,13 @@ fn first_stray(keys: &[u32], starts: &[u16], ends: &[u16], first: usize, end: us
     j
 }
 
+// The start of a pair, by its key.
+fn is_pair_start(key: u32) -> bool
+    ensures { λ r. ⌜ r ≡ pairStart key ⌝ }
+{
+    (keys::class_of(key) == 2) & (keys::half_of(key) == 1)
+}
+
 // The start of a pair with canOverlap N.
 fn is_closed_start(x: View) -> bool
     ensures { λ r. ⌜ r ≡ closedStart x ⌝ }
@@ -97,7 +104,7 @@ fn is_closed_start(x: View) -> bool
     (x.class == 2) & ((x.half == 1) & (x.overlap == b'N'))
 }
 
-// Rule 9 of the marker at `i`.
+// Rule 9 of the marker at `i`. The table is read only at the start of a pair.
 // Linear in the markers that it encloses.
 fn encloses_stray(
     t: &[u8],
@@ -110,6 +117,9 @@ fn encloses_stray(
     requires { ⌜ (now keys ≡ keysAt (now t) (now os)) × (length (now os) ≤ 1024) × Halves (now keys) (now starts) (now ends) × (length (now starts) ≡ 1024) × (length (now ends) ≡ 1024) × (i < length (now os)) ⌝ }
     ensures { λ r. ⌜ r ≡ bad-9 (earlier (marker-at (now (t .entry)) (now (os .entry))) i) (marker-at (now (t .entry)) (now (os .entry)) i) (items (placed-at (now (t .entry)) (drop (suc i) (now (os .entry))))) ⌝ }
 {
+    if !is_pair_start(keys[i]) {
+        return false;
+    }
     if !is_closed_start(views::view_at(t, views::wide(os[i]))) {
         return false;
     }

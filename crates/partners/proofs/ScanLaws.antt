@@ -9,13 +9,13 @@ use lib.Seq.{take-suc, drop-cons, take-all}
 use lib.Dec.{eqb}
 use Rattle.xliff.specs.Bytes.{any}
 use Rattle.xliff.specs.Sequences.{first-of, least}
-use Rattle.xliff.proofs.lists.Tests.{any-append, or-none}
+use Rattle.xliff.proofs.lists.Tests.{any-append, or-none, or-left, or-right}
 use Rattle.answers.specs.Answers.{refusal-at, lower, toward}
 use Rattle.answers.specs.declared.Place.{Place}
 use Rattle.answers.specs.declared.Place.the-variants.{Nowhere, At}
 use Rattle.keys.specs.Keys.{halfKey, formKey, alikeKeys, otherKey}
 use Rattle.contents.specs.Contents.{isBar, targeted}
-use Rattle.partners.specs.Partners.{partnerSKey, loneSKey, waits, waitsFor, blamedKeys}
+use Rattle.partners.specs.Partners.{partnerSKey, loneSKey, someKey, loneInTarget, blamedKeys}
 use Rattle.answers.proofs.Places.{toward-if}
 
 -- a slice from an index on is what is left of the list
@@ -133,25 +133,40 @@ module _ (ks : List ℕ) (i : ℕ) where
   targeted-end h = rw (drop-of-length-le ks h)
 
 -- a key that waits for x
-module _ (x : ℕ) (ks : List ℕ) (i : ℕ) where
-  waits-first : i < length ks
-      → waitsFor x (reverse (take i ks)) (drop i ks)
-      ≡ waits x (reverse (take i ks)) (getD ks i 0) (drop (i + 1) ks) || waitsFor x (reverse (take (i + 1) ks)) (drop (i + 1) ks)
-  unfolding waitsFor
-  waits-first h =
-      ap (waitsFor x (reverse (take i ks))) (next-key ks i h)
-      ∙ ap (λ (b : List ℕ). waits x (reverse (take i ks)) (getD ks i 0) (drop (i + 1) ks) || waitsFor x b (drop (i + 1) ks)) (sym (key-before ks i h))
+module _ (p : List ℕ → ℕ → List ℕ → Bool) (ks : List ℕ) (i : ℕ) where
+  some-first : i < length ks
+      → someKey p (reverse (take i ks)) (drop i ks)
+      ≡ p (reverse (take i ks)) (getD ks i 0) (drop (i + 1) ks) || someKey p (reverse (take (i + 1) ks)) (drop (i + 1) ks)
+  unfolding someKey
+  some-first h =
+      ap (someKey p (reverse (take i ks))) (next-key ks i h)
+      ∙ ap (λ (b : List ℕ). p (reverse (take i ks)) (getD ks i 0) (drop (i + 1) ks) || someKey p b (drop (i + 1) ks)) (sym (key-before ks i h))
 
-  pub waits-on : i < length ks → waits x (reverse (take i ks)) (getD ks i 0) (drop (i + 1) ks) ≡ true → waitsFor x (reverse (take i ks)) (drop i ks) ≡ true
-  waits-on h e = waits-first h ∙ ap (λ (b : Bool). b || waitsFor x (reverse (take (i + 1) ks)) (drop (i + 1) ks)) e
+  pub some-on : i < length ks → p (reverse (take i ks)) (getD ks i 0) (drop (i + 1) ks) ≡ true → someKey p (reverse (take i ks)) (drop i ks) ≡ true
+  some-on h e = some-first h ∙ ap (λ (b : Bool). b || someKey p (reverse (take (i + 1) ks)) (drop (i + 1) ks)) e
 
-  pub waits-off : i < length ks → waits x (reverse (take i ks)) (getD ks i 0) (drop (i + 1) ks) ≡ false
-      → waitsFor x (reverse (take i ks)) (drop i ks) ≡ waitsFor x (reverse (take (i + 1) ks)) (drop (i + 1) ks)
-  waits-off h e = waits-first h ∙ ap (λ (b : Bool). b || waitsFor x (reverse (take (i + 1) ks)) (drop (i + 1) ks)) e
+  pub some-off : i < length ks → p (reverse (take i ks)) (getD ks i 0) (drop (i + 1) ks) ≡ false
+      → someKey p (reverse (take i ks)) (drop i ks) ≡ someKey p (reverse (take (i + 1) ks)) (drop (i + 1) ks)
+  some-off h e = some-first h ∙ ap (λ (b : Bool). b || someKey p (reverse (take (i + 1) ks)) (drop (i + 1) ks)) e
 
-  pub waits-end : length ks ≤ i → waitsFor x (reverse (take i ks)) (drop i ks) ≡ false
-  unfolding waitsFor
-  waits-end h = ap (waitsFor x (reverse (take i ks))) (drop-of-length-le ks h)
+  pub some-end : length ks ≤ i → someKey p (reverse (take i ks)) (drop i ks) ≡ false
+  unfolding someKey
+  some-end h = ap (someKey p (reverse (take i ks))) (drop-of-length-le ks h)
+
+-- where no half is lone in the target sequence, none is at fault
+pub none-blamed : (bars before os ks : List ℕ) → someKey loneSKey before ks ≡ false → blamedKeys (loneInTarget bars) before os ks ≡ []
+unfolding someKey blamedKeys loneInTarget
+none-blamed bars before [] ks e = refl
+none-blamed bars before (o ∷ os) [] e = refl
+none-blamed bars before (o ∷ os) (k ∷ ks) e =
+    rw (or-left (loneSKey before k ks) (someKey loneSKey (k ∷ before) ks) e)
+    (none-blamed bars (k ∷ before) os ks (or-right (loneSKey before k ks) (someKey loneSKey (k ∷ before) ks) e))
+
+-- nothing is lower than a place
+pub none-lower : (n : ℕ) (p : Place) → toward n p [] ≡ refusal-at n p
+unfolding toward first-of least
+none-lower n Nowhere = refl
+none-lower n (At a) = refl
 
 -- what a test of keys blames, one key further
 blamed-first : (bad : List ℕ → ℕ → List ℕ → Bool) (before : List ℕ) (o : ℕ) (os : List ℕ) (k : ℕ) (ks : List ℕ)
@@ -176,9 +191,5 @@ module _ (bad : List ℕ → ℕ → List ℕ → Bool) (os ks : List ℕ) (same
       ∙ ap₂ (λ (p : Place) (l : List ℕ). toward n p (blamedKeys bad l (drop (i + 1) os) (drop (i + 1) ks))) (sym g) (sym (key-before ks i l))
 
   pub blamed-end : length os ≤ i → toward n best (blamedKeys bad (reverse (take i ks)) (drop i os) (drop i ks)) ≡ refusal-at n best
-  unfolding toward blamedKeys first-of least
-  blamed-end h = rw (drop-of-length-le os h) (by best)
-    where
-      by : (p : Place) → toward n p [] ≡ refusal-at n p
-      by Nowhere = refl
-      by (At a) = refl
+  unfolding blamedKeys
+  blamed-end h = rw (drop-of-length-le os h) (none-lower n best)

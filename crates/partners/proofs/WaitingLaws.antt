@@ -17,7 +17,7 @@ use Rattle.keys.proofs.KeyLaws.{class-key, other-key}
 use Rattle.contents.specs.Contents.{isBar, run, targeted}
 use Rattle.contents.specs.Nesting.{lonePKey}
 use Rattle.nesting.proofs.NestingLaws as nesting
-use Rattle.partners.specs.Partners.{partnerSKey, loneSKey, waits, waitsFor, goal-bars, part-bars}
+use Rattle.partners.specs.Partners.{partnerSKey, loneSKey, someKey, waits, waitsFor, goal-bars, part-bars}
 use Rattle.partners.proofs.KeyTests.{lone-keys, lone-marked, no-half}
 
 -- keys without their bars
@@ -168,7 +168,7 @@ module _ (y : Item) (ys : Content) where
   marked-off e = rw e
 
 waits-first : (x : ℕ) (before : List ℕ) (k : ℕ) (ks : List ℕ) → waitsFor x before (k ∷ ks) ≡ waits x before k ks || waitsFor x (k ∷ before) ks
-unfolding waitsFor
+unfolding someKey
 waits-first x before k ks = refl
 
 lone-P-keys : (before : Content) (y : Item) (after : Content) → is-marked y ≡ true → lonePKey (map key (marked before)) (key y) (map key (marked after)) ≡ lone-P before y after
@@ -286,7 +286,7 @@ module _ (x : Item) where
   holds-turned ys xs ks e = holds-more (reverseAux ys []) xs (0 ∷ ks) e ∙ ap (λ (l : Content). map key (marked l)) (sym (rev-append ys xs))
 
   parts-wait : (ps : List Part) (earlier : Content) (before : List ℕ) → Holds before earlier → any (other-half x) (waiting earlier ps) ≡ waitsFor (key x) before (bars ps)
-  unfolding waiting any waitsFor gather clean keep run marked
+  unfolding waiting any someKey gather clean keep run marked
   parts-wait [] earlier before e = refl
   parts-wait (p ∷ ps) earlier before e =
       let w : List Item = with-partner earlier (source-sequence ps) [] (p .source) in

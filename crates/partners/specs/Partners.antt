@@ -31,9 +31,13 @@ unfoldable pub waits : ℕ → List ℕ → ℕ → List ℕ → Bool
 waits x before k after =
     otherKey x k && (not (lonePKey (run before) k (run after)) && (not (loneSKey before k after) && not (targeted after)))
 
-unfoldable pub waitsFor : ℕ → List ℕ → List ℕ → Bool
-waitsFor x before [] = false
-waitsFor x before (k ∷ ks) = waits x before k ks || waitsFor x (k ∷ before) ks
+-- some key passes a test of it and of what stands before it, the nearest first, and after it
+unfoldable pub someKey : (List ℕ → ℕ → List ℕ → Bool) → List ℕ → List ℕ → Bool
+someKey p before [] = false
+someKey p before (k ∷ ks) = p before k ks || someKey p (k ∷ before) ks
+
+abbrev pub waitsFor : ℕ → List ℕ → List ℕ → Bool
+waitsFor x = someKey (waits x)
 
 -- a half of the target sequence at fault; `bars` are the keys of the source contents with bars between them
 unfoldable pub loneInTarget : List ℕ → List ℕ → ℕ → List ℕ → Bool

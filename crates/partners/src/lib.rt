@@ -16,7 +16,7 @@ ghost use Rattle.sequences.specs.Marks.{offsets};
 ghost use Rattle.keys.specs.Keys.{keysAt};
 ghost use Rattle.answers.specs.Answers.{refusal-at, toward};
 ghost use Rattle.contents.specs.Contents.{targeted, barred, barKeys};
-ghost use Rattle.partners.specs.Partners.{partnerSKey, loneSKey, halfOfId, onlyHalf, waits, waitsFor, loneInTarget, blamedKeys};
+ghost use Rattle.partners.specs.Partners.{partnerSKey, loneSKey, halfOfId, onlyHalf, someKey, waits, waitsFor, loneInTarget, blamedKeys};
 
 // Of the marks of start and end alike to `k`, the first of `ks` is its other half.
 fn partner_after(ks: &[u32], k: u32) -> bool
@@ -193,8 +193,22 @@ fn lone_in_contents(t: &[u8]) -> Place
     nesting::first_lone(t, &os[..n], &bars[..n])
 }
 
+// Some half with the mark of a start or an end has no partner in its sequence.
+fn any_lone(ks: &[u32]) -> bool
+    ensures { λ r. ⌜ r ≡ someKey loneSKey [] (now (ks .entry)) ⌝ }
+{
+    let mut i = 0;
+    while i < ks.len() {
+        if lone_s(ks, i) {
+            return true;
+        }
+        i += 1;
+    }
+    false
+}
+
 // The halves at fault in the target sequence, with the keys of the source contents. Quadratic, as `lone_in_target` is.
-fn lone_in_targets(t: &[u8], os: &[u16], ks: &[u32], start: Place) -> Place
+fn lone_by_source(t: &[u8], os: &[u16], ks: &[u32], start: Place) -> Place
     requires { ⌜ Passes (now t) × (length (now t) ≤ 8192) × (length (now ks) ≡ length (now os)) ⌝ }
     ensures { λ r. ⌜ refusal-at 7 r ≡ toward 7 start (blamedKeys (loneInTarget (barKeys (now (t .entry)) (barred false (now (t .entry))))) [] (now (os .entry)) (now (ks .entry))) ⌝ }
 {
@@ -203,6 +217,17 @@ fn lone_in_targets(t: &[u8], os: &[u16], ks: &[u32], start: Place) -> Place
     let n = contents::contents(t, false, &mut at);
     contents::bar_keys(t, &at[..n], &mut bars);
     lone_in_target(os, ks, &bars[..n], start)
+}
+
+// The halves at fault in the target sequence. The source contents are read only where some half is lone.
+fn lone_in_targets(t: &[u8], os: &[u16], ks: &[u32], start: Place) -> Place
+    requires { ⌜ Passes (now t) × (length (now t) ≤ 8192) × (length (now ks) ≡ length (now os)) ⌝ }
+    ensures { λ r. ⌜ refusal-at 7 r ≡ toward 7 start (blamedKeys (loneInTarget (barKeys (now (t .entry)) (barred false (now (t .entry))))) [] (now (os .entry)) (now (ks .entry))) ⌝ }
+{
+    if any_lone(ks) {
+        return lone_by_source(t, os, ks, start);
+    }
+    start
 }
 
 // Rule 7, by the offsets and keys of the markers of both sequences. Quadratic in the number of markers.

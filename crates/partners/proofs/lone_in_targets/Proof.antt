@@ -1,10 +1,9 @@
-use Rattle.partners.specs.Partners.{loneInTarget, blamedKeys}
-use Rattle.contents.specs.Contents.{barKeys}
+use mathlib.Core.List.{[]}
+use mathlib.Core.Bool.{false}
+use mathlib.Core.Path.{sym, _∙_, ap}
+use Rattle.contents.specs.Contents.{barred, barKeys}
 use Rattle.answers.specs.Answers.{toward}
-use mathlib.Core.List.{List, []}
-use Prim.Native.Nat.{ℕ}
-use Rattle.partners.proofs.SevenLaws.{front-length, front-few, front-keys}
-use mathlib.Core.Path.{_∙_, ap, sym}
+use Rattle.partners.proofs.ScanLaws.{none-blamed, none-lower}
 use borrow.Author.Needs.{needs}
 use Rattle.partners.proofs.lone_in_targets.Statement.{statement}
 use Rattle.partners.proofs.lone_in_targets.Tie as tie
@@ -13,13 +12,7 @@ pub lone-in-targets-spec : {M : Type 1} → statement M
 lone-in-targets-spec =
     tie.close
     (tie.spec
-    (λ c. search needs)
+    (λ c κs. search needs)
     (λ c κs. search needs)
     (λ c. search needs)
-    (λ c. sym (front-length (c .before .before .contents .result) (c .before .before .contents .last .1 .1 .0) (c .before .before .contents .ensures .1) (c .before .before .contents .ensures .2)))
-    (λ c. search needs)
-    (λ c κs. front-few (c .before .before .before .contents .result) (c .before .before .before .contents .last .1 .1 .0) (c .before .before .before .contents .ensures .1) (c .before .before .before .contents .ensures .2))
-    (λ c. search needs)
-    (λ c. sym (front-length (c .before .before .before .before .before .before .contents .result) (c .before .before .bar-keys .last .1 .1 .0) (c .before .before .before .before .before .before .contents .ensures .1) (c .before .before .bar-keys .ensures .1)))
-    (λ c κs. (c .before .before .before .before .before .before .before .before .before .before .before .pre .2, front-few (c .before .before .before .before .before .before .contents .result) (c .before .before .bar-keys .last .1 .1 .0) (c .before .before .before .before .before .before .contents .ensures .1) (c .before .before .bar-keys .ensures .1)))
-    (λ c. c .lone-in-target .ensures ∙ ap (λ (l : List ℕ). toward 7 (c .before .before .before .before .before .before .before .before .before .before .before .before .args .start) (blamedKeys (loneInTarget l) [] (c .before .before .before .before .before .before .before .before .before .before .before .before .args .os .now) (c .before .before .before .before .before .before .before .before .before .before .before .before .args .ks .now))) (front-keys (c .before .before .before .before .before .before .before .contents .result) (c .before .before .before .before .before .before .before .contents .last .1 .1 .0) (c .before .before .before .before .before .before .before .contents .ensures .1) (c .before .before .before .before .before .before .before .contents .ensures .2) (c .before .before .before .before .before .before .before .before .before .before .before .before .args .t .now) (c .before .before .before .bar-keys .last .1 .1 .0) (c .before .before .before .bar-keys .ensures .0) ∙ ap (barKeys (c .before .before .before .before .before .before .before .before .before .before .before .before .args .t .now)) (c .before .before .before .before .before .before .before .contents .ensures .0))))
+    (λ c. sym (ap (toward 7 (c .before .before .before .before .before .args .start)) (none-blamed (barKeys (c .before .before .before .before .before .args .t .now) (barred false (c .before .before .before .before .before .args .t .now))) [] (c .before .before .before .before .before .args .os .now) (c .before .before .before .before .before .args .ks .now) (sym (c .before .any-lone .ensures) ∙ (c .if1 .left))) ∙ none-lower 7 (c .before .before .before .before .before .args .start))))

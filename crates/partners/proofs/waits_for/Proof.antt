@@ -1,5 +1,5 @@
-use Rattle.partners.proofs.ScanLaws.{waits-on, waits-off, waits-end}
-use Rattle.partners.specs.Partners.{waitsFor}
+use Rattle.partners.proofs.ScanLaws.{some-on, some-off, some-end}
+use Rattle.partners.specs.Partners.{waits, waitsFor}
 use lib.ListN.{take, drop, length}
 use mathlib.Core.List.{[], reverse}
 use mathlib.Core.Path.{_≡_, sym, _∙_, refl}
@@ -23,9 +23,9 @@ waits-for-spec =
     (λ c. (search needs, search needs, refl))
     (λ c κs. search needs)
     (λ c. search needs)
-    (λ c. (sym (c .before .before .before .before .before .before .loop .inv .2 ∙ waits-on (c .before .before .before .before .before .before .before .before .before .args .x) (c .before .before .before .before .before .before .before .before .before .args .bars .now) (c .before .before .before .before .before .before .loop .i) (c .before .before .before .before .before .loop-test .taken) (sym (c .before .before .before .waits .ensures .0) ∙ (c .if1 .taken))), search needs))
+    (λ c. (sym (c .before .before .before .before .before .before .loop .inv .2 ∙ some-on (waits (c .before .before .before .before .before .before .before .before .before .args .x)) (c .before .before .before .before .before .before .before .before .before .args .bars .now) (c .before .before .before .before .before .before .loop .i) (c .before .before .before .before .before .loop-test .taken) (sym (c .before .before .before .waits .ensures .0) ∙ (c .if1 .taken))), search needs))
     (λ c. search needs)
     (λ c. search needs)
-    (λ c. (search needs, search needs, c .before .before .before .before .before .before .loop .inv .2 ∙ waits-off (c .before .before .before .before .before .before .before .before .before .args .x) (c .before .before .before .before .before .before .before .before .before .args .bars .now) (c .before .before .before .before .before .before .loop .i) (c .before .before .before .before .before .loop-test .taken) (sym (c .before .before .before .waits .ensures .0) ∙ (c .if1 .left))))
+    (λ c. (search needs, search needs, c .before .before .before .before .before .before .loop .inv .2 ∙ some-off (waits (c .before .before .before .before .before .before .before .before .before .args .x)) (c .before .before .before .before .before .before .before .before .before .args .bars .now) (c .before .before .before .before .before .before .loop .i) (c .before .before .before .before .before .loop-test .taken) (sym (c .before .before .before .waits .ensures .0) ∙ (c .if1 .left))))
     (λ c. search needs)
-    (λ c. (sym (c .before .loop .inv .2 ∙ waits-end (c .before .before .before .before .args .x) (c .before .before .before .before .args .bars .now) (c .before .loop .i) (c .loop-test .left)), search needs)))
+    (λ c. (sym (c .before .loop .inv .2 ∙ some-end (waits (c .before .before .before .before .args .x)) (c .before .before .before .before .args .bars .now) (c .before .loop .i) (c .loop-test .left)), search needs)))

@@ -1,0 +1,15 @@
+use Prim.Native.Nat.{ℕ}
+use lib.Dec.{eqb}
+use mathlib.Core.Bool.{_&&_}
+use mathlib.Core.Path.{ap₂}
+use borrow.Author.Needs.{needs}
+use Rattle.overlap.proofs.is_pair_start.Statement.{statement}
+use Rattle.overlap.proofs.is_pair_start.Tie as tie
+
+pub is-pair-start-spec : {M : Type 1} → statement M
+is-pair-start-spec =
+    tie.close
+    (tie.spec
+    (λ c κs. search needs)
+    (λ c κs. search needs)
+    (λ c. ap₂ (λ (x h : ℕ). eqb x 2 && eqb h 1) (c .before .class-of .ensures) (c .half-of .ensures)))
