@@ -44,7 +44,7 @@ fn put_cut_one(out: &mut [u8], t: &[u8], beyond: &[u8])
 }
 
 // All records of `a`.
-pub fn put_cut(out: &mut [u8], a: &[u8], beyond: &[u8]) -> usize
+fn put_cut(out: &mut [u8], a: &[u8], beyond: &[u8]) -> usize
     requires { ⌜ Fair (now a) × Fair (now beyond) × (length (now a) ≤ length (now out)) ⌝ }
     ensures { λ r. ⌜ (r ≡ length (now (a .entry))) × CutAll (now (a .entry)) (now (beyond .entry)) (now (out .entry)) (now (out .exit)) ⌝ }
 {
@@ -58,7 +58,7 @@ pub fn put_cut(out: &mut [u8], a: &[u8], beyond: &[u8]) -> usize
 }
 
 // A text as a record.
-pub fn put_text(out: &mut [u8], t: &[u8]) -> usize
+fn put_text(out: &mut [u8], t: &[u8]) -> usize
     requires { ⌜ (length (now t) < 65536) × (4 + length (now t) ≤ length (now out)) ⌝ }
     ensures { λ r. ⌜ (r ≡ 4 + length (now (t .entry))) × (now (out .exit) ≡ lead (textPiece (now (t .entry))) (now (out .entry))) ⌝ }
 {

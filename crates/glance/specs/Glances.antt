@@ -1,13 +1,12 @@
 -- A glance at a record, and what it says of the record that the specification reads there.
 use Prim.Native.Nat.{ℕ, _+_}
 use mathlib.Core.Path.{_≡_}
-use mathlib.Core.Bool.{Bool, true, false}
+use mathlib.Core.Bool.{Bool, true, false, cond}
 use mathlib.Core.List.{List}
 use lib.ListN.{length, getD}
 use lib.Dec.{eqb, leb}
 use Rattle.xliff.specs.Encode.{record-bytes}
 use Rattle.xliff.specs.Parse.{read}
-use Rattle.text.specs.Pick.{pick}
 use Rattle.table.specs.Number.{numberAt}
 use Rattle.table.specs.Meaning.{meaning, width, body}
 use Rattle.table.specs.declared.Item.{Item}
@@ -82,30 +81,30 @@ abbrev pub itemGlance : Bool → ℕ → Glance
 itemGlance marker w = record { head = 2; marker = marker; order = 0; width = w }
 
 unfoldable pub glanceT : List ℕ → Glance
-glanceT t = pick (leb 4 (length t)) (pick (eqb (getD t 1 0) 88) (itemGlance false (4 + numberAt t 2)) (targetGlance (numberAt t 2))) (itemGlance false 0)
+glanceT t = cond (leb 4 (length t)) (cond (eqb (getD t 1 0) 88) (itemGlance false (4 + numberAt t 2)) (targetGlance (numberAt t 2))) (itemGlance false 0)
 
 unfoldable pub glanceS : ℕ → Glance
-glanceS b = pick (eqb b 71) (partGlance 6) (itemGlance true (pick (eqb b 77) 5 12))
+glanceS b = cond (eqb b 71) (partGlance 6) (itemGlance true (cond (eqb b 77) 5 12))
 
 unfoldable pub glanceE : ℕ → Glance
-glanceE b = itemGlance true (pick (eqb b 77) 4 12)
+glanceE b = itemGlance true (cond (eqb b 77) 4 12)
 
 unfoldable pub glanceI : ℕ → Glance
-glanceI b = pick (eqb b 71) (partGlance 4) (itemGlance true 12)
+glanceI b = cond (eqb b 71) (partGlance 4) (itemGlance true 12)
 
 unfoldable pub rareGlance : ℕ → ℕ → Glance
 rareGlance a b =
-    pick (eqb a 77) (itemGlance true (pick (eqb b 79) 5 4))
-    (pick (eqb a 73) (glanceI b)
-    (pick (eqb a 85) (itemGlance false (pick (eqb b 78) 3 2))
+    cond (eqb a 77) (itemGlance true (cond (eqb b 79) 5 4))
+    (cond (eqb a 73) (glanceI b)
+    (cond (eqb a 85) (itemGlance false (cond (eqb b 78) 3 2))
     (itemGlance false 6)))
 
 unfoldable pub glanceOf : List ℕ → Glance
 glanceOf t =
-    pick (leb 2 (length t))
-    (pick (eqb (getD t 0 0) 84) (glanceT t)
-    (pick (eqb (getD t 0 0) 80) (itemGlance true 12)
-    (pick (eqb (getD t 0 0) 83) (glanceS (getD t 1 0))
-    (pick (eqb (getD t 0 0) 69) (glanceE (getD t 1 0))
+    cond (leb 2 (length t))
+    (cond (eqb (getD t 0 0) 84) (glanceT t)
+    (cond (eqb (getD t 0 0) 80) (itemGlance true 12)
+    (cond (eqb (getD t 0 0) 83) (glanceS (getD t 1 0))
+    (cond (eqb (getD t 0 0) 69) (glanceE (getD t 1 0))
     (rareGlance (getD t 0 0) (getD t 1 0))))))
     (itemGlance false 0)

@@ -1,9 +1,8 @@
 // A glance at a record of a table that was read before: what a walk over the records asks of it, by its mark alone.
 ghost use mathlib.Core.Path.{_≡_};
-ghost use mathlib.Core.Bool.{true, false};
+ghost use mathlib.Core.Bool.{true, false, cond};
 ghost use Prim.Native.Nat.{_+_, _≤_};
 ghost use lib.ListN.{length, drop};
-ghost use Rattle.text.specs.Pick.{pick};
 ghost use Rattle.glance.specs.Glances.{partGlance, itemGlance, targetGlance, glanceT, glanceS, glanceE, glanceI, rareGlance, Glanced};
 
 // 0 for SG and IG, 1 for TG, 2 for all else; whether it is a marker; the order that a TG sets; the width.
@@ -48,7 +47,7 @@ fn item_glance(marker: bool, width: usize) -> Glance
 }
 
 fn width_if(b: bool, x: usize, y: usize) -> usize
-    ensures { λ r. ⌜ r ≡ pick b x y ⌝ }
+    ensures { λ r. ⌜ r ≡ cond b x y ⌝ }
 {
     if b { x } else { y }
 }
@@ -112,7 +111,7 @@ fn rare_glance(a: u8, b: u8) -> Glance
 }
 
 // A glance at the record at the head of `t`. It says nothing where there is no good record.
-pub fn glance_of(t: &[u8]) -> Glance
+fn glance_of(t: &[u8]) -> Glance
     ensures { λ r. ⌜ Glanced (now (t .entry)) r ⌝ }
 {
     if t.len() < 2 {

@@ -17,7 +17,7 @@ fn put_target_first(out: &mut [u8], t: &[u8], k: usize) -> usize
 }
 
 // The first half of a part: its head `h`, its source content `s`, its target `t`.
-pub fn put_first_half(out: &mut [u8], h: &[u8], s: &[u8], t: &[u8], k: usize, j: usize) -> usize
+fn put_first_half(out: &mut [u8], h: &[u8], s: &[u8], t: &[u8], k: usize, j: usize) -> usize
     requires { ⌜ RoomPart (first-half k j) (now h) (now s) (now t) (now out) ⌝ }
     ensures { λ r. ⌜ WrotePart (first-half k j) (now (h .entry)) (now (s .entry)) (now (t .entry)) (now (out .entry)) r (now (out .exit)) ⌝ }
 {
@@ -43,7 +43,7 @@ fn put_target_second(out: &mut [u8], t: &[u8], k: usize) -> usize
 }
 
 // The second half of a part, with its new id.
-pub fn put_second_half(
+fn put_second_half(
     out: &mut [u8],
     h: &[u8],
     s: &[u8],

@@ -20,7 +20,7 @@ pub fn key_of(v: View) -> u32
 }
 
 // The key of the item at an offset; where none is, as a text's.
-pub fn key_at(t: &[u8], at: usize) -> u32
+fn key_at(t: &[u8], at: usize) -> u32
     ensures { λ r. ⌜ r ≡ key (item-at (now (t .entry)) at) ⌝ }
 {
     key_of(views::view_at(t, at))

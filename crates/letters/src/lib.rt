@@ -72,7 +72,7 @@ fn ill_ended(t: &[u8], os: &[u16], keys: &[u32], i: usize, x: View) -> bool
 
 // Rule 8 over the markers of a sequence, below `start`.
 // Quadratic in the markers: each end looks for its start among the keys before it.
-pub fn eight_in(t: &[u8], source: bool, os: &[u16], keys: &[u32], start: Place) -> Place
+fn eight_in(t: &[u8], source: bool, os: &[u16], keys: &[u32], start: Place) -> Place
     requires { ⌜ now keys ≡ keysAt (now t) (now os) ⌝ }
     ensures { λ r. ⌜ refusal-at 8 r ≡ toward 8 start (blamed (bad-8 source) [] (placed-at (now (t .entry)) (now (os .entry)))) ⌝ }
 {

@@ -155,7 +155,7 @@ fn overlapping(
 
 // Rule 9 over the markers of a sequence, below `start`.
 // Quadratic in the markers: `overlapping`.
-pub fn nine_in(t: &[u8], os: &[u16], keys: &[u32], start: Place) -> Place
+fn nine_in(t: &[u8], os: &[u16], keys: &[u32], start: Place) -> Place
     requires { ⌜ (now keys ≡ keysAt (now t) (now os)) × (length (now os) ≤ 1024) ⌝ }
     ensures { λ r. ⌜ refusal-at 9 r ≡ toward 9 start (blamed bad-9 [] (placed-at (now (t .entry)) (now (os .entry)))) ⌝ }
 {

@@ -38,7 +38,7 @@ fn is_content(r: Read) -> bool
 }
 
 // The end of the content that starts at an offset.
-pub fn content_end(t: &[u8], start: usize) -> usize
+fn content_end(t: &[u8], start: usize) -> usize
     requires { ⌜ ContentAt (now t) start ⌝ }
     ensures { λ r. ⌜ ContentEnds (now (t .entry)) start r ⌝ }
 {

@@ -6,7 +6,7 @@ ghost use Rattle.part_at.specs.Stands.{Standing};
 ghost use Rattle.removed_target.specs.Removed.{WroteHead, WroteToSource, Wrote};
 
 // The head of a part with this state. An ignorable's head has no state: it stays.
-pub fn put_head_with_state(out: &mut [u8], head: &[u8], state: u8) -> usize
+fn put_head_with_state(out: &mut [u8], head: &[u8], state: u8) -> usize
     requires { ⌜ length (now head) ≤ length (now out) ⌝ }
     ensures { λ r. ⌜ WroteHead state (now (head .entry)) (now (out .entry)) r (now (out .exit)) ⌝ }
 {

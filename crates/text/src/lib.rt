@@ -75,7 +75,7 @@ fn four_of(t: &[u8]) -> Char
 }
 
 // The character at the head of `t`.
-pub fn char_of(t: &[u8]) -> Char
+fn char_of(t: &[u8]) -> Char
     ensures { λ r. ⌜ r ≡ charOf (now (t .entry)) ⌝ }
 {
     if t.len() < 1 {

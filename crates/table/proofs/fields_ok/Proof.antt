@@ -1,0 +1,14 @@
+use mathlib.Core.Path.{refl}
+use borrow.Author.Needs.{needs}
+use Rattle.table.proofs.fields_ok.Statement.{statement}
+use Rattle.table.proofs.fields_ok.Tie as tie
+
+pub fields-ok-spec : {M : Type 1} → statement M
+fields-ok-spec =
+    tie.close
+    (tie.spec
+    (λ c κs. search needs)
+    (λ c κs. search needs)
+    (λ c κs. search needs)
+    (λ c κs. search needs)
+    (λ c. rw (c .before .before .before .before .overlap-letter .ensures, c .before .before .yes-no .ensures, c .before .yes-no2 .ensures, c .reorder-letter .ensures) refl))
