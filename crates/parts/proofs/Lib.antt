@@ -1,3 +1,4 @@
 pub mod RecordLaws
 pub mod OrderLaws
 pub mod LoopLaws
+pub mod GlanceLaws

@@ -47,7 +47,7 @@ unfolding gather part-records
 parts-in [] each-nil = each-nil
 parts-in (p ∷ ps) (each-cons g h) =
     each-append (part-records p) (gather part-records ps)
-    (each-cons head-in (each-append (content-records (p .source)) (target-records (p .target)) (kept-in false (content-records (p .source)) (g .0)) (target-records-in (p .target) (g .1))))
+    (each-cons (head-in (g .2)) (each-append (content-records (p .source)) (target-records (p .target)) (kept-in false (content-records (p .source)) (g .0)) (target-records-in (p .target) (g .1))))
     (parts-in ps h)
 
 -- an order changed in each record is that order changed in each part
@@ -64,7 +64,7 @@ module _ (f : ℕ → ℕ) where
 
   part-moved : (p : Part) → GoodPart p → map (order-record f) (part-records p) ≡ part-records (order-part f p)
   unfolding part-records order-part
-  part-moved p (k, g) =
+  part-moved p (k, g, h) =
       ap (λ (l : List Record). part-head (p .head) ∷ l)
       (map-append (order-record f) (content-records (p .source)) (target-records (p .target))
       ∙ ap₂ _++_ (kept-stays false (content-records (p .source)) k) (target-moved (p .target) g))

@@ -45,16 +45,16 @@ unmarked-width t e = rw (unmarked t 83 e, unmarked t 73 e, unmarked t 84 e)
 
 pub record-width : (r : Record) (s : List ℕ) → InPart r → widthIn (record-bytes r ++ s) ≡ length (record-bytes r)
 unfolding widthIn record-bytes head-bytes two
-record-width (part-head (segment i c t)) s head-in = refl
-record-width (part-head (ignorable i)) s head-in = refl
+record-width (part-head (segment i c t)) s (head-in g) = refl
+record-width (part-head (ignorable i)) s (head-in g) = refl
 record-width (target-head q) s (target-in l) = refl
 record-width (inline x) s (item-in g) = unmarked-width (record-bytes (inline x) ++ s) (item-letter x s g) ∙ item-width s x g
 record-width (text-run cs) s (text-in a l) = text-width s cs
 
 pub record-least : (r : Record) → InPart r → 4 ≤ length (record-bytes r)
 unfolding record-bytes head-bytes two
-record-least (part-head (segment i c t)) head-in = omega arith
-record-least (part-head (ignorable i)) head-in = omega arith
+record-least (part-head (segment i c t)) (head-in g) = omega arith
+record-least (part-head (ignorable i)) (head-in g) = omega arith
 record-least (target-head q) (target-in l) = omega arith
 record-least (inline x) (item-in g) = item-least [] x g
 record-least (text-run cs) (text-in a l) = omega arith
@@ -75,15 +75,15 @@ item-bare x g =
 
 pub target-marked : (r : Record) → InPart r → marked (record-bytes r) 84 71 ≡ true → ATarget r
 unfolding record-bytes head-bytes
-target-marked (part-head (segment i c t)) head-in h = absurd (true≢false (sym h))
-target-marked (part-head (ignorable i)) head-in h = absurd (true≢false (sym h))
+target-marked (part-head (segment i c t)) (head-in g) h = absurd (true≢false (sym h))
+target-marked (part-head (ignorable i)) (head-in g) h = absurd (true≢false (sym h))
 target-marked (target-head q) (target-in l) h = record { order = q; is = refl; small = l }
 target-marked (inline x) (item-in g) h = absurd (true≢false (sym h ∙ item-bare x g))
 target-marked (text-run cs) (text-in a l) h = absurd (true≢false (sym h))
 
 pub others-stay : (f : ℕ → ℕ) (r : Record) → InPart r → marked (record-bytes r) 84 71 ≡ false → order-record f r ≡ r
 unfolding record-bytes
-others-stay f (part-head h) head-in e = refl
+others-stay f (part-head h) (head-in g) e = refl
 others-stay f (target-head q) (target-in l) e = absurd (true≢false e)
 others-stay f (inline x) (item-in g) e = refl
 others-stay f (text-run cs) (text-in a l) e = refl

@@ -14,18 +14,18 @@ use Rattle.xliff.specs.Split.{raise-above}
 use Rattle.xliff.specs.Join.{lower-above}
 use Rattle.xliff.proofs.lists.Each.{Each}
 use Rattle.xliff.proofs.text.Utf8.{Allowed}
-use Rattle.xliff.proofs.records.Read.{GoodItem}
+use Rattle.xliff.proofs.records.Read.{GoodItem, GoodHead}
 use Rattle.walk.specs.Kept.{Kept}
 use Rattle.walk.specs.Marks.{marked, widthAt}
 use Rattle.writer.specs.Pieces.{lead}
 
--- the contents of a part are kept, and its order can rise
+-- the contents of a part are kept, its order can rise, and its head is good
 abbrev pub GoodTarget : Target → Type 0
 GoodTarget no-target = Unit {0}
 GoodTarget (target q xs) = Kept false (content-records xs) × (q < 65535)
 
 abbrev pub GoodPart : Part → Type 0
-GoodPart p = Kept false (content-records (p .source)) × GoodTarget (p .target)
+GoodPart p = Kept false (content-records (p .source)) × GoodTarget (p .target) × GoodHead (p .head)
 
 -- t is the bytes of the parts ps
 abbrev pub PartsIn : List ℕ → List Part → Type 0
@@ -48,7 +48,7 @@ WroteParts f t o l = (ps : List Part) → PartsIn t ps → l ≡ lead (ordered f
 
 -- a record of a part
 pub data InPart : Record → Type 0 where
-  head-in : {h : Head} → InPart (part-head h)
+  head-in : {h : Head} → GoodHead h → InPart (part-head h)
   target-in : {q : ℕ} → q < 65535 → InPart (target-head q)
   item-in : {x : Item} → GoodItem x → InPart (inline x)
   text-in : {d : ℕ} {ds : List ℕ} → Allowed (d ∷ ds) → length (utf8s (d ∷ ds)) < 65536 → InPart (text-run (d ∷ ds))

@@ -2,23 +2,7 @@
 ghost use mathlib.Core.Path.{_≡_};
 ghost use Prim.Native.Nat.{_<_, _≤_};
 ghost use lib.ListN.{length};
-ghost use Rattle.parts.specs.Parts.{SomeParts, WroteParts, moved, widthIn, One, WroteOne};
-
-// The bytes of the record of a part at the head of `t`.
-pub fn width_of(t: &[u8]) -> usize
-    requires { ⌜ 4 ≤ length (now t) ⌝ }
-    ensures { λ r. ⌜ r ≡ widthIn (now (t .entry)) ⌝ }
-{
-    let a = t[0];
-    let b = t[1];
-    if (a == b'S') & (b == b'G') {
-        return 6;
-    }
-    if ((a == b'I') & (b == b'G')) | ((a == b'T') & (b == b'G')) {
-        return 4;
-    }
-    walk::width_of(t)
-}
+ghost use Rattle.parts.specs.Parts.{SomeParts, WroteParts, moved, One, WroteOne};
 
 // The order `n`, one up or down if it is above `q`.
 fn moved_order(n: u16, q: u16, up: bool) -> u16
@@ -52,7 +36,8 @@ pub fn put_parts(out: &mut [u8], t: &[u8], q: u16, up: bool) -> usize
 {
     let mut at: usize = 0;
     while at < t.len() {
-        let e = at + width_of(&t[at..]);
+        let g = walker::glance_at(t, at);
+        let e = at + g.width;
         put_record(&mut out[at..], &t[at..e], q, up);
         at = e;
     }
