@@ -1,3 +1,5 @@
 pub mod RecordLaws
 pub mod OrderLaws
 pub mod LoopLaws
+pub mod TableLaws
+pub mod CheckLaws

@@ -4,7 +4,7 @@ use mathlib.Core.Path.{_≡_, refl, ap}
 use mathlib.Core.List.{List}
 use lib.ListN.{length, drop, length-drop, length-take}
 use Rattle.xliff.specs.Unit.{Part}
-use Rattle.writer.proofs.PieceLaws.{tail-is}
+use Rattle.xliff.proofs.lists.Slices.{tail-is}
 use Rattle.parts.proofs.LoopLaws.{Written, written-start, written-on, written-end, written-length}
 use Rattle.parts.proofs.RecordLaws.{next, next-slice}
 use Rattle.parts.specs.Parts.{PartsIn, moved}
