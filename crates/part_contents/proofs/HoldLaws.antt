@@ -1,12 +1,13 @@
 -- The bytes of the contents of a part that stands in a table hold them.
+use mathlib.Core.Bool.{true, false}
 use Prim.Native.Nat.{ℕ, zero, suc, _+_, _-_, _≤_}
-use mathlib.Core.Path.{_≡_, sym}
+use mathlib.Core.Path.{_≡_, sym, refl}
 use mathlib.Core.List.{List, [], _∷_, _++_}
 use native.Mathlib.Omega.{arith}
 use lib.ListN.{length, take, drop}
 use Rattle.xliff.specs.Bytes.{Bytes, no-bytes, one-byte}
 use Rattle.xliff.specs.Item.{Content}
-use Rattle.xliff.specs.Unit.{Target, no-target, target, Part}
+use Rattle.xliff.specs.Unit.{Target, no-target, target, Part, target-items}
 use Rattle.xliff.specs.Encode.{Record, content-records, target-records, part-records, content-bytes}
 use Rattle.xliff.proofs.lists.Each.{each-cons, each-left, each-right}
 use Rattle.xliff.proofs.records.Parse.{AllGood}

@@ -1,15 +1,16 @@
 -- The table of a unit, taken apart: UN, its parts, UE. No part is empty.
-use Prim.Native.Nat.{ℕ, _+_, _-_}
+use Prim.Native.Nat.{ℕ, _+_, _-_, _≤_}
 use mathlib.Core.Path.{_≡_, sym, ap, _∙_}
 use mathlib.Core.List.{List, _++_, append-assoc}
 use native.Mathlib.Omega.{arith}
 use lib.ListN.{length, take, drop, length-append}
 use lib.Seq.{take-at, drop-at}
 use Rattle.xliff.specs.Bytes.{gather}
-use Rattle.xliff.specs.Unit.{XliffUnit}
-use Rattle.xliff.specs.Encode.{record-bytes, part-records, spell}
+use Rattle.xliff.specs.Unit.{XliffUnit, Part}
+use Rattle.xliff.specs.Encode.{record-bytes, part-records, spell, part-head, content-records, target-records}
 use Rattle.xliff.proofs.unit.Pieces.{bytes-of, table-pieces, opened, closed}
-use Rattle.parts.specs.Parts.{PartsIn, TableOf}
+use Rattle.parts.specs.Parts.{PartsIn, TableOf, head-in}
+use Rattle.parts.proofs.RecordLaws.{record-least}
 
 pub part-least : (p : Part) → 4 ≤ length (spell (part-records p))
 unfolding spell gather part-records
