@@ -19,9 +19,11 @@ use Rattle.walk.specs.Kept.{Kept, kept-end, kept-item, kept-text, Of, Holds, it
 use Rattle.walk.specs.Marks.{widthAt, kind, is-other, has-other}
 use Rattle.walk.specs.Place.{Inside, over, between, within, Parted}
 use Rattle.walk.specs.declared.Place.{Place}
-use Rattle.walk.proofs.WalkLaws.{texts-other, text-width, tail-is}
+use Rattle.xliff.proofs.lists.Slices.{tail-is, slice-long}
+use Rattle.walk.proofs.WalkLaws.{texts-other, text-width}
 use Rattle.walk.proofs.TextLaws.{utf8s-append, utf8-some}
-use Rattle.walk.proofs.PlaceLaws.{kept-items, kept-front, kept-back, spell-append}
+use Rattle.xliff.proofs.unit.Pieces.{spell-append}
+use Rattle.walk.proofs.PlaceLaws.{kept-items, kept-front, kept-back}
 use Rattle.cut.specs.Turned.{cut-record, cut-records, textPiece, CutAll}
 use Rattle.writer.specs.Pieces.{lead}
 use Rattle.writer.proofs.PieceLaws.{two-back}
@@ -420,15 +422,6 @@ module _ (k : ℕ) (c : List ℕ) (xs : Content) (p : Place) (s : Sides k c xs p
       by (suc n) e = second-size-1 k c xs p s (omega arith)
 
 -- for the code: slices and the rest of an output
-pub tail-room : (l : List ℕ) (n m : ℕ) → n + m ≤ length l → m ≤ length (take (length l - n) (drop n l))
-tail-room l n m h = rw (tail-is n l) (omega (arith, length-drop n l))
-
-pub slice-size : (s : List ℕ) (a n : ℕ) → a + n ≤ length s → length (take (a + n - a) (drop a s)) ≡ n
-slice-size s a n h = ap (λ (j : ℕ). length (take j (drop a s))) (let z : a + n - a ≡ n = omega arith in z) ∙ length-take-le n (drop a s) (omega (arith, length-drop a s))
-
-pub slice-long : (s : List ℕ) (a e : ℕ) → a ≤ e → e ≤ length s → length (take (e - a) (drop a s)) ≡ e - a
-slice-long s a e h k = length-take-le (e - a) (drop a s) (omega (arith, length-drop a s))
-
 -- the records behind the text, where its width is known
 pub rest-at : (k : ℕ) (c : List ℕ) (xs : Content) (p : Place) (a b : List Record) (i : Inner k c xs p a b) (w : ℕ) → w ≡ widthAt (drop (p .at) c) → Of (drop (p .at + w) c) (i .others)
 rest-at k c xs p a b i w e = subst (λ (n : ℕ). Of (drop (p .at + n) c) (i .others)) (sym (e ∙ i .width)) (i .rest)

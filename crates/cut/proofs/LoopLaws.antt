@@ -3,7 +3,7 @@ use Prim.Native.Nat.{ℕ, _+_, _-_, _≤_}
 use mathlib.Core.Path.{_≡_, refl, sym, ap, ap₂, _∙_, subst}
 use mathlib.Core.List.{List, [], _∷_, _++_, append-assoc, append-nil}
 use native.Mathlib.Omega.{arith}
-use lib.ListN.{length, take, drop, length-append, length-drop}
+use lib.ListN.{length, take, drop, length-append}
 use lib.Seq.{take-append-seam}
 use Rattle.xliff.specs.Bytes.{gather}
 use Rattle.xliff.specs.Item.{Content}
@@ -12,14 +12,11 @@ use Rattle.xliff.proofs.lists.Tests.{map-append}
 use Rattle.walk.specs.Kept.{Of}
 use Rattle.walk.specs.Marks.{widthAt}
 use Rattle.walk.proofs.WalkLaws.{Rest, Next, rest-start, rest-end}
-use Rattle.walk.proofs.PlaceLaws.{spell-append}
+use Rattle.xliff.proofs.unit.Pieces.{spell-append}
 use Rattle.writer.specs.Pieces.{lead}
-use Rattle.writer.proofs.PieceLaws.{two-back}
+use Rattle.writer.proofs.PieceLaws.{two-back, lead-length}
 use Rattle.cut.specs.Turned.{cut-record, cut-records}
 use Rattle.cut.proofs.CutLaws.{cut-length}
-
-pub lead-length : (a o : List ℕ) → length a ≤ length o → length (lead a o) ≡ length o
-lead-length a o h = omega (arith, length-append a (drop (length a) o), length-drop (length a) o)
 
 -- the bytes of the first record
 pub next-slice : (c : List ℕ) (at w : ℕ) (rs : List Record) (n : Next c at rs) → w ≡ widthAt (drop at c) → take (at + w - at) (drop at c) ≡ record-bytes (n .first)

@@ -1,22 +1,20 @@
 -- The halves of a part, piece by piece.
 use Prim.Native.Nat.{ℕ, suc, _+_, _-_, _/_, _%_, _<_, _≤_}
 use mathlib.Core.Path.{_≡_, refl, sym, ap, _∙_, subst}
-use mathlib.Core.List.{List, [], _∷_, _++_, append-assoc}
+use mathlib.Core.List.{List, [], _∷_, _++_}
 use native.Mathlib.Omega.{arith}
 use lib.ListN.{length, take, drop, length-append, length-take}
 use Rattle.xliff.specs.Bytes.{two, gather}
 use Rattle.xliff.specs.Item.{Content}
 use Rattle.xliff.specs.Unit.{Head, segment, ignorable, Target, no-target, target, Part}
-use Rattle.xliff.specs.Encode.{record-bytes, head-bytes, content-records, target-records, part-records, spell, content-bytes}
+use Rattle.xliff.specs.Encode.{record-bytes, head-bytes, target-records, part-records, spell, content-bytes}
 use Rattle.xliff.specs.Split.{first-items, second-items, first-target, second-target, with-id, first-half, second-half}
 use Rattle.xliff.proofs.lists.Tests.{two-value}
 use Rattle.walk.specs.Marks.{number}
 use Rattle.walk.specs.Kept.{Holds}
-use Rattle.walk.proofs.PlaceLaws.{spell-append}
+use Rattle.xliff.proofs.unit.Pieces.{spell-append, part-bytes}
 use Rattle.writer.specs.Pieces.{lead, overlay, numberBytes}
-use Rattle.writer.proofs.PieceLaws.{two-back, tail-is}
-use Rattle.cut.proofs.LoopLaws.{lead-length}
-use Rattle.cut.proofs.HalfLaws.{tail-room}
+use Rattle.xliff.proofs.lists.Slices.{tail-is}
 use Rattle.halves_of_part.specs.Parts.{TargetIs, halves}
 
 -- a target that is there
@@ -49,26 +47,10 @@ unfolding spell gather target-records first-target content-bytes record-bytes
 target-first t k g p =
     ap (λ (l : Target). spell (target-records (first-target k l))) (p .is) ∙ ap (λ (l : List ℕ). l ++ content-bytes (first-items k (p .items))) (sym (p .head))
 
--- the bytes of a part
-pub part-bytes : (p : Part) → spell (part-records p) ≡ (head-bytes (p .head) ++ content-bytes (p .source)) ++ spell (target-records (p .target))
-unfolding spell gather part-records content-bytes record-bytes
-part-bytes p =
-    ap (λ (l : List ℕ). head-bytes (p .head) ++ l) (spell-append (content-records (p .source)) (target-records (p .target)))
-    ∙ sym (append-assoc (head-bytes (p .head)) (spell (content-records (p .source))) (spell (target-records (p .target))))
-
 pub part-long : (p : Part) → length (spell (part-records p)) ≡ length (head-bytes (p .head)) + length (content-bytes (p .source)) + length (spell (target-records (p .target)))
 part-long p =
     ap length (part-bytes p) ∙ length-append (head-bytes (p .head) ++ content-bytes (p .source)) (spell (target-records (p .target)))
     ∙ ap (λ (n : ℕ). n + length (spell (target-records (p .target)))) (length-append (head-bytes (p .head)) (content-bytes (p .source)))
-
--- three pieces
-pub three-back : (o a b c l y z : List ℕ) (n e : ℕ) → n ≡ length a → l ≡ lead a o → y ≡ lead b (take (length l - n) (drop n l)) → e ≡ n + length b
-    → z ≡ lead c (take (length (take n l ++ (y ++ drop (length l - n) (drop n l))) - e) (drop e (take n l ++ (y ++ drop (length l - n) (drop n l)))))
-    → take e (take n l ++ (y ++ drop (length l - n) (drop n l))) ++ (z ++ drop (length (take n l ++ (y ++ drop (length l - n) (drop n l))) - e) (drop e (take n l ++ (y ++ drop (length l - n) (drop n l)))))
-    ≡ lead ((a ++ b) ++ c) o
-three-back o a b c l y z n e h k u v w =
-    two-back o (a ++ b) c (take n l ++ (y ++ drop (length l - n) (drop n l))) z e
-    (v ∙ ap (λ (m : ℕ). m + length b) h ∙ sym (length-append a b)) (two-back o a b l y n h k u) w
 
 pub first-bytes : (k j : ℕ) (p : Part) → spell (part-records (first-half k j p)) ≡ (head-bytes (p .head) ++ content-bytes (first-items k (p .source))) ++ spell (target-records (first-target j (p .target)))
 unfolding first-half
@@ -81,14 +63,6 @@ first-long k j p = part-long (first-half k j p)
 
 pub as-tail : (t : List ℕ) (n : ℕ) (xs : Content) → Holds (drop n t) xs → Holds (take (length t - n) (drop n t)) xs
 as-tail t n xs o = subst (λ (l : List ℕ). Holds l xs) (sym (tail-is n t)) o
-
--- and room for the third
-pub three-room : (o a b l y : List ℕ) (n e m : ℕ) → n ≡ length a → l ≡ lead a o → y ≡ lead b (take (length l - n) (drop n l)) → e ≡ n + length b → e + m ≤ length o
-    → m ≤ length (take (length (take n l ++ (y ++ drop (length l - n) (drop n l))) - e) (drop e (take n l ++ (y ++ drop (length l - n) (drop n l)))))
-three-room o a b l y n e m h k u v w =
-    let x : length (take n l ++ (y ++ drop (length l - n) (drop n l))) ≡ length o =
-    ap length (two-back o a b l y n h k u) ∙ lead-length (a ++ b) o (omega (arith, length-append a b)) in
-    tail-room (take n l ++ (y ++ drop (length l - n) (drop n l))) e m (omega arith)
 
 -- the second half
 pub absent-second : (t : List ℕ) (k : ℕ) (g : Target) → length t ≡ 0 → TargetIs t g → spell (target-records (second-target k g)) ≡ []

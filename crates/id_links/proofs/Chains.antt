@@ -64,14 +64,14 @@ unfolding any
 any-miss p l j m e = ap (any p) (take-suc l j 0 m) ∙ any-append p (take j l) (getD l j 0 ∷ []) ∙ ap (λ (b : Bool). any p (take j l) || (b || false)) e ∙ or-none (any p (take j l))
 
 -- a search among the first elements may pass over what is in another group
-pub any-past : (p : ℕ → Bool) (q : ℕ → Bool) (l : List ℕ) → ((k : ℕ) → q k ≡ false → p (getD l k 0) ≡ false) → (i : ℕ) → i ≤ length l → any p (take i l) ≡ any p (take (previous q i) l)
+pub any-past : (p : ℕ → Bool) (q : ℕ → Bool) (l : List ℕ) → ((k : ℕ) → k < length l → q k ≡ false → p (getD l k 0) ≡ false) → (i : ℕ) → i ≤ length l → any p (take i l) ≡ any p (take (previous q i) l)
 unfolding previous
 any-past p q l wider zero h = refl
 any-past p q l wider (suc i) h = by (q i) refl (any-past p q l wider i (omega (arith, h)))
   where
     by : (b : Bool) → q i ≡ b → any p (take i l) ≡ any p (take (previous q i) l) → any p (take (suc i) l) ≡ any p (take (cond b (suc i) (previous q i)) l)
     by true e ih = refl
-    by false e ih = any-miss p l i (omega (arith, h)) (wider i e) ∙ ih
+    by false e ih = any-miss p l i (omega (arith, h)) (wider i (omega (arith, h)) e) ∙ ih
 
 -- the link of a key of a group
 pub link-is : (keys links : List ℕ) (g j : ℕ) → Linked keys links → 0 < j → j ≤ length keys → in-group keys g (j - 1) ≡ true → getD links (j - 1) 0 ≡ previous (in-group keys g) (j - 1)

@@ -24,7 +24,7 @@ module _ (p : ℕ → Bool) (keys : List ℕ) (g : ℕ) where
   search-start heads only last small =
       subst Searched (sym (last g small)) (
         previous-high (in-group keys g) (length keys),
-        ap (any p) (sym (take-length keys)) ∙ any-past p (in-group keys g) keys only (length keys) (omega arith),
+        ap (any p) (sym (take-length keys)) ∙ any-past p (in-group keys g) keys (λ k l. only k) (length keys) (omega arith),
         previous-passes (in-group keys g) (length keys),
       )
 
@@ -48,6 +48,6 @@ module _ (p : ℕ → Bool) (keys : List ℕ) (g : ℕ) where
           omega (arith, h, s .0, previous-high (in-group keys g) (j - 1)),
           s .1 ∙ ap (λ (i : ℕ). any p (take i keys)) (let z : j ≡ suc (j - 1) = omega (arith, h) in z)
               ∙ any-miss p keys (j - 1) (omega (arith, h, s .0)) e
-              ∙ any-past p (in-group keys g) keys only (j - 1) (omega (arith, s .0)),
+              ∙ any-past p (in-group keys g) keys (λ k l. only k) (j - 1) (omega (arith, s .0)),
           previous-passes (in-group keys g) (j - 1),
         )

@@ -14,7 +14,8 @@ use Rattle.xliff.specs.Desk.{Request, request, request-among, answer-requests, 
 use Rattle.answers.specs.declared.Answer.{Answer}
 use Rattle.answers.specs.declared.Answer.the-variants.{Accepted, Refused}
 use Rattle.writer.specs.Pieces.{lead}
-use Rattle.writer.proofs.PieceLaws.{tail-is, tail-ends, two-back}
+use Rattle.xliff.proofs.lists.Slices.{tail-is}
+use Rattle.writer.proofs.PieceLaws.{tail-ends, two-back}
 use Rattle.outcomes.specs.Outcomes.{Answers}
 use Rattle.job.specs.Job.{every, FitsIn, kept-table}
 

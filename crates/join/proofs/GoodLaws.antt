@@ -15,11 +15,11 @@ use Rattle.xliff.specs.Focus.{here, order-parts, with-parts}
 use Rattle.xliff.specs.Join.{join-parts, join-order, join-focus}
 use Rattle.xliff.proofs.lists.Each.{each-cons, each-append, each-apart}
 use Rattle.xliff.proofs.unit.Valid.{GoodPart, GoodParts, heads-unit}
-use Rattle.xliff.proofs.unit.Result.{Sent, sent}
+use Rattle.xliff.proofs.unit.Result.{Sent, sent, small-table}
 use Rattle.xliff.proofs.operations.SetValid.{some-part}
 use Rattle.xliff.proofs.operations.JoinValid.{part-good, orders-good}
-use Rattle.part_contents.proofs.HoldLaws.{bytes-known}
-use Rattle.split_limits.proofs.SizeLaws.{small-table, table-passes}
+use Rattle.table.proofs.WidthLaws.{bytes-known}
+use Rattle.part_at.proofs.CheckedLaws.{table-passes}
 use Rattle.result_rules.proofs.GoodLaws.{GoodUnit}
 use Rattle.join_result.specs.Result.{joined-unit}
 use Rattle.join_result.proofs.SizeLaws.{fewer-bytes, fewer-records, fewer-parts}
@@ -57,7 +57,7 @@ module _ (t : List ℕ) (h : (i : ℕ) → Fits w8 (getD t i 0)) (v : table-refu
         others = xs;
         parts = shown;
         good = good-parts;
-        size = omega (arith, fewer-bytes (unit t) b p q a e, same, small-table t h v);
+        size = omega (arith, fewer-bytes (unit t) b p q a e, same, small-table t v);
         few = omega (arith, fewer-records (unit t) b p q a e, k .few);
         few-parts = omega (arith, fewer-parts (unit t) b p q a e, k .few-parts, heads-unit (unit t));
       }

@@ -11,8 +11,7 @@ ghost use Rattle.xliff.specs.Focus.{focus};
 ghost use Rattle.xliff.specs.Parse.{unit};
 ghost use Rattle.xliff.specs.Join.{join};
 ghost use Rattle.answers.specs.Answers.{answer-meaning};
-ghost use Rattle.part_at.specs.Stands.{PartFound};
-ghost use Rattle.split_limits.specs.Added.{Placed};
+ghost use Rattle.part_at.specs.Stands.{PartFound, Placed};
 ghost use Rattle.outcomes.specs.Outcomes.{Answers};
 ghost use Rattle.join.specs.Pair.{PairAt, Ended, PairAnswers};
 

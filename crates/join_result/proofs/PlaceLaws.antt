@@ -13,11 +13,12 @@ use Rattle.xliff.specs.Encode.{closing, record-bytes}
 use Rattle.xliff.specs.Check.{table-refusal}
 use Rattle.xliff.proofs.lists.Each.{Each, each-apart}
 use Rattle.parts.specs.Parts.{GoodPart, PartsIn}
-use Rattle.part_offsets.proofs.OffsetLaws.{bytes-of}
+use Rattle.xliff.proofs.unit.Pieces.{bytes-of}
 use Rattle.part_at.specs.declared.PartPlace.{PartPlace}
 use Rattle.part_at.specs.Stands.{PartStands}
-use Rattle.split_limits.proofs.StandLaws.{the-table}
 use Rattle.join_result.specs.Result.{Beside}
+use Rattle.parts.proofs.CheckLaws.{table-of}
+use Rattle.table.proofs.WidthLaws.{bytes-known}
 
 -- the slice before a part
 module _ (t : List ℕ) (b : List Part) (p : Part) (a : List Part) (x : PartPlace) (s : PartStands t b p a x) where
@@ -49,7 +50,7 @@ module _ (t : List ℕ) (b : List Part) (p : Part) (a : List Part) (x : PartPlac
 
 module _ (t : List ℕ) (h : (i : ℕ) → Fits w8 (getD t i 0)) (v : table-refusal t ≡ none) (x y : PartPlace) (b : List Part) (p q : Part) (a : List Part) (s : Beside t x y b p q a) where
   good-apart : Each GoodPart b × GoodPart p × Each GoodPart (q ∷ a)
-  good-apart = each-apart b p (q ∷ a) (subst (Each GoodPart) (s .first .all) (the-table t x h v .1))
+  good-apart = each-apart b p (q ∷ a) (subst (Each GoodPart) (s .first .all) (table-of t (bytes-known t h) v .1))
 
   pub before-in : PartsIn (take (x .head - 3) (drop 3 t)) b
   before-in = (sym (before-is t b p (q ∷ a) x (s .first)), good-apart .0)

@@ -12,12 +12,10 @@ use Rattle.xliff.specs.Parse.{unit}
 use Rattle.xliff.specs.Focus.{here, focus, order-target, order-part, order-parts, with-parts}
 use Rattle.xliff.specs.Join.{lower-above, join-targets, join-parts, join-order, join-focus, join-unit}
 use Rattle.xliff.proofs.lists.Tests.{map-append}
-use Rattle.walk.proofs.PlaceLaws.{spell-append}
-use Rattle.writer.proofs.PieceLaws.{tail-is}
-use Rattle.parts.specs.Parts.{moved, ordered}
-use Rattle.part_offsets.specs.Table.{TableOf}
-use Rattle.part_offsets.proofs.OffsetLaws.{bytes-of, bytes-append}
-use Rattle.part_offsets.proofs.TableLaws.{opened, closed, table-pieces, table-opened, table-closed}
+use Rattle.xliff.proofs.unit.Pieces.{spell-append, bytes-of, bytes-append, opened, closed, table-pieces}
+use Rattle.xliff.proofs.lists.Slices.{tail-is}
+use Rattle.parts.specs.Parts.{moved, ordered, TableOf}
+use Rattle.parts.proofs.TableLaws.{table-opened, table-closed}
 use Rattle.part_at.specs.declared.PartPlace.{PartPlace}
 use Rattle.part_at.specs.Stands.{TargetStands}
 use Rattle.joined_part.specs.Joined.{joined-part, part-bytes}

@@ -7,7 +7,8 @@ use native.Mathlib.Omega.{arith}
 use lib.ListN.{length, take, drop, length-append, length-drop}
 use lib.Seq.{drop-at, take-append-add, drop-append-add}
 use Rattle.writer.specs.Pieces.{lead, overlay, numberBytes}
-use Rattle.writer.proofs.PieceLaws.{two-back, tail-is}
+use Rattle.xliff.proofs.lists.Slices.{tail-is}
+use Rattle.writer.proofs.PieceLaws.{two-back}
 use Rattle.xliff.specs.Bytes.{two, gather}
 use Rattle.xliff.specs.Text.{utf8s}
 use Rattle.xliff.specs.Item.{Content, text}
@@ -19,7 +20,8 @@ use Rattle.walk.specs.Kept.{Kept, kept-end, kept-item, kept-text, Of, Holds, it
 use Rattle.walk.specs.Marks.{widthAt, marked, number}
 use Rattle.walk.proofs.WalkLaws.{Rest, Next, next, rest-start, rest-end, inline-least}
 use Rattle.walk.proofs.TextLaws.{utf8s-append}
-use Rattle.walk.proofs.PlaceLaws.{is-text, kept-items, spell-append}
+use Rattle.xliff.proofs.unit.Pieces.{spell-append}
+use Rattle.walk.proofs.PlaceLaws.{is-text, kept-items}
 use Rattle.cut.proofs.CutLaws.{kept-records}
 use Rattle.cut.proofs.HalfLaws.{items-of}
 use Rattle.joined_content.specs.Seam.{Last, Seam, apart, touching}

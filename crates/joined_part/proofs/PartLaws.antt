@@ -12,8 +12,8 @@ use Rattle.xliff.specs.Focus.{order-part}
 use Rattle.xliff.specs.Join.{join-heads, join-parts}
 use Rattle.xliff.proofs.lists.Each.{each-right}
 use Rattle.xliff.proofs.records.Parse.{AllGood}
-use Rattle.places.proofs.Places.{spell-append}
-use Rattle.cut.proofs.HalfLaws.{slice-long}
+use Rattle.xliff.proofs.unit.Pieces.{spell-append}
+use Rattle.xliff.proofs.lists.Slices.{slice-long}
 use Rattle.writer.specs.Pieces.{lead}
 use Rattle.part_contents.proofs.HoldLaws.{good-rest, holds-slice, good-part, holds-source, target-ends}
 use Rattle.part_at.specs.declared.PartPlace.{PartPlace}

@@ -13,7 +13,7 @@ use Rattle.xliff.specs.Focus.{order-target}
 use Rattle.xliff.specs.Join.{join-targets}
 use Rattle.walk.specs.Kept.{Holds}
 use Rattle.writer.specs.Pieces.{lead, overlay, numberBytes}
-use Rattle.writer.proofs.PieceLaws.{tail-is}
+use Rattle.xliff.proofs.lists.Slices.{tail-is}
 use Rattle.joined_content.specs.Seam.{RoomJoined, WroteJoined}
 use Rattle.joined_part.specs.Joined.{TargetIs, joined-target, target-bytes}
 

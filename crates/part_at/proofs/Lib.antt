@@ -2,3 +2,4 @@ pub mod ContentLaws
 pub mod SpanLaws
 pub mod PartLaws
 pub mod SearchLaws
+pub mod CheckedLaws

@@ -3,12 +3,14 @@ use Prim.Native.Nat.{ℕ, _+_, _-_, _≤_}
 use mathlib.Core.Path.{_≡_}
 use mathlib.Core.Bool.{true, false}
 use mathlib.Core.List.{List, [], _∷_, _++_}
+use mathlib.Core.Option.{none}
 use lib.ListN.{length, take, drop}
 use Rattle.xliff.specs.Bytes.{gather}
 use Rattle.xliff.specs.Unit.{Head, Target, no-target, target, Part, has-target}
 use Rattle.xliff.specs.Encode.{Record, opening, closing, part-head, target-head, record-bytes, head-bytes, target-records, part-records, spell, content-bytes}
 use Rattle.xliff.specs.Parse.{unit}
-use Rattle.xliff.specs.Focus.{Focus, nowhere, here}
+use Rattle.xliff.specs.Focus.{Focus, nowhere, here, focus}
+use Rattle.xliff.specs.Check.{table-refusal}
 use Rattle.places.proofs.Places.{At}
 use Rattle.part_at.specs.declared.PartPlace.{PartPlace}
 use Rattle.part_at.specs.declared.FoundPart.{FoundPart}
@@ -75,6 +77,14 @@ pub record PartStands (t : List ℕ) (b : List Part) (p : Part) (a : List Part) 
 
 abbrev pub Standing : List ℕ → PartPlace → Type 0
 Standing t place = (b : List Part) × (p : Part) × (a : List Part) × PartStands t b p a place
+
+-- the check passes the table, and at the place stands a part; part number n
+abbrev pub Checked : List ℕ → PartPlace → Type 0
+Checked t place = (table-refusal t ≡ none) × Standing t place
+
+abbrev pub Placed : List ℕ → ℕ → PartPlace → Type 0
+Placed t n place =
+    (table-refusal t ≡ none) × ((b : List Part) × (p : Part) × (a : List Part) × (focus (unit t .parts) n ≡ here b p a) × PartStands t b p a place)
 
 -- a part is found exactly where there is one
 abbrev pub PartFound : List ℕ → Focus → FoundPart → Type 0

@@ -9,11 +9,11 @@ use Rattle.xliff.specs.Bytes.{gather}
 use Rattle.xliff.specs.Item.{Item}
 use Rattle.xliff.specs.Unit.{Head, segment, ignorable, Target, no-target, target, Part}
 use Rattle.xliff.specs.Encode.{Record, part-head, text-run, inline, head-bytes, record-bytes, content-records, target-records, part-records, spell}
-use Rattle.xliff.proofs.lists.Each.{Each, each-nil, each-cons, each-append}
+use Rattle.xliff.proofs.lists.Each.{Each, each-nil, each-cons, each-append, each-apart}
 use Rattle.xliff.proofs.records.Read.{GoodItem}
 use Rattle.walk.specs.Kept.{Kept, kept-end, kept-item, kept-text}
-use Rattle.walk.proofs.PlaceLaws.{spell-append}
-use Rattle.parts.specs.Parts.{GoodTarget, GoodPart, PartsIn, InPart, head-in, target-in, item-in, text-in, widthIn}
+use Rattle.xliff.proofs.unit.Pieces.{spell-append}
+use Rattle.parts.specs.Parts.{GoodTarget, PartsIn, InPart, head-in, target-in, item-in, text-in, widthIn}
 use Rattle.parts.proofs.RecordLaws.{unmarked, item-letter, record-least, Rest, Next, next, rest-end}
 use Rattle.parts.proofs.OrderLaws.{parts-in}
 use Rattle.part_offsets.specs.Offsets.{isHead}
@@ -55,9 +55,6 @@ pub record Along (t : List ℕ) (p : Part) (ps : List Part) (at : ℕ) : Type 0 
 from-start : (t : List ℕ) (p : Part) (ps : List Part) → PartsIn t (p ∷ ps) → Rest t 0 (gather part-records (p ∷ ps))
 from-start t p ps (e, h) = record { each = parts-in (p ∷ ps) h; bytes = e }
 
-each-first : (p : Part) (ps : List Part) → Each GoodPart (p ∷ ps) → GoodPart p
-each-first p ps (each-cons g h) = g
-
 -- one record further
 record-long : (before : List Record) (r : Record) → length (spell (before ++ (r ∷ []))) ≡ length (spell before) + length (record-bytes r)
 unfolding spell gather
@@ -91,7 +88,7 @@ begin t p ps h =
 pub along-start : (t : List ℕ) (p : Part) (ps : List Part) → PartsIn t (p ∷ ps) → Along t p ps (widthIn t)
 unfolding gather part-records spell
 along-start t p ps h =
-    let g = each-first p ps (h .1) in
+    let g = each-apart [] p ps (h .1) .1 in
     subst (Along t p ps) (let z : 0 + widthIn t ≡ widthIn t = omega arith in z)
     (step t p ps 0 [] (part-head (p .head)) (content-records (p .source) ++ target-records (p .target)) refl
     (each-append (content-records (p .source)) (target-records (p .target)) (kept-inner false (content-records (p .source)) (g .0)) (target-inner (p .target) (g .1)))

@@ -1,4 +1,2 @@
 pub mod InsideLaws
 pub mod OffsetLaws
-pub mod TableLaws
-pub mod CheckLaws

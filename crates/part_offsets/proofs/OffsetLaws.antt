@@ -7,24 +7,11 @@ use lib.ListN.{length, take, drop, length-append, length-drop}
 use lib.Seq.{take-all, take-append-seam, drop-append-seam, drop-drop}
 use Rattle.xliff.specs.Bytes.{gather}
 use Rattle.xliff.specs.Unit.{Part}
-use Rattle.xliff.specs.Encode.{Record, part-head, content-records, target-records, record-bytes, part-records, spell}
-use Rattle.xliff.proofs.lists.Tests.{gather-append}
-use Rattle.xliff.proofs.lists.Each.{Each, each-cons}
-use Rattle.walk.proofs.PlaceLaws.{spell-append}
-use Rattle.parts.specs.Parts.{GoodPart, PartsIn, head-in}
-use Rattle.parts.proofs.RecordLaws.{record-least}
-
--- the bytes of parts
-abbrev pub bytes-of : List Part → List ℕ
-bytes-of ps = spell (gather part-records ps)
-
-pub bytes-append : (ps qs : List Part) → bytes-of (ps ++ qs) ≡ bytes-of ps ++ bytes-of qs
-bytes-append ps qs = ap spell (gather-append part-records ps qs) ∙ spell-append (gather part-records ps) (gather part-records qs)
-
-pub part-least : (p : Part) → 4 ≤ length (spell (part-records p))
-unfolding spell gather part-records
-part-least p =
-    omega (arith, record-least (part-head (p .head)) head-in, length-append (record-bytes (part-head (p .head))) (spell (content-records (p .source) ++ target-records (p .target))))
+use Rattle.xliff.specs.Encode.{Record, part-records, spell}
+use Rattle.xliff.proofs.lists.Each.{each-apart}
+use Rattle.xliff.proofs.unit.Pieces.{spell-append, bytes-of, bytes-append}
+use Rattle.parts.specs.Parts.{PartsIn}
+use Rattle.parts.proofs.TableLaws.{part-least}
 
 -- at the offset at of t, with left of k parts to pass over
 pub record Passed (t : List ℕ) (k : ℕ) (ps : List Part) (at left : ℕ) : Type 0 where
@@ -51,9 +38,6 @@ unfolding spell gather
 front t at [] l h = absurd (let z : 0 ≡ length (drop at t) = ap length (h .0) in let y : ⊥ = omega (arith, length-drop at t) in y)
 front t at (p ∷ ps) l h = record { first = p; others = ps; all = refl; is = h }
 
-others-good : (p : Part) (ps : List Part) → Each GoodPart (p ∷ ps) → Each GoodPart ps
-others-good p ps (each-cons g h) = h
-
 module _ (t : List ℕ) (at w : ℕ) (p : Part) (ps : List Part) (h : PartsIn (drop at t) (p ∷ ps)) (e : w ≡ length (spell (part-records p))) where
   apart : drop at t ≡ spell (part-records p) ++ bytes-of ps
   unfolding gather
@@ -66,7 +50,7 @@ module _ (t : List ℕ) (at w : ℕ) (p : Part) (ps : List Part) (h : PartsIn (d
 
   front-rest : PartsIn (drop (at + w) t) ps
   front-rest =
-      (sym (sym (rw drop-drop) ∙ ap₂ (λ (n : ℕ) (l : List ℕ). drop n l) e apart ∙ drop-append-seam (spell (part-records p)) (bytes-of ps)), others-good p ps (h .1))
+      (sym (sym (rw drop-drop) ∙ ap₂ (λ (n : ℕ) (l : List ℕ). drop n l) e apart ∙ drop-append-seam (spell (part-records p)) (bytes-of ps)), each-apart [] p ps (h .1) .2)
 
 one-more : (before : List Part) (p : Part) → length (bytes-of (before ++ (p ∷ []))) ≡ length (bytes-of before) + length (spell (part-records p))
 unfolding gather

@@ -13,11 +13,12 @@ use Rattle.xliff.specs.Encode.{Record, text-run, inline, record-bytes, head-byt
 use Rattle.xliff.proofs.records.Read.{GoodItem}
 use Rattle.walk.specs.Kept.{Kept, kept-item, kept-text, Inline, an-item, a-text}
 use Rattle.walk.specs.Marks.{marked, number, widthAt}
-use Rattle.walk.proofs.WalkLaws.{inline-width, inline-least, tail-is}
-use Rattle.walk.proofs.PlaceLaws.{spell-append}
+use Rattle.xliff.proofs.lists.Slices.{tail-is}
+use Rattle.walk.proofs.WalkLaws.{inline-width, inline-least}
+use Rattle.xliff.proofs.unit.Pieces.{spell-append, part-bytes}
 use Rattle.parts.specs.Parts.{GoodTarget}
 use Rattle.halves_of_part.specs.Parts.{TargetIs, PartIs}
-use Rattle.halves_of_part.proofs.PartLaws.{part-bytes, present, order-is}
+use Rattle.halves_of_part.proofs.PartLaws.{present, order-is}
 use Rattle.part_split.specs.Whole.{headWidth, Stretch, Whole, order-or}
 
 item-no-target : (x : Item) (s : List ℕ) → GoodItem x → marked (record-bytes (inline x) ++ s) 84 71 ≡ false

@@ -4,8 +4,8 @@ use mathlib.Core.Path.{_≡_, refl, sym, ap, ap₂, _∙_}
 use mathlib.Core.Bool.{Bool, true, false, not, _&&_, _||_, cond, true≢false, false≢true}
 use mathlib.Core.List.{List, [], _∷_, reverse, reverse-append}
 use native.Mathlib.Omega.{arith}
-use lib.ListN.{length, take, drop, getD, drop-of-length-le, length-drop}
-use lib.Seq.{take-suc, drop-cons, take-all}
+use lib.ListN.{length, take, drop, getD, drop-of-length-le}
+use lib.Seq.{take-suc, drop-cons}
 use lib.Dec.{eqb}
 use Rattle.xliff.specs.Bytes.{any}
 use Rattle.xliff.specs.Sequences.{first-of, least}
@@ -17,10 +17,6 @@ use Rattle.keys.specs.Keys.{halfKey, formKey, alikeKeys, otherKey}
 use Rattle.contents.specs.Contents.{isBar, targeted}
 use Rattle.partners.specs.Partners.{partnerSKey, loneSKey, someKey, loneInTarget, blamedKeys}
 use Rattle.answers.proofs.Places.{toward-if}
-
--- a slice from an index on is what is left of the list
-pub tail-is : (n : ℕ) (s : List ℕ) → take (length s - n) (drop n s) ≡ drop n s
-tail-is n s = take-all (length s - n) (drop n s) (omega (arith, length-drop n s))
 
 -- the next key, and the keys before it, the nearest first
 pub next-key : (ks : List ℕ) (i : ℕ) → i < length ks → drop i ks ≡ getD ks i 0 ∷ drop (i + 1) ks

@@ -2,3 +2,5 @@ pub mod RecordLaws
 pub mod OrderLaws
 pub mod LoopLaws
 pub mod GlanceLaws
+pub mod TableLaws
+pub mod CheckLaws

@@ -3,20 +3,17 @@ use Prim.Native.Nat.{ℕ, _+_, _-_, _≤_}
 use mathlib.Core.Path.{_≡_, refl, sym, ap, _∙_, subst}
 use mathlib.Core.List.{List, [], _∷_, _++_, map, append-assoc, append-nil}
 use native.Mathlib.Omega.{arith}
-use lib.ListN.{length, take, drop, length-append, length-drop}
+use lib.ListN.{length, take, drop, length-append}
 use Rattle.xliff.specs.Bytes.{gather}
 use Rattle.xliff.specs.Unit.{Part}
 use Rattle.xliff.specs.Encode.{Record, record-bytes, part-records, spell}
 use Rattle.xliff.proofs.lists.Tests.{map-append}
-use Rattle.walk.proofs.PlaceLaws.{spell-append}
+use Rattle.xliff.proofs.unit.Pieces.{spell-append}
 use Rattle.writer.specs.Pieces.{lead}
-use Rattle.writer.proofs.PieceLaws.{two-back}
+use Rattle.writer.proofs.PieceLaws.{two-back, lead-length}
 use Rattle.parts.specs.Parts.{PartsIn, ordered, widthIn, order-record}
 use Rattle.parts.proofs.RecordLaws.{Rest, Next, rest-end}
 use Rattle.parts.proofs.OrderLaws.{parts-in, parts-moved, order-length}
-
-pub lead-length : (a o : List ℕ) → length a ≤ length o → length (lead a o) ≡ length o
-lead-length a o h = omega (arith, length-append a (drop (length a) o), length-drop (length a) o)
 
 -- up to the offset at of t, the records of the parts ps are written
 pub record Written (t : List ℕ) (f : ℕ → ℕ) (ps : List Part) (o : List ℕ) (at : ℕ) (l : List ℕ) : Type 0 where

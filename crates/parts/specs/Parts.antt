@@ -7,8 +7,8 @@ use lib.ListN.{length}
 use Rattle.xliff.specs.Bytes.{'G', 'I', 'S', 'T', gather}
 use Rattle.xliff.specs.Text.{utf8s}
 use Rattle.xliff.specs.Item.{Item}
-use Rattle.xliff.specs.Unit.{Head, Target, no-target, target, Part}
-use Rattle.xliff.specs.Encode.{Record, opening, closing, part-head, target-head, text-run, inline, ill-text, broken, record-bytes, content-records, part-records, spell}
+use Rattle.xliff.specs.Unit.{Head, Target, no-target, target, Part, XliffUnit}
+use Rattle.xliff.specs.Encode.{Record, opening, closing, part-head, target-head, text-run, inline, ill-text, broken, record-bytes, content-records, part-records, spell, encode}
 use Rattle.xliff.specs.Focus.{order-parts}
 use Rattle.xliff.specs.Split.{raise-above}
 use Rattle.xliff.specs.Join.{lower-above}
@@ -33,6 +33,10 @@ PartsIn t ps = (spell (gather part-records ps) ≡ t) × Each GoodPart ps
 
 abbrev pub SomeParts : List ℕ → Type 0
 SomeParts t = (ps : List Part) × PartsIn t ps
+
+-- t is the table of the unit u
+abbrev pub TableOf : List ℕ → XliffUnit → Type 0
+TableOf t u = (encode u ≡ t) × Each GoodPart (u .parts)
 
 -- orders above q one up, or one down
 abbrev pub moved : Bool → ℕ → ℕ → ℕ

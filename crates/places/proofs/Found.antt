@@ -15,7 +15,8 @@ use Rattle.xliff.specs.Sequences.{Placed, placed-from, Located, located, locate
 use Rattle.xliff.specs.Rules.{bad-order, first-bad-order, fault-5, of-source, of-target, Named, start-name, part-name, names, first-clash, fault-6}
 use Rattle.xliff.proofs.lists.Tests.{gather-append}
 use Rattle.xliff.proofs.records.Parse.{placed}
-use Rattle.places.proofs.Places.{spell-append, of-entry, content-found, Inner, no-inner, text-inner, inline-inner, content-inner}
+use Rattle.xliff.proofs.unit.Pieces.{spell-append}
+use Rattle.places.proofs.Places.{of-entry, content-found, Inner, no-inner, text-inner, inline-inner, content-inner}
 use Rattle.places.specs.Found.{state-after, found-at, found, Ordered, orders-found, first-bad-in, head-name, no-name, names-found, marker, no-marker, marks-found, markers}
 
 -- the sizes of a part

@@ -20,12 +20,9 @@ use Rattle.xliff.proofs.lists.Each.{each-cons}
 use Rattle.xliff.proofs.records.Read.{GoodRecord, read-bytes}
 use Rattle.xliff.proofs.unit.Valid.{part-heads, unit-good}
 use Rattle.xliff.proofs.unit.Table.{table-walked, shape, closed-off, encode-unit, first-bad-cons}
+use Rattle.xliff.specs.Check.{table-refusal}
+use Rattle.xliff.proofs.unit.Result.{then-left, then-right}
 use Rattle.places.specs.Passes.{Passes}
-
--- the bytes of records one after the other
-pub spell-append : (rs qs : List Record) → spell (rs ++ qs) ≡ spell rs ++ spell qs
-unfolding spell
-spell-append rs qs = gather-append record-bytes rs qs
 
 pub placed-append : (at : ℕ) (rs qs : List Record) → placed at (rs ++ qs) ≡ placed at rs ++ placed (at + length (spell rs)) qs
 unfolding placed spell gather
@@ -245,6 +242,10 @@ passes t h k =
       few-parts = subst (λ (rs : List Record). part-heads rs ≤ 64) (sym e) (n .1);
       good-parts = unit-good t h k;
     }
+
+pub checked-passes : (t : List ℕ) → Bytes t → table-refusal t ≡ none → Passes t
+unfolding table-refusal
+checked-passes t h v = passes t h (then-left _ _ (then-right _ _ v))
 
 -- At an offset these good records are what is left of the table
 pub record At (t : List ℕ) (at : ℕ) (rs : List Record) : Type 0 where

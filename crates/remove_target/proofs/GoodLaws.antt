@@ -18,12 +18,12 @@ use Rattle.xliff.proofs.lists.Each.{each-cons, each-append, each-apart}
 use Rattle.xliff.proofs.lists.Tests.{gather-append}
 use Rattle.xliff.proofs.unit.Valid.{GoodParts, heads-unit}
 use Rattle.xliff.proofs.operations.RemoveValid.{initial-good}
-use Rattle.xliff.proofs.unit.Result.{Sent, sent}
+use Rattle.xliff.proofs.unit.Result.{Sent, sent, small-table}
 use Rattle.xliff.proofs.operations.SetValid.{some-part}
 use Rattle.part_at.specs.declared.PartPlace.{PartPlace}
 use Rattle.part_at.specs.Stands.{PartStands}
-use Rattle.part_contents.proofs.HoldLaws.{bytes-known}
-use Rattle.split_limits.proofs.SizeLaws.{small-table, table-passes}
+use Rattle.table.proofs.WidthLaws.{bytes-known}
+use Rattle.part_at.proofs.CheckedLaws.{table-passes}
 use Rattle.result_rules.proofs.GoodLaws.{GoodUnit}
 use Rattle.removed_target.specs.Removed.{removed-unit}
 use Rattle.removed_target.proofs.RemovedLaws.{bared, in-order, removed-long}
@@ -81,7 +81,7 @@ module _ (t : List ℕ) (h : (i : ℕ) → Fits w8 (getD t i 0)) (v : table-refu
         others = xs;
         parts = shown;
         good = good-parts;
-        size = omega (arith, removed-long t b p a place s, small-table t h v);
+        size = omega (arith, removed-long t b p a place s, small-table t v);
         few = omega (arith, fewer-records (unit t) b p a (s .all), k .few);
         few-parts = omega (arith, same-parts (unit t) b p a (s .all), k .few-parts, heads-unit (unit t));
       }

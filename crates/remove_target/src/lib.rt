@@ -10,9 +10,7 @@ ghost use Rattle.xliff.specs.Focus.{focus};
 ghost use Rattle.xliff.specs.Parse.{unit};
 ghost use Rattle.xliff.specs.RemoveTarget.{remove-target};
 ghost use Rattle.answers.specs.Answers.{answer-meaning};
-ghost use Rattle.part_at.specs.Stands.{PartFound};
-ghost use Rattle.split_limits.specs.Cuts.{Checked};
-ghost use Rattle.split_limits.specs.Added.{Placed};
+ghost use Rattle.part_at.specs.Stands.{PartFound, Checked, Placed};
 ghost use Rattle.outcomes.specs.Outcomes.{Answers};
 ghost use Rattle.remove_target.specs.Ending.{Ended};
 

@@ -12,11 +12,8 @@ use Rattle.xliff.specs.Parse.{unit}
 use Rattle.xliff.specs.Focus.{here, focus, with-parts}
 use Rattle.xliff.specs.SetTarget.{with-state}
 use Rattle.xliff.specs.RemoveTarget.{remove-focus, remove-unit}
-use Rattle.walk.proofs.PlaceLaws.{spell-append}
-use Rattle.cut.proofs.HalfLaws.{slice-long}
-use Rattle.halves_of_part.proofs.PartLaws.{part-bytes}
-use Rattle.part_offsets.proofs.OffsetLaws.{bytes-of, bytes-append}
-use Rattle.part_offsets.proofs.TableLaws.{opened, closed, table-pieces}
+use Rattle.xliff.proofs.unit.Pieces.{spell-append, part-bytes, bytes-of, bytes-append, opened, closed, table-pieces}
+use Rattle.xliff.proofs.lists.Slices.{slice-long}
 use Rattle.part_at.specs.declared.PartPlace.{PartPlace}
 use Rattle.part_at.specs.Stands.{PartStands, TargetStands}
 use Rattle.removed_target.specs.Removed.{to-source, removed-unit}

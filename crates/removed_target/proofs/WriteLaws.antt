@@ -10,10 +10,8 @@ use Rattle.xliff.specs.Encode.{head-bytes, encode}
 use Rattle.xliff.specs.Parse.{unit}
 use Rattle.xliff.specs.SetTarget.{with-state}
 use Rattle.writer.specs.Pieces.{lead}
-use Rattle.writer.proofs.PieceLaws.{tail-is, two-back}
-use Rattle.cut.proofs.LoopLaws.{lead-length}
-use Rattle.cut.proofs.HalfLaws.{tail-room}
-use Rattle.halves_of_part.proofs.PartLaws.{three-back, three-room}
+use Rattle.xliff.proofs.lists.Slices.{tail-is, tail-room}
+use Rattle.writer.proofs.PieceLaws.{two-back, three-back, three-room, lead-length}
 use Rattle.part_at.specs.declared.PartPlace.{PartPlace}
 use Rattle.part_at.specs.Stands.{PartStands}
 use Rattle.removed_target.specs.Removed.{Written, WroteHead, to-source, WroteToSource, removed-unit}

@@ -10,8 +10,7 @@ use Rattle.xliff.specs.Focus.{here, with-parts}
 use Rattle.xliff.specs.SetTarget.{with-state}
 use Rattle.xliff.specs.RemoveTarget.{remove-focus}
 use Rattle.writer.specs.Pieces.{lead}
-use Rattle.part_offsets.proofs.OffsetLaws.{bytes-of}
-use Rattle.part_offsets.proofs.TableLaws.{opened}
+use Rattle.xliff.proofs.unit.Pieces.{bytes-of, opened}
 use Rattle.part_at.specs.declared.PartPlace.{PartPlace}
 use Rattle.part_at.specs.Stands.{PartStands}
 

@@ -1,5 +1,5 @@
 -- The rewritten table passes 2, 3 and 4, and breaks rule 7 where the halves are partners in no content.
-use Prim.Native.Nat.{ℕ, _≤_}
+use Prim.Native.Nat.{ℕ}
 use mathlib.Core.Path.{_≡_, refl, sym, ap, _∙_}
 use mathlib.Core.Bool.{Bool, true, false, not}
 use mathlib.Core.List.{List, map}
@@ -7,23 +7,23 @@ use mathlib.Core.Option.{Option, none, some}
 use native.Mathlib.Omega.{arith}
 use lib.ListN.{length}
 use lib.Dec.{ltb}
-use borrow.Author.Tests.{ltb-false, le-ltb}
+use borrow.Author.Tests.{le-ltb}
 use Rattle.xliff.specs.Bytes.{'P', Bytes, among}
 use Rattle.xliff.specs.Answer.{Refusal, is-fault}
 use Rattle.xliff.specs.Item.{Form, form-P}
 use Rattle.xliff.specs.Unit.{XliffUnit}
 use Rattle.xliff.specs.Encode.{encode}
-use Rattle.xliff.specs.Parse.{unit, most-bytes}
+use Rattle.xliff.specs.Parse.{unit}
 use Rattle.xliff.specs.Rules.{fault-6, fault-7, fault-6-to-10}
 use Rattle.xliff.specs.Check.{Valid, table-refusal, too-large}
 use Rattle.xliff.specs.Focus.{with-parts}
 use Rattle.xliff.specs.Rewrite.{form-of, rewrite-item, rewrite-part, rewrite-unit, Whole, unfit-letter}
 use Rattle.xliff.proofs.lists.Tests.{none-some, or-both}
 use Rattle.xliff.proofs.unit.Valid.{heads-unit}
-use Rattle.xliff.proofs.unit.Result.{Sent, sent, then-left, then-right, applies-none}
+use Rattle.xliff.proofs.unit.Result.{Sent, sent, then-left, then-right, small-table}
 use Rattle.xliff.proofs.operations.RewriteValid.{good-parts, rewrite-accepted}
 use Rattle.places.specs.Passes.{Passes}
-use Rattle.places.proofs.Places.{passes}
+use Rattle.places.proofs.Places.{checked-passes}
 use Rattle.result_rules.proofs.GoodLaws.{GoodUnit, read-back, only-room}
 use Rattle.rewrite_marks.proofs.LengthLaws.{length-kept, records-kept, parts-kept}
 use Rattle.rewrite_refusals.specs.Asked.{apart, fails-to-P, Asked}
@@ -31,13 +31,8 @@ use Rattle.rewrite_refusals.proofs.ChainLaws.{done}
 use Rattle.rewrite_refusals.proofs.PartnerLaws.{partners-there}
 
 module _ (t : List ℕ) (b : Bytes t) (v : table-refusal t ≡ none) where
-  pub small : length t ≤ 8192
-  unfolding table-refusal
-  small = ltb-false most-bytes (length t) (applies-none 1 (ltb most-bytes (length t)) (then-left _ _ v))
-
-  pub table-passes : Passes t
-  unfolding table-refusal
-  table-passes = passes t b (then-left _ _ (then-right _ _ v))
+  passed : Passes t
+  passed = checked-passes t b v
 
   sent-unit : Sent (unit t)
   unfolding Valid
@@ -52,14 +47,14 @@ module _ (t : List ℕ) (b : Bytes t) (v : table-refusal t ≡ none) where
         others = map (rewrite-part side (rewrite-item i w)) (sent-unit .others);
         parts = ap (map (rewrite-part side (rewrite-item i w))) (sent-unit .parts);
         good = good-parts side i w (unit t .parts) (sent-unit .good);
-        size = omega (arith, length-kept i w t side table-passes, small);
-        few = omega (arith, records-kept i w t side table-passes, table-passes .few);
-        few-parts = omega (arith, parts-kept i w t side table-passes, heads-unit (unit t), table-passes .few-parts);
+        size = omega (arith, length-kept i w t side passed, small-table t v);
+        few = omega (arith, records-kept i w t side passed, passed .few);
+        few-parts = omega (arith, parts-kept i w t side passed, heads-unit (unit t), passed .few-parts);
       }
 
   -- of the limits only the room is left
   pub room-only : (side i : ℕ) (w : Form) (room : ℕ) → too-large room (rewrite-unit (unit t) side i w) ≡ ltb room (length t)
-  room-only side i w room = only-room (rewrite-unit (unit t) side i w) (good-unit side i w) room ∙ ap (ltb room) (length-kept i w t side table-passes)
+  room-only side i w room = only-room (rewrite-unit (unit t) side i w) (good-unit side i w) room ∙ ap (ltb room) (length-kept i w t side passed)
 
 -- an accepted rewrite keeps rule 7
 seven-kept : (t : List ℕ) (side i : ℕ) (p : Whole) → Asked t side i form-P p → unfit-letter p ≡ false → apart (unit t) side i ≡ false → fault-7 (rewrite-unit (unit t) side i form-P .parts) ≡ none

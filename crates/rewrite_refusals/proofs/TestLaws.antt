@@ -21,7 +21,9 @@ use Rattle.writer.specs.Pieces.{lead}
 use Rattle.result_rules.proofs.GoodLaws.{result-passes}
 use Rattle.rewrite_marks.proofs.LengthLaws.{length-kept}
 use Rattle.rewrite_refusals.specs.Asked.{apart, fails-to-P, Asked, SomeAsked, Fitting, Refused21}
-use Rattle.rewrite_refusals.proofs.ResultLaws.{small, table-passes, good-unit, apart-is}
+use Rattle.places.proofs.Places.{checked-passes}
+use Rattle.xliff.proofs.unit.Result.{small-table}
+use Rattle.rewrite_refusals.proofs.ResultLaws.{good-unit, apart-is}
 
 -- the table rewritten aside
 module _ (t : List ℕ) (side i : ℕ) (p : Whole) (a : Asked t side i form-P p) (u : unfit-letter p ≡ false) (n : ℕ) (out last : List ℕ)
@@ -40,7 +42,7 @@ module _ (t : List ℕ) (side i : ℕ) (p : Whole) (a : Asked t side i form-P p)
   pub aside-passes : Passes (take n last) × (length (take n last) ≤ 8192)
   aside-passes = (
     subst Passes (sym taken) (result-passes (rewrite-unit (unit t) side i form-P) (good-unit t (a .bytes) (a .valid) side i form-P)),
-    omega (arith, ap length taken, length-kept i form-P t side (table-passes t (a .bytes) (a .valid)), small t (a .bytes) (a .valid)),
+    omega (arith, ap length taken, length-kept i form-P t side (checked-passes t (a .bytes) (a .valid)), small-table t (a .valid)),
   )
 
   pub aside-judged : is-fault (fault-7 (unit (take n last) .parts)) ≡ apart (unit t) side i

@@ -19,7 +19,7 @@ use Rattle.places.specs.Passes.{Passes}
 use Rattle.walk.specs.Kept.{Holds}
 use Rattle.part_at.specs.declared.PartPlace.{PartPlace}
 use Rattle.part_at.specs.Stands.{PartStands, TargetStands}
-use Rattle.split_limits.proofs.SizeLaws.{count, count-append, count-cons, unit-count}
+use Rattle.record_count.proofs.CountLaws.{count, count-append, count-cons, unit-count}
 use Rattle.set_result.specs.SetUnit.{set-part, unit-with, size-with}
 use Rattle.set_result.proofs.PieceLaws.{set-long}
 

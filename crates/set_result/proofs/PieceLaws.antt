@@ -11,10 +11,7 @@ use Rattle.xliff.specs.Encode.{record-bytes, head-bytes, content-bytes, target-
 use Rattle.xliff.specs.Parse.{unit}
 use Rattle.xliff.specs.Focus.{here, focus, with-parts}
 use Rattle.xliff.specs.SetTarget.{with-state, new-order, set-focus, set-unit}
-use Rattle.walk.proofs.PlaceLaws.{spell-append}
-use Rattle.halves_of_part.proofs.PartLaws.{part-bytes}
-use Rattle.part_offsets.proofs.OffsetLaws.{bytes-of, bytes-append}
-use Rattle.part_offsets.proofs.TableLaws.{opened, closed, table-pieces}
+use Rattle.xliff.proofs.unit.Pieces.{spell-append, part-bytes, bytes-of, bytes-append, opened, closed, table-pieces}
 use Rattle.part_at.specs.declared.PartPlace.{PartPlace}
 use Rattle.part_at.specs.Stands.{PartStands}
 use Rattle.removed_target.specs.Removed.{to-source}

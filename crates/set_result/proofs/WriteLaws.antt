@@ -10,10 +10,8 @@ use Rattle.xliff.specs.Unit.{Part}
 use Rattle.xliff.specs.Encode.{target-head, record-bytes, content-bytes, encode}
 use Rattle.xliff.specs.Parse.{unit}
 use Rattle.writer.specs.Pieces.{lead, overlay, numberBytes}
-use Rattle.writer.proofs.PieceLaws.{tail-is, two-back, over-lead}
-use Rattle.cut.proofs.LoopLaws.{lead-length}
-use Rattle.cut.proofs.HalfLaws.{tail-room}
-use Rattle.halves_of_part.proofs.PartLaws.{three-back}
+use Rattle.xliff.proofs.lists.Slices.{tail-is, tail-room}
+use Rattle.writer.proofs.PieceLaws.{two-back, over-lead, three-back, lead-length}
 use Rattle.part_at.specs.declared.PartPlace.{PartPlace}
 use Rattle.part_at.specs.Stands.{PartStands}
 use Rattle.removed_target.specs.Removed.{Written, to-source, WroteToSource}

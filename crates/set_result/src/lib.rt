@@ -4,7 +4,7 @@ ghost use Prim.Native.Nat.{_+_, _≤_};
 ghost use lib.ListN.{length};
 ghost use Rattle.cut.specs.Halves.{Some};
 ghost use Rattle.removed_target.specs.Removed.{Written};
-ghost use Rattle.split_limits.specs.Cuts.{Checked};
+ghost use Rattle.part_at.specs.Stands.{Checked};
 ghost use Rattle.set_result.specs.SetUnit.{target-bytes, Room, Wrote};
 ghost use Rattle.set_result.specs.Counts.{RecordsAre, OldRecordsAre, TooLargeIs};
 
@@ -75,7 +75,7 @@ pub fn is_too_large(t: &[u8], place: PartPlace, content: &[u8], room: usize) -> 
         return true;
     }
     let old = old_records(t, place);
-    let records = split_limits::count_records(t) + 1 + count_records(content) - old;
+    let records = record_count::count_records(t) + 1 + count_records(content) - old;
     let bytes = place.target + 4 + content.len() + (t.len() - place.end);
     (room < bytes) | ((8192 < bytes) | (1024 < records))
 }

@@ -23,7 +23,7 @@ use Rattle.walk.specs.Kept.{Holds}
 use Rattle.cut.proofs.ContentLaws.{holds-content}
 use Rattle.part_at.specs.declared.PartPlace.{PartPlace}
 use Rattle.part_at.specs.Stands.{PartStands}
-use Rattle.part_contents.proofs.HoldLaws.{bytes-known}
+use Rattle.table.proofs.WidthLaws.{bytes-known}
 use Rattle.result_rules.proofs.GoodLaws.{GoodUnit}
 use Rattle.set_result.specs.SetUnit.{set-part, unit-with, size-with}
 use Rattle.set_result.proofs.PieceLaws.{set-long}

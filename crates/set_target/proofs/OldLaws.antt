@@ -12,18 +12,18 @@ use mir.Syntax.{w8}
 use Rattle.xliff.specs.Bytes.{'-', 'F', 'I', 'R', 'T', two, among}
 use Rattle.xliff.specs.Item.{Content}
 use Rattle.xliff.specs.Unit.{Head, segment, ignorable, Target, no-target, target, Part}
-use Rattle.xliff.specs.Encode.{head-bytes, content-bytes}
+use Rattle.xliff.specs.Encode.{head-bytes}
 use Rattle.xliff.specs.Check.{table-refusal}
 use Rattle.xliff.specs.SetTarget.{state-fits, old-content}
 use Rattle.xliff.proofs.lists.Tests.{or-none}
 use Rattle.walk.specs.Kept.{Holds}
-use Rattle.parts.specs.Parts.{GoodTarget}
 use Rattle.part_at.specs.declared.PartPlace.{PartPlace}
 use Rattle.part_at.specs.Stands.{PartStands, TargetStands}
-use Rattle.split_limits.proofs.StandLaws.{source-of, source-holds, part-good}
-use Rattle.split_limits.proofs.SizeLaws.{small-table}
+use Rattle.part_contents.proofs.HoldLaws.{source-of, target-there, TargetThere, holds-source}
+use Rattle.xliff.proofs.unit.Result.{small-table}
 use Rattle.removed_target.proofs.RemovedLaws.{in-order, head-long}
 use Rattle.set_target.specs.Stages.{old-from, old-to}
+use Rattle.table.proofs.WidthLaws.{bytes-known}
 
 pub record OldThere (t : List ℕ) (from to : ℕ) (xs : Content) : Type 0 where
   pub ordered : from ≤ to
@@ -31,17 +31,17 @@ pub record OldThere (t : List ℕ) (from to : ℕ) (xs : Content) : Type 0 where
   pub holds : Holds (take (to - from) (drop from t)) xs
 
 old-by : (t : List ℕ) (place : PartPlace) (b : List Part) (p : Part) (a : List Part) → PartStands t b p a place → Holds (source-of t place) (p .source)
-    → (g : Target) → TargetStands t place g → GoodTarget g → OldThere t (old-from place) (old-to place) (old-content (p .source) g)
-unfolding old-content content-bytes
+    → (g : Target) → TargetStands t place g → (place .«has_target» ≡ true → TargetThere t place g) → OldThere t (old-from place) (old-to place) (old-content (p .source) g)
+unfolding old-content target-items
 old-by t place b p a s o no-target (f, k, e) u = rw f (record { ordered = s .source .ordered; within = s .source .within; holds = o })
-old-by t place b p a s o (target q xs) (f, k, hs, ts) (l, m) = rw f (record { ordered = ts .ordered; within = ts .within; holds = (l, sym (ts .is)) })
+old-by t place b p a s o (target q xs) (f, k, hs, ts) u = rw f (record { ordered = u f .ordered; within = u f .within; holds = u f .holds })
 
 module _ (t : List ℕ) (h : (i : ℕ) → Fits w8 (getD t i 0)) (w : table-refusal t ≡ none) (place : PartPlace) (b : List Part) (p : Part) (a : List Part) (s : PartStands t b p a place) where
   pub target-small : place .target ≤ 8192
-  target-small = let z = in-order t b p a place s in omega (arith, small-table t h w)
+  target-small = let z = in-order t b p a place s in omega (arith, small-table t w)
 
   pub old-there : (from to : ℕ) → from ≡ old-from place → to ≡ old-to place → OldThere t from to (old-content (p .source) (p .target))
-  old-there from to x y = rw (x, y) (old-by t place b p a s (source-holds t place h w b p a s) (p .target) (s .target) (part-good t place h w b p a s .1))
+  old-there from to x y = rw (x, y) (old-by t place b p a s (holds-source t (bytes-known t h) b p a place s) (p .target) (s .target) (target-there t (bytes-known t h) b p a place s))
 
 -- the state by the length of the head
 module _ (st : ℕ) where

@@ -13,8 +13,7 @@ ghost use Rattle.xliff.specs.Focus.{focus};
 ghost use Rattle.xliff.specs.SetTarget.{set-target};
 ghost use Rattle.answers.specs.Answers.{answer-meaning};
 ghost use Rattle.outcomes.specs.Outcomes.{Answers};
-ghost use Rattle.part_at.specs.Stands.{PartFound};
-ghost use Rattle.split_limits.specs.Added.{Placed};
+ghost use Rattle.part_at.specs.Stands.{PartFound, Placed};
 ghost use Rattle.set_target.specs.Ending.{SetAt, Ended};
 ghost use Rattle.set_target.specs.Stages.{old-from, old-to, StateFits, Fitting};
 

@@ -1,7 +1,7 @@
 -- The four tests of rule 10 of one item, and of the first items.
 use Prim.Native.Nat.{ℕ, zero, suc, _/_, _≤_, _<_}
 use mathlib.Core.Path.{_≡_, refl, sym, _∙_, ap}
-use mathlib.Core.Bool.{Bool, true, false, _||_, cond}
+use mathlib.Core.Bool.{Bool, true, false, _||_}
 use mathlib.Core.List.{List, [], _∷_}
 use native.Mathlib.Omega.{arith}
 use lib.ListN.{length, take, getD}
@@ -11,6 +11,7 @@ use Rattle.xliff.specs.Item as spec
 use Rattle.xliff.specs.Item.{id-of}
 use Rattle.xliff.proofs.lists.Tests.{or-none}
 use Rattle.id_links.specs.Nearest.{previous}
+use Rattle.id_links.proofs.Chains.{any-past}
 use Rattle.places.specs.Markers.{item-at}
 use Rattle.views.specs.Views.{viewOf, itemsAt}
 use Rattle.views.specs.declared.View.{View}
@@ -74,13 +75,11 @@ module _ (p : spec.Item → Bool) (t : List ℕ) where
   items-last (o ∷ os) zero h = refl
   items-last (o ∷ os) (suc i) h = ap (λ (b : Bool). p (item-at t o) || b) (items-last os i (omega arith)) ∙ or-swap (p (item-at t o)) (p (item-at t (getD os i 0))) (any p (itemsAt t (take i os)))
 
+  any-at : (os : List ℕ) → any p (itemsAt t os) ≡ any (λ (o : ℕ). p (item-at t o)) os
+  unfolding any itemsAt
+  any-at [] = refl
+  any-at (o ∷ os) = ap (λ (b : Bool). p (item-at t o) || b) (any-at os)
+
   pub items-past : (os : List ℕ) (q : ℕ → Bool) → ((k : ℕ) → k < length os → q k ≡ false → p (item-at t (getD os k 0)) ≡ false)
       → (i : ℕ) → i ≤ length os → any p (itemsAt t (take i os)) ≡ any p (itemsAt t (take (previous q i) os))
-  unfolding previous
-  items-past os q wider zero h = refl
-  items-past os q wider (suc i) h = by (q i) refl (items-past os q wider i (omega arith))
-    where
-      by : (b : Bool) → q i ≡ b → any p (itemsAt t (take i os)) ≡ any p (itemsAt t (take (previous q i) os))
-          → any p (itemsAt t (take (suc i) os)) ≡ any p (itemsAt t (take (cond b (suc i) (previous q i)) os))
-      by true e ih = refl
-      by false e ih = items-last os i (omega arith) ∙ ap (λ (b : Bool). b || any p (itemsAt t (take i os))) (wider i (omega arith) e) ∙ ih
+  items-past os q wider i h = any-at (take i os) ∙ any-past (λ (o : ℕ). p (item-at t o)) q os wider i h ∙ sym (any-at (take (previous q i) os))

@@ -10,8 +10,7 @@ ghost use Rattle.xliff.specs.Focus.{focus};
 ghost use Rattle.xliff.specs.Parse.{unit};
 ghost use Rattle.xliff.specs.Split.{split};
 ghost use Rattle.answers.specs.Answers.{answer-meaning};
-ghost use Rattle.part_at.specs.Stands.{PartFound};
-ghost use Rattle.split_limits.specs.Added.{Placed};
+ghost use Rattle.part_at.specs.Stands.{PartFound, Placed};
 ghost use Rattle.outcomes.specs.Outcomes.{Answers};
 
 // 12, 13, 14, 15, then the bytes: every refusal is decided before the first store.

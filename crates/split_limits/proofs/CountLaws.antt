@@ -15,7 +15,8 @@ use Rattle.walk.specs.Kept.{Kept, kept-item, kept-text, Of, Holds, items, an-it
 use Rattle.walk.specs.Place.{Inside, over, between, within, Parted}
 use Rattle.walk.specs.declared.Place.{Place}
 use Rattle.walk.proofs.WalkLaws.{inline-least}
-use Rattle.walk.proofs.PlaceLaws.{kept-items, kept-back, spell-append}
+use Rattle.xliff.proofs.unit.Pieces.{spell-append}
+use Rattle.walk.proofs.PlaceLaws.{kept-items, kept-back}
 use Rattle.cut.proofs.HalfLaws.{items-of}
 
 -- what a place says of the number of items

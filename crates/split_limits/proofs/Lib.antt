@@ -1,4 +1,4 @@
 pub mod CountLaws
-pub mod StandLaws
+pub mod CutLaws
 pub mod AddedLaws
 pub mod SizeLaws

@@ -3,53 +3,34 @@ use Prim.Native.Nat.{ℕ, suc, _+_, _-_, _*_, _≤_}
 use mathlib.Core.Path.{_≡_, refl, sym, ap, _∙_, subst}
 use mathlib.Core.Bool.{true, _||_}
 use mathlib.Core.List.{List, [], _∷_, _++_}
-use mathlib.Core.Option.{none}
 use native.Mathlib.Omega.{arith}
 use lib.ListN.{length, getD, length-append}
 use lib.Dec.{ltb}
-use borrow.Author.Tests.{ltb-false}
 use mir.Val.{Fits}
 use mir.Syntax.{w8}
 use Rattle.xliff.specs.Bytes.{gather}
 use Rattle.xliff.specs.Unit.{Target, no-target, target, Part, XliffUnit}
-use Rattle.xliff.specs.Encode.{Record, closing, head-bytes, spell, content-records, target-records, part-records, unit-records, encode}
-use Rattle.xliff.specs.Parse.{unit, most-bytes}
-use Rattle.xliff.specs.Check.{table-refusal, too-large}
+use Rattle.xliff.specs.Encode.{head-bytes, spell, content-records, target-records, part-records, unit-records, encode}
+use Rattle.xliff.specs.Parse.{unit}
+use Rattle.xliff.specs.Check.{too-large}
 use Rattle.xliff.specs.Focus.{here, focus, order-target, order-part, order-parts, with-parts}
 use Rattle.xliff.specs.Split.{first-half, second-half, split-order, split-focus, split-unit}
-use Rattle.xliff.proofs.lists.Tests.{gather-append}
-use Rattle.xliff.proofs.lists.Each.{Each, each-cons, each-left, each-right}
-use Rattle.xliff.proofs.unit.Result.{then-left, then-right, applies-none}
-use Rattle.places.specs.Passes.{Passes}
-use Rattle.places.proofs.Places.{passes}
-use Rattle.walk.proofs.PlaceLaws.{spell-append}
-use Rattle.cut.proofs.HalfLaws.{slice-long}
-use Rattle.parts.specs.Parts.{GoodPart, moved, ordered}
+use Rattle.xliff.proofs.lists.Each.{Each, each-apart}
+use Rattle.xliff.proofs.unit.Pieces.{spell-append, bytes-of, bytes-append}
+use Rattle.xliff.proofs.lists.Slices.{slice-long}
+use Rattle.parts.specs.Parts.{GoodPart, moved, ordered, TableOf}
 use Rattle.parts.proofs.OrderLaws.{ordered-length}
 use Rattle.part_split.specs.Whole.{order-or}
-use Rattle.part_offsets.specs.Table.{TableOf}
-use Rattle.part_offsets.proofs.OffsetLaws.{bytes-of}
-use Rattle.part_offsets.proofs.TableLaws.{table-long}
+use Rattle.parts.proofs.TableLaws.{table-long}
 use Rattle.halves_of_part.specs.Parts.{halves}
 use Rattle.split_result.proofs.ResultLaws.{pieces-long}
 use Rattle.split_result.proofs.UnitLaws.{result-long}
 use Rattle.part_at.specs.declared.PartPlace.{PartPlace}
-use Rattle.part_at.specs.Stands.{PartStands}
-use Rattle.split_limits.specs.Cuts.{Checked}
-use Rattle.split_limits.specs.Added.{PartAdded, AddedIs, Placed}
-use Rattle.part_contents.proofs.HoldLaws.{bytes-known}
-use Rattle.split_limits.proofs.StandLaws.{the-table}
-
--- the records of parts
-abbrev pub count : List Part → ℕ
-count ps = length (gather part-records ps)
-
-pub count-append : (ps qs : List Part) → count (ps ++ qs) ≡ count ps + count qs
-count-append ps qs = ap (λ (l : List Record). length l) (gather-append part-records ps qs) ∙ length-append (gather part-records ps) (gather part-records qs)
-
-pub count-cons : (p : Part) (ps : List Part) → count (p ∷ ps) ≡ length (part-records p) + count ps
-unfolding gather
-count-cons p ps = length-append (part-records p) (gather part-records ps)
+use Rattle.part_at.specs.Stands.{PartStands, Placed}
+use Rattle.split_limits.specs.Added.{PartAdded, AddedIs}
+use Rattle.table.proofs.WidthLaws.{bytes-known}
+use Rattle.parts.proofs.CheckLaws.{table-of}
+use Rattle.record_count.proofs.CountLaws.{count, count-append, count-cons, unit-count}
 
 -- new orders keep their number
 target-same : (f : ℕ → ℕ) (g : Target) → length (target-records (order-target f g)) ≡ length (target-records g)
@@ -77,21 +58,9 @@ unfolding order-parts
 parts-length f [] = refl
 parts-length f (p ∷ ps) = ap suc (parts-length f ps)
 
-pub unit-count : (u : XliffUnit) → length (unit-records u) ≡ 2 + count (u .parts)
-unfolding unit-records
-unit-count u = omega (arith, length-append (gather part-records (u .parts)) (closing ∷ []))
-
-bytes-append : (ps qs : List Part) → length (bytes-of (ps ++ qs)) ≡ length (bytes-of ps) + length (bytes-of qs)
-bytes-append ps qs =
-    ap (λ (l : List Record). length (spell l)) (gather-append part-records ps qs) ∙ ap length (spell-append (gather part-records ps) (gather part-records qs))
-    ∙ length-append (bytes-of ps) (bytes-of qs)
-
 bytes-cons : (p : Part) (ps : List Part) → length (bytes-of (p ∷ ps)) ≡ length (spell (part-records p)) + length (bytes-of ps)
 unfolding gather
 bytes-cons p ps = ap length (spell-append (part-records p) (gather part-records ps)) ∙ length-append (spell (part-records p)) (bytes-of ps)
-
-others-good : (p : Part) (a : List Part) → Each GoodPart (p ∷ a) → Each GoodPart a
-others-good p a (each-cons g h) = h
 
 module _ (u : XliffUnit) (n k j id : ℕ) (b : List Part) (p : Part) (a : List Part) (e : focus (u .parts) n ≡ here b p a) (all : u .parts ≡ b ++ (p ∷ a)) where
   abbrev f : ℕ → ℕ
@@ -137,8 +106,7 @@ module _ (u : XliffUnit) (n k j id : ℕ) (b : List Part) (p : Part) (a : List P
       bytes-grown : length (encode (split-unit u n k j id)) ≡ length t + length (head-bytes (p .head)) + 4 * m
       bytes-grown =
           let g : Each GoodPart (b ++ (p ∷ a)) = subst (Each GoodPart) all (o .1) in
-          let gb : Each GoodPart b = each-left b (p ∷ a) g in
-          let ga : Each GoodPart a = others-good p a (each-right b (p ∷ a) g) in
+          let (gb, gp, ga) = each-apart b p a g in
           let q : ℕ = order-or (p .target) in
           let z : length (bytes-of (u .parts)) ≡ length (bytes-of (b ++ (p ∷ a))) = ap (λ (l : List Part). length (bytes-of l)) all in
           let w : length (halves k j id p) ≡ length (spell (part-records p)) + length (head-bytes (p .head)) + 4 * m = h .bytes id in
@@ -147,26 +115,14 @@ module _ (u : XliffUnit) (n k j id : ℕ) (b : List Part) (p : Part) (a : List P
             z,
             w,
             table-long t u o,
-            bytes-append b (p ∷ a),
+            ap length (bytes-append b (p ∷ a)),
+            length-append (bytes-of b) (bytes-of (p ∷ a)),
             bytes-cons p a,
             result-long u n k j id (record { before = b; part = p; behind = a; is = e }),
             pieces-long k j id b p a gb ga q refl,
             ordered-length (moved true q) (bytes-of b) b (refl, gb),
             ordered-length (moved true q) (bytes-of a) a (refl, ga),
           )
-
--- what the check says of the table
-module _ (t : List ℕ) (h : (i : ℕ) → Fits w8 (getD t i 0)) (v : table-refusal t ≡ none) where
-  pub small-table : length t ≤ 8192
-  unfolding table-refusal
-  small-table = ltb-false most-bytes (length t) (applies-none 1 (ltb most-bytes (length t)) (then-left _ _ v))
-
-  pub table-passes : Passes t
-  unfolding table-refusal
-  table-passes = passes t (bytes-known t h) (then-left _ _ (then-right _ _ v))
-
-pub placed-checked : (t : List ℕ) (n : ℕ) (place : PartPlace) → Placed t n place → Checked t place
-placed-checked t n place (v, st) = let (b, p, a, e, s) = st in (v, (b, p, a, s))
 
 head-long : (t : List ℕ) (place : PartPlace) (b : List Part) (p : Part) (a : List Part) → PartStands t b p a place → place .source - place .head ≡ length (head-bytes (p .head))
 head-long t place b p a s = sym (slice-long t (place .head) (place .source) (s .head .ordered) (s .head .within)) ∙ ap length (s .head .is)
@@ -188,6 +144,6 @@ module _ (t : List ℕ) (h : (i : ℕ) → Fits w8 (getD t i 0)) (n : ℕ) (plac
       let (v, st) = pl in
       let (b, p, a, e, s) = st in
       too-large-is room (length t + (place .source - place .head) + 4 * m) (records + 1 + m) (parts + 1) (split-unit (unit t) n k j id)
-      (ap (λ (z : ℕ). length t + z + 4 * m) (head-long t place b p a s) ∙ sym (bytes-grown (unit t) n k j id b p a e (s .all) m (ad b p a s) t (the-table t place h v)))
+      (ap (λ (z : ℕ). length t + z + 4 * m) (head-long t place b p a s) ∙ sym (bytes-grown (unit t) n k j id b p a e (s .all) m (ad b p a s) t (table-of t (bytes-known t h) v)))
       (ap (λ (z : ℕ). z + 1 + m) x ∙ sym (records-grown (unit t) n k j id b p a e (s .all) m (ad b p a s)))
       (ap (λ (z : ℕ). z + 1) y ∙ sym (parts-grown (unit t) n k j id b p a e (s .all)))

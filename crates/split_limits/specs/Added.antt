@@ -2,14 +2,10 @@
 use Prim.Native.Nat.{ℕ, _+_, _*_, _≤_}
 use mathlib.Core.Path.{_≡_}
 use mathlib.Core.List.{List}
-use mathlib.Core.Option.{none}
 use lib.ListN.{length}
 use Rattle.xliff.specs.Item.{Content}
 use Rattle.xliff.specs.Unit.{Target, Part}
 use Rattle.xliff.specs.Encode.{Record, spell, head-bytes, content-records, target-records, part-records}
-use Rattle.xliff.specs.Parse.{unit}
-use Rattle.xliff.specs.Focus.{here, focus}
-use Rattle.xliff.specs.Check.{table-refusal}
 use Rattle.xliff.specs.Split.{first-items, second-items, first-target, second-target, first-half, second-half}
 use Rattle.walk.specs.Kept.{Holds}
 use Rattle.halves_of_part.specs.Parts.{halves}
@@ -47,7 +43,3 @@ TargetAddedIs t place k n = (b : List Part) (p : Part) (a : List Part) → PartS
 abbrev pub AddedIs : List ℕ → PartPlace → ℕ → ℕ → ℕ → Type 0
 AddedIs t place k j n = (b : List Part) (p : Part) (a : List Part) → PartStands t b p a place → PartAdded k j p n
 
--- the check passes the table, and at the place stands part number n
-abbrev pub Placed : List ℕ → ℕ → PartPlace → Type 0
-Placed t n place =
-    (table-refusal t ≡ none) × ((b : List Part) × (p : Part) × (a : List Part) × (focus (unit t .parts) n ≡ here b p a) × PartStands t b p a place)

@@ -1,23 +1,16 @@
--- A part of a table that passes the check, and whether it can be cut.
+-- Whether a part of a table can be cut.
 use Prim.Native.Nat.{ℕ}
 use mathlib.Core.Path.{_≡_}
 use mathlib.Core.Bool.{Bool}
 use mathlib.Core.List.{List}
-use mathlib.Core.Option.{none}
 use lib.ListN.{length}
 use lib.Dec.{leb, ltb}
 use Rattle.xliff.specs.Item.{Content}
 use Rattle.xliff.specs.Unit.{Part, target-items}
-use Rattle.xliff.specs.Check.{table-refusal}
 use Rattle.xliff.specs.Split.{bad-cut}
 use Rattle.walk.specs.Kept.{Holds}
 use Rattle.part_at.specs.declared.PartPlace.{PartPlace}
 use Rattle.part_at.specs.Stands.{PartStands}
-use Rattle.part_at.specs.Stands.{Standing}
-
--- the check passes the table, and at the place stands a part
-abbrev pub Checked : List ℕ → PartPlace → Type 0
-Checked t place = (table-refusal t ≡ none) × Standing t place
 
 -- the answers for bytes c, whatever content they are of
 abbrev pub MoreIs : List ℕ → ℕ → Bool → Type 0

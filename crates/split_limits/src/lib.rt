@@ -9,8 +9,9 @@ ghost use Rattle.xliff.specs.Check.{too-large};
 ghost use Rattle.xliff.specs.Split.{split-unit};
 ghost use Rattle.places.specs.Passes.{Passes};
 ghost use Rattle.cut.specs.Halves.{Some};
-ghost use Rattle.split_limits.specs.Cuts.{Checked, MoreIs, EnoughIs, SourceShort, TargetShort, BadCutIs};
-ghost use Rattle.split_limits.specs.Added.{AddedIn, SourceAddedIs, TargetAddedIs, AddedIs, Placed};
+ghost use Rattle.part_at.specs.Stands.{Checked, Placed};
+ghost use Rattle.split_limits.specs.Cuts.{MoreIs, EnoughIs, SourceShort, TargetShort, BadCutIs};
+ghost use Rattle.split_limits.specs.Added.{AddedIn, SourceAddedIs, TargetAddedIs, AddedIs};
 
 // Whether a content has more than `k` items.
 fn has_more(c: &[u8], k: usize) -> bool
@@ -108,20 +109,6 @@ fn added(t: &[u8], place: PartPlace, cut: usize, tcut: usize) -> usize
     source + target
 }
 
-// The number of records.
-pub fn count_records(t: &[u8]) -> usize
-    requires { ⌜ Passes (now t) ⌝ }
-    ensures { λ r. ⌜ r ≡ length (unit-records (unit (now (t .entry)))) ⌝ }
-{
-    let mut at = 0;
-    let mut n = 0;
-    while at < t.len() {
-        at = walker::after(t, at);
-        n += 1;
-    }
-    n
-}
-
 // 15: whether the result of a split of part `n` is longer than the output or beyond a limit.
 pub fn is_too_large(
     t: &[u8],
@@ -136,7 +123,7 @@ pub fn is_too_large(
     ensures { λ r. ⌜ r ≡ too-large room (split-unit (unit (now (t .entry))) n cut tcut id) ⌝ }
 {
     let more = added(t, place, cut, tcut);
-    let records = count_records(t) + 1 + more;
+    let records = record_count::count_records(t) + 1 + more;
     let parts = orders::count_parts(t) + 1;
     let bytes = t.len() + (place.source - place.head) + 4 * more;
     (room < bytes) | ((8192 < bytes) | ((1024 < records) | (64 < parts)))

@@ -10,7 +10,7 @@ use Rattle.xliff.specs.Unit.{Part}
 use Rattle.xliff.specs.Encode.{part-records, spell}
 use Rattle.xliff.proofs.lists.Each.{each-apart}
 use Rattle.part_offsets.specs.Offsets.{OffsetOf}
-use Rattle.part_offsets.proofs.OffsetLaws.{bytes-of, bytes-append}
+use Rattle.xliff.proofs.unit.Pieces.{bytes-of, bytes-append}
 use Rattle.split_result.specs.Result.{Nth, Between}
 
 module _ (s : List ℕ) (n : ℕ) (b : List Part) (p : Part) (a : List Part) (h : Nth s n b p a) (x y : ℕ) (ex : OffsetOf s (n - 1) x) (ey : OffsetOf s n y) where

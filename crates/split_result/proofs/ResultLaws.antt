@@ -13,8 +13,8 @@ use Rattle.xliff.specs.Focus.{order-target, order-part, order-parts}
 use Rattle.xliff.specs.Split.{raise-above, split-order, first-half, second-half}
 use Rattle.xliff.proofs.lists.Tests.{gather-append}
 use Rattle.xliff.proofs.lists.Each.{Each, each-nil, each-cons}
-use Rattle.walk.proofs.PlaceLaws.{spell-append}
-use Rattle.writer.proofs.PieceLaws.{tail-is}
+use Rattle.xliff.proofs.unit.Pieces.{spell-append}
+use Rattle.xliff.proofs.lists.Slices.{tail-is}
 use Rattle.parts.specs.Parts.{GoodTarget, GoodPart, PartsIn, moved, ordered}
 use Rattle.part_split.specs.Whole.{order-or}
 use Rattle.halves_of_part.specs.Parts.{halves}

@@ -9,12 +9,11 @@ use Rattle.xliff.specs.Encode.{record-bytes, encode}
 use Rattle.xliff.specs.Focus.{with-parts}
 use Rattle.xliff.specs.Split.{split-focus, split-unit}
 use Rattle.xliff.proofs.operations.Sources.{focus-here, focus-at}
-use Rattle.writer.proofs.PieceLaws.{tail-is}
-use Rattle.parts.specs.Parts.{PartsIn}
-use Rattle.part_offsets.proofs.OffsetLaws.{bytes-of}
-use Rattle.part_offsets.specs.Table.{TableOf, Has}
-use Rattle.part_offsets.proofs.TableLaws.{opened, closed, table-pieces, table-opened, table-parts, table-closed}
-use Rattle.split_result.specs.Result.{split-parts, Nth}
+use Rattle.xliff.proofs.lists.Slices.{tail-is}
+use Rattle.parts.specs.Parts.{PartsIn, TableOf}
+use Rattle.xliff.proofs.unit.Pieces.{bytes-of, opened, closed, table-pieces}
+use Rattle.parts.proofs.TableLaws.{table-opened, table-parts, table-closed}
+use Rattle.split_result.specs.Result.{split-parts, Nth, Has}
 
 -- part number n of the table
 pub table-nth : (t : List ℕ) (u : XliffUnit) → TableOf t u → (e : ℕ) → e ≡ length t - 2 → (n : ℕ) (w : Has u n) → Nth (take (e - 3) (drop 3 t)) n (w .before) (w .part) (w .behind)

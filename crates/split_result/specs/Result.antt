@@ -6,11 +6,10 @@ use lib.ListN.{length, take, drop}
 use Rattle.xliff.specs.Bytes.{gather}
 use Rattle.xliff.specs.Unit.{Part, XliffUnit}
 use Rattle.xliff.specs.Encode.{part-records, spell, encode}
-use Rattle.xliff.specs.Focus.{order-parts}
+use Rattle.xliff.specs.Focus.{here, focus, order-parts}
 use Rattle.xliff.specs.Split.{split-order, first-half, second-half, split-unit}
 use Rattle.writer.specs.Pieces.{lead}
-use Rattle.parts.specs.Parts.{PartsIn}
-use Rattle.part_offsets.specs.Table.{TableOf, Has}
+use Rattle.parts.specs.Parts.{PartsIn, TableOf}
 use Rattle.part_split.specs.Whole.{Whole}
 
 -- the parts b, p, a with p split, as `split-focus` has them
@@ -40,7 +39,14 @@ abbrev pub WroteNth : ℕ → ℕ → ℕ → List ℕ → ℕ → List ℕ → 
 WroteNth k j id s n o m l =
     (b : List Part) (p : Part) (a : List Part) → Nth s n b p a → (m ≡ length (split-parts k j id b p a)) × (l ≡ lead (split-parts k j id b p a) o)
 
--- the table of a unit that has a part number n
+-- a unit has a part number n
+pub record Has (u : XliffUnit) (n : ℕ) : Type 0 where
+  pub before : List Part
+  pub part : Part
+  pub behind : List Part
+  pub is : focus (u .parts) n ≡ here before part behind
+
+-- the table of such a unit
 abbrev pub Room : ℕ → ℕ → ℕ → ℕ → List ℕ → List ℕ → Type 0
 Room n k j id t o = (u : XliffUnit) × TableOf t u × Has u n × (length (encode (split-unit u n k j id)) ≤ length o)
 

@@ -13,7 +13,7 @@ use Rattle.xliff.specs.Text.{utf8s}
 use Rattle.xliff.specs.Item.{Item, Content, start, end, form-P, form-S, text, character, standalone, isolated, pair, annotation-start, annotation-end, mark}
 use Rattle.xliff.specs.Encode.{Record, text-run, inline, record-bytes, spell}
 use Rattle.xliff.specs.Parse.{reading, take-record}
-use Rattle.xliff.proofs.lists.Tests.{two-value, gather-append}
+use Rattle.xliff.proofs.lists.Tests.{two-value}
 use Rattle.xliff.proofs.text.Utf8.{Allowed}
 use Rattle.xliff.proofs.records.Read.{GoodItem}
 use Rattle.walk.specs.Kept.{Kept, kept-end, kept-item, kept-text, Of, items, Inline, an-item, a-text}
@@ -23,6 +23,7 @@ use Rattle.walk.specs.declared.Passed.{Passed}
 use Rattle.walk.specs.declared.Pass.the-variants.{Stop, On}
 use Rattle.walk.proofs.WalkLaws.{Rest, Next, rest-start, rest-end, inline-least}
 use Rattle.walk.proofs.TextLaws.{utf8s-append, no-bytes}
+use Rattle.xliff.proofs.unit.Pieces.{spell-append}
 
 -- only a text has the mark of one
 not-marked : (x : Item) (s : List ℕ) → GoodItem x → marked (record-bytes (inline x) ++ s) 84 88 ≡ false
@@ -81,10 +82,6 @@ kept-items b [] qs k = refl
 kept-items b (inline x ∷ rs) qs (kept-item g k) = ap {B = Content} (λ l. x ∷ l) (kept-items false rs qs k)
 kept-items b (text-run cs ∷ rs) qs (kept-text a l k) =
     ap (λ (l : Content). map text cs ++ l) (kept-items true rs qs k) ∙ sym (append-assoc (map text cs) (items rs) (items qs))
-
-pub spell-append : (rs qs : List Record) → spell (rs ++ qs) ≡ spell rs ++ spell qs
-unfolding spell
-spell-append rs qs = gather-append record-bytes rs qs
 
 -- at the offset at of c, with left of k items to pass over
 pub record Along (c : List ℕ) (k : ℕ) (rs : List Record) (at left : ℕ) : Type 0 where

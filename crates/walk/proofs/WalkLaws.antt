@@ -4,8 +4,8 @@ use mathlib.Core.Path.{_≡_, refl, sym, ap, ap₂, _∙_}
 use mathlib.Core.Bool.{Bool, true, false, _&&_, _||_}
 use mathlib.Core.List.{List, [], _∷_, _++_, map}
 use native.Mathlib.Omega.{arith}
-use lib.ListN.{length, take, drop, length-append, length-drop}
-use lib.Seq.{drop-append-seam, drop-drop, take-all}
+use lib.ListN.{length, drop, length-append, length-drop}
+use lib.Seq.{drop-append-seam, drop-drop}
 use lib.Dec.{eqb}
 use Rattle.xliff.specs.Bytes.{two, four, gather, any}
 use Rattle.xliff.specs.Text.{utf8s}
@@ -16,10 +16,6 @@ use Rattle.xliff.proofs.lists.Tests.{two-value}
 use Rattle.xliff.proofs.records.Read.{GoodItem}
 use Rattle.walk.specs.Kept.{Kept, kept-item, kept-text, Of, items, Inline, an-item, a-text}
 use Rattle.walk.specs.Marks.{number, widthAt, kindAt, kind, opposite, is-other, has-other}
-
--- `&s[n..]` is the rest
-pub tail-is : (n : ℕ) (s : List ℕ) → take (length s - n) (drop n s) ≡ drop n s
-tail-is n s = take-all (length s - n) (drop n s) (omega (arith, length-drop n s))
 
 and-false : (a : Bool) → a && false ≡ false
 and-false true = refl

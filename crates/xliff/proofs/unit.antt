@@ -1,4 +1,5 @@
 -- What a valid table is, and the result of an accepted call.
+pub mod Pieces
 pub mod Table
 pub mod Valid
 pub mod Result

@@ -3,9 +3,7 @@ use mathlib.Core.Path.{_∙_, ap, ap₂}
 use mathlib.Core.Bool.{cond}
 use Prim.Native.Nat.{ℕ}
 use lib.Dec.{eqb}
-use Rattle.text.proofs.Laws.{tail-is}
 use Rattle.keys.specs.Keys.{keyOf}
-use Rattle.contents.specs.Heads.{headOf}
 use Rattle.contents.proofs.BarLaws.{bar-key-read, bar-key-out}
 use borrow.Author.Needs.{needs}
 use Rattle.contents.proofs.bar_key.Statement.{statement}

@@ -2,7 +2,6 @@ use mathlib.Core.Path.{_∙_, sym}
 use Prim.Native.Nat.{_-_}
 use native.Mathlib.Omega.{arith}
 use lib.ListN.{length}
-use Rattle.text.proofs.Laws.{tail-is}
 use Rattle.contents.proofs.WalkLaws.{Walk, walk-start, walk-fits, walk-room, walk-on, walk-end}
 use borrow.Author.Needs.{needs}
 use Rattle.contents.proofs.contents.Statement.{statement}

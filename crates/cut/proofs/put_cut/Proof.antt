@@ -1,6 +1,7 @@
 use Rattle.walk.specs.Kept.{Of, items}
 use Rattle.xliff.specs.Encode.{Record}
-use Rattle.walk.proofs.WalkLaws.{next, tail-is}
+use Rattle.xliff.proofs.lists.Slices.{tail-is}
+use Rattle.walk.proofs.WalkLaws.{next}
 use Rattle.cut.proofs.LoopLaws.{Written, written-start, written-on, written-end, written-length, next-slice}
 use mathlib.Core.List.{List}
 use mathlib.Core.Path.{_≡_, refl, ap}

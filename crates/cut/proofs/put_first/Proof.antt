@@ -1,6 +1,7 @@
-use Rattle.cut.proofs.HalfLaws.{sides, front-size, first-size-0, first-size-1, first-least, as-slice, tail-room, slice-size}
-use Rattle.cut.proofs.HalfLaws.{sides, front-size, first-size-0, first-size-1, first-least, as-slice, tail-room, slice-size}
-use Rattle.cut.proofs.HalfLaws.{sides, front-size, first-size-0, first-size-1, first-least, as-slice, tail-room, slice-size}
+use Rattle.xliff.proofs.lists.Slices.{tail-room, slice-size, tail-room, slice-size, tail-room, slice-size}
+use Rattle.cut.proofs.HalfLaws.{sides, front-size, first-size-0, first-size-1, first-least, as-slice}
+use Rattle.cut.proofs.HalfLaws.{sides, front-size, first-size-0, first-size-1, first-least, as-slice}
+use Rattle.cut.proofs.HalfLaws.{sides, front-size, first-size-0, first-size-1, first-least, as-slice}
 use Rattle.walk.specs.Kept.{items}
 use Rattle.cut.specs.Turned.{cut-records, textPiece}
 use Rattle.writer.proofs.PieceLaws.{two-back}

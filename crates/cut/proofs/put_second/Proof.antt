@@ -1,7 +1,7 @@
-use Rattle.cut.proofs.HalfLaws.{sides, second-size-0, as-slice, second-size, tail-room, slice-long, rest-at, second-sum, second-wrote}
+use Rattle.cut.proofs.HalfLaws.{sides, second-size-0, as-slice, second-size, rest-at, second-sum, second-wrote}
 use Rattle.xliff.specs.Encode.{content-records}
-use Rattle.walk.proofs.WalkLaws.{tail-is}
-use Rattle.cut.proofs.HalfLaws.{sides, second-size-0, as-slice, second-size, tail-room, slice-long, rest-at}
+use Rattle.xliff.proofs.lists.Slices.{tail-is, tail-room, slice-long, tail-room, slice-long}
+use Rattle.cut.proofs.HalfLaws.{sides, second-size-0, as-slice, second-size, rest-at}
 use Rattle.writer.specs.Pieces.{lead}
 use mathlib.Core.List.{List}
 use mathlib.Core.Path.{sym, _∙_, ap}

@@ -1,6 +1,7 @@
 use Rattle.fixed_codes.proofs.ListLaws.{Compared, compared-start, compared-on, compared-off, compared-short, compared-end, behind-old, behind-new, long-enough}
 use Rattle.cut.proofs.HalfLaws.{items-of}
-use Rattle.walk.proofs.WalkLaws.{tail-is, rest-start}
+use Rattle.xliff.proofs.lists.Slices.{tail-is}
+use Rattle.walk.proofs.WalkLaws.{rest-start}
 use Rattle.walk.specs.Kept.{Holds}
 use Rattle.xliff.proofs.lists.Tests.{not-true, not-false}
 use Rattle.xliff.specs.SetTarget.{fixed-list}

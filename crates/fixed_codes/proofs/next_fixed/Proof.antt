@@ -1,5 +1,6 @@
 use Rattle.fixed_codes.proofs.FixedLaws.{fixed-off, found-here, found-nowhere}
-use Rattle.walk.proofs.WalkLaws.{tail-is, Rest, next}
+use Rattle.xliff.proofs.lists.Slices.{tail-is}
+use Rattle.walk.proofs.WalkLaws.{Rest, next}
 use Rattle.walk.specs.Kept.{items}
 use Rattle.xliff.specs.SetTarget.{fixed-list}
 use Rattle.xliff.specs.Encode.{Record, spell}

@@ -1,5 +1,5 @@
 use native.Mathlib.Omega.{arith}
-use Rattle.text.proofs.Laws.{tail-is}
+use Rattle.xliff.proofs.lists.Slices.{tail-is}
 use Rattle.glance.proofs.GlanceLaws.{nothing-glanced}
 use borrow.Author.Needs.{needs}
 use Rattle.glance.proofs.glance_at.Statement.{statement}

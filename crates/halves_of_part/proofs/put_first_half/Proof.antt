@@ -1,6 +1,7 @@
-use Rattle.halves_of_part.proofs.PartLaws.{first-bytes, first-long, three-back, three-room}
-use Rattle.halves_of_part.proofs.PartLaws.{first-bytes, first-long, three-back}
-use Rattle.cut.proofs.HalfLaws.{tail-room}
+use Rattle.writer.proofs.PieceLaws.{three-back, three-room, three-back}
+use Rattle.halves_of_part.proofs.PartLaws.{first-bytes, first-long}
+use Rattle.halves_of_part.proofs.PartLaws.{first-bytes, first-long}
+use Rattle.xliff.proofs.lists.Slices.{tail-room}
 use Rattle.writer.specs.Pieces.{lead}
 use Rattle.xliff.specs.Split.{first-items, first-target}
 use Rattle.xliff.specs.Encode.{target-records, spell, content-bytes}

@@ -1,5 +1,5 @@
 use Rattle.halves_of_part.proofs.PartLaws.{halves-are}
-use Rattle.cut.proofs.HalfLaws.{tail-room}
+use Rattle.xliff.proofs.lists.Slices.{tail-room}
 use Rattle.writer.proofs.PieceLaws.{two-back}
 use Rattle.writer.specs.Pieces.{lead}
 use Rattle.xliff.specs.Split.{first-half, second-half}

@@ -1,6 +1,7 @@
 use Rattle.xliff.specs.Split.{with-id}
-use Rattle.halves_of_part.proofs.PartLaws.{second-bytes, second-long, three-back, three-room, id-over, id-long}
-use Rattle.cut.proofs.HalfLaws.{tail-room}
+use Rattle.writer.proofs.PieceLaws.{three-back, three-room}
+use Rattle.halves_of_part.proofs.PartLaws.{second-bytes, second-long, id-over, id-long}
+use Rattle.xliff.proofs.lists.Slices.{tail-room}
 use Rattle.writer.specs.Pieces.{lead}
 use Rattle.xliff.specs.Split.{second-items, second-target}
 use Rattle.xliff.specs.Encode.{head-bytes, target-records, spell, content-bytes}

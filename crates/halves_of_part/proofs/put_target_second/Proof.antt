@@ -1,5 +1,5 @@
 use Rattle.halves_of_part.proofs.PartLaws.{present, absent-second, target-second, as-tail, next-head, order-is, next-over}
-use Rattle.cut.proofs.HalfLaws.{tail-room}
+use Rattle.xliff.proofs.lists.Slices.{tail-room}
 use Rattle.writer.proofs.PieceLaws.{two-back}
 use Rattle.writer.specs.Pieces.{lead}
 use Rattle.xliff.specs.Split.{second-items}

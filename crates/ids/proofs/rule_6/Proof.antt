@@ -8,7 +8,6 @@ use Rattle.places.specs.Found.{names-found}
 use Rattle.xliff.specs.Rules.{fault-6, first-clash, Named}
 use Rattle.xliff.specs.Encode.{Record, unit-records}
 use Rattle.xliff.specs.Parse.{unit}
-use Rattle.text.proofs.Laws.{tail-is}
 use Rattle.table.specs.Meaning.{width}
 use lib.ListN.{length, set, take, length-set, length-take}
 use native.Mathlib.Omega.{arith}

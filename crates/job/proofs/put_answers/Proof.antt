@@ -5,8 +5,6 @@ use mathlib.Core.Path.{sym, ap, _∙_}
 use lib.ListN.{length, take}
 use native.Mathlib.Omega.{arith}
 use lib.Seq.{length-take-le}
-use Rattle.split_limits.proofs.SizeLaws.{small-table}
-use Rattle.outcomes.proofs.OutcomeLaws.{accepted-none}
 use Rattle.job.proofs.RunLaws.{job-accepted, job-refused, accepted-small}
 use borrow.Author.Needs.{needs}
 use Rattle.job.proofs.put_answers.Statement.{statement}

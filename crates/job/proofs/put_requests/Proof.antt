@@ -4,7 +4,7 @@ use lib.ListN.{take, length-drop}
 use native.Mathlib.Omega.{arith}
 use Rattle.lines.proofs.LineLaws.{table-line-length}
 use Rattle.job.proofs.StepLaws.{back-length}
-use Rattle.writer.proofs.PieceLaws.{tail-is}
+use Rattle.xliff.proofs.lists.Slices.{tail-is}
 use Prim.Native.Nat.{_-_, _*_, _≤_}
 use mathlib.Core.Path.{_≡_}
 use lib.ListN.{length}

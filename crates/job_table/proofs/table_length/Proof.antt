@@ -3,7 +3,7 @@ use Prim.Native.Nat.{_-_, _≤_}
 use mathlib.Core.Path.{_≡_, sym, _∙_}
 use native.Mathlib.Omega.{arith}
 use Rattle.xliff.specs.Desk.{is-UE, whole-size}
-use Rattle.text.proofs.Laws.{tail-is}
+use Rattle.xliff.proofs.lists.Slices.{tail-is}
 use Rattle.job_table.proofs.SizeLaws.{Walk, walk-start, walk-on, walk-ends, walk-stuck, walk-over, size-within}
 use borrow.Author.Needs.{needs}
 use Rattle.job_table.proofs.table_length.Statement.{statement}

@@ -1,5 +1,5 @@
 use Rattle.outcomes.proofs.OutcomeLaws.{answers-refused, accepted-none, refused-some, on-refused}
-use Rattle.split_limits.proofs.SizeLaws.{table-passes}
+use Rattle.part_at.proofs.CheckedLaws.{table-passes}
 use Rattle.xliff.specs.Join.{join}
 use borrow.Author.Needs.{needs}
 use Rattle.join.proofs.join_checked.Statement.{statement}

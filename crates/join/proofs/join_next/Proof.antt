@@ -1,5 +1,5 @@
 use lib.ListN.{length}
-use Rattle.split_limits.proofs.SizeLaws.{table-passes}
+use Rattle.part_at.proofs.CheckedLaws.{table-passes}
 use Rattle.outcomes.proofs.OutcomeLaws.{answers-refused}
 use Rattle.join.proofs.ChainLaws.{no-next}
 use Rattle.join.proofs.NextLaws.{next-part, last-part}

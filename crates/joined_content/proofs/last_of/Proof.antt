@@ -1,5 +1,5 @@
 use Rattle.joined_content.proofs.JoinLaws.{Stands, stands-start, stands-next, stands-on, stands-last}
-use Rattle.walk.proofs.WalkLaws.{tail-is}
+use Rattle.xliff.proofs.lists.Slices.{tail-is}
 use Rattle.walk.specs.Marks.{widthAt}
 use Rattle.walk.specs.Kept.{Of}
 use Rattle.xliff.specs.Encode.{Record}

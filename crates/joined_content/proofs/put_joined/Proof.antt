@@ -1,9 +1,8 @@
-use Rattle.cut.proofs.HalfLaws.{tail-room}
 use Rattle.xliff.specs.Encode.{content-records}
 use Rattle.writer.proofs.PieceLaws.{two-back}
 use Rattle.writer.specs.Pieces.{lead}
 use Rattle.joined_content.proofs.JoinLaws.{joined-room, joined-apart, seam-kept, touch, touch-a, touch-b, touch-size, touch-number-a, touch-number-b, touch-wrote}
-use Rattle.walk.proofs.WalkLaws.{tail-is}
+use Rattle.xliff.proofs.lists.Slices.{tail-is, tail-room}
 use mathlib.Core.List.{List}
 use mathlib.Core.Path.{sym, _∙_, ap, ap₂}
 use Prim.Native.Nat.{ℕ, _-_, _+_}

@@ -1,6 +1,6 @@
 use Rattle.joined_content.proofs.JoinLaws.{seam-none, seam-last, seam-apart, seam-touching, last-least, first-least}
 use mathlib.Core.Bool.{Bool, _&&_}
-use Rattle.walk.proofs.WalkLaws.{tail-is}
+use Rattle.xliff.proofs.lists.Slices.{tail-is}
 use mathlib.Core.Path.{sym, _∙_, ap₂}
 use Prim.Native.Nat.{_-_}
 use native.Mathlib.Omega.{arith}

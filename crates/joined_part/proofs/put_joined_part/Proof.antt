@@ -1,9 +1,9 @@
-use Rattle.part_contents.proofs.HoldLaws.{bytes-known, target-ends}
-use Rattle.cut.proofs.LoopLaws.{lead-length}
-use Rattle.halves_of_part.proofs.PartLaws.{three-back, three-room}
+use Rattle.table.proofs.WidthLaws.{bytes-known}
+use Rattle.part_contents.proofs.HoldLaws.{target-ends}
+use Rattle.writer.proofs.PieceLaws.{three-back, three-room, lead-length}
 use Rattle.joined_part.proofs.PartLaws.{joined-is, joined-long, heads-are, heads-asked, sources-asked, sources-wrote, targets-asked, targets-wrote}
 use Rattle.joined_part.specs.Joined.{target-bytes, part-bytes}
-use Rattle.cut.proofs.HalfLaws.{tail-room}
+use Rattle.xliff.proofs.lists.Slices.{tail-room}
 use Rattle.writer.specs.Pieces.{lead}
 use Rattle.xliff.specs.Join.{join-heads}
 use Rattle.xliff.specs.Encode.{head-bytes, content-bytes}

@@ -1,5 +1,5 @@
 use Rattle.joined_part.proofs.TargetLaws.{target-long, renumber-long, no-targets, second-target, first-target, both-targets, both-long, both-room, both-wrote}
-use Rattle.cut.proofs.HalfLaws.{tail-room}
+use Rattle.xliff.proofs.lists.Slices.{tail-room}
 use Rattle.writer.proofs.PieceLaws.{two-back}
 use Rattle.writer.specs.Pieces.{lead, overlay, numberBytes}
 use Rattle.xliff.specs.Encode.{content-bytes}

@@ -3,12 +3,11 @@ use Rattle.places.proofs.Places.{At, at-start}
 use Rattle.xliff.proofs.unit.Valid.{part-heads}
 use Rattle.xliff.specs.Encode.{Record, unit-records}
 use Rattle.xliff.specs.Parse.{unit}
-use Rattle.text.proofs.Laws.{tail-is}
 use lib.ListN.{length}
 use native.Mathlib.Omega.{arith}
-use mathlib.Core.Path.{_≡_, _∙_, ap}
+use mathlib.Core.Path.{_≡_}
 use mathlib.Core.List.{List}
-use Prim.Native.Nat.{ℕ, _-_, _+_}
+use Prim.Native.Nat.{_-_, _+_}
 use borrow.Author.Needs.{needs}
 use Rattle.orders.proofs.count_parts.Statement.{statement}
 use Rattle.orders.proofs.count_parts.Tie as tie

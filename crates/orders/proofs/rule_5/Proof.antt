@@ -1,7 +1,7 @@
 use Rattle.table.specs.declared.Read.the-variants.{Good}
 use Rattle.orders.proofs.OrderLaws.{order-walked}
 use Rattle.orders.proofs.WalkLaws.{walked}
-use Rattle.orders.proofs.WalkLaws.{stepped, few-parts}
+use Rattle.orders.proofs.WalkLaws.{few-parts}
 use Rattle.orders.proofs.OrderLaws.{orders-skip, orders-at, orders-end, Marked, bad-same, marked-more, marked-none, orders-start}
 use Rattle.places.proofs.Places.{At, at-start}
 use Rattle.places.specs.Found.{orders-found, first-bad-in}
@@ -9,7 +9,6 @@ use Rattle.xliff.specs.Rules.{fault-5, bad-order}
 use Rattle.xliff.specs.Answer.{refusal}
 use Rattle.xliff.specs.Encode.{Record, unit-records}
 use Rattle.xliff.specs.Parse.{unit}
-use Rattle.text.proofs.Laws.{tail-is}
 use Rattle.table.specs.Meaning.{width}
 use lib.ListN.{length, length-set}
 use native.Mathlib.Omega.{arith}

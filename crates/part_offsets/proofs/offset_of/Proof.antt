@@ -4,7 +4,7 @@ use mathlib.Core.Path.{sym, subst}
 use mathlib.Core.List.{List, _∷_}
 use lib.ListN.{length}
 use Rattle.xliff.specs.Unit.{Part}
-use Rattle.writer.proofs.PieceLaws.{tail-is}
+use Rattle.xliff.proofs.lists.Slices.{tail-is}
 use Rattle.part_offsets.proofs.OffsetLaws.{Passed, passed-start, front, front-fit, passed-on, passed-all, passed-end}
 use Rattle.parts.specs.Parts.{PartsIn}
 use borrow.Author.Needs.{needs}

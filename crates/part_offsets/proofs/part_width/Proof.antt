@@ -4,7 +4,7 @@ use mathlib.Core.Path.{sym, _∙_}
 use mathlib.Core.List.{List, _∷_}
 use lib.ListN.{length}
 use Rattle.xliff.specs.Unit.{Part}
-use Rattle.writer.proofs.PieceLaws.{tail-is}
+use Rattle.xliff.proofs.lists.Slices.{tail-is}
 use Rattle.part_offsets.proofs.InsideLaws.{Along, begin, along-start, meets, meets-least, meets-part, meets-record, along-end}
 use Rattle.parts.specs.Parts.{PartsIn}
 use borrow.Author.Needs.{needs}

@@ -3,7 +3,7 @@ use Prim.Native.Nat.{_-_, _+_}
 use mathlib.Core.Path.{_≡_, _∙_, ap}
 use lib.ListN.{length, take, drop, length-drop}
 use Rattle.xliff.specs.Encode.{content-records, target-records, spell}
-use Rattle.walk.proofs.WalkLaws.{tail-is}
+use Rattle.xliff.proofs.lists.Slices.{tail-is}
 use Rattle.part_split.proofs.WholeLaws.{whole-least, whole-width, whole-stretch, whole-fit, whole-part, no-order, its-order}
 use borrow.Author.Needs.{needs}
 use Rattle.part_split.proofs.order_of.Statement.{statement}

@@ -1,6 +1,6 @@
 use Rattle.part_split.specs.Whole.{Stretch}
 use Rattle.part_split.proofs.WholeLaws.{Along, along-start, meets, meets-least, meets-target, meets-record, along-end}
-use Rattle.walk.proofs.WalkLaws.{tail-is}
+use Rattle.xliff.proofs.lists.Slices.{tail-is}
 use Rattle.xliff.specs.Unit.{Target}
 use Rattle.xliff.specs.Encode.{Record}
 use mathlib.Core.List.{List}

@@ -1,4 +1,5 @@
-use Rattle.partners.proofs.ScanLaws.{tail-is, lone-not, lone-start, lone-end}
+use Rattle.xliff.proofs.lists.Slices.{tail-is}
+use Rattle.partners.proofs.ScanLaws.{lone-not, lone-start, lone-end}
 use borrow.Author.Tests.{eq-eqb, ne-eqb}
 use lib.ListN.{take, drop, getD, length-take}
 use mathlib.Core.Path.{sym, _∙_, ap}

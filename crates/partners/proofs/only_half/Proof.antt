@@ -1,5 +1,6 @@
 use Rattle.partners.specs.Partners.{onlyHalf}
-use Rattle.partners.proofs.ScanLaws.{tail-is, any-reverse}
+use Rattle.xliff.proofs.lists.Slices.{tail-is}
+use Rattle.partners.proofs.ScanLaws.{any-reverse}
 use lib.ListN.{length-take}
 use native.Mathlib.Omega.{arith}
 use borrow.Author.Needs.{needs}

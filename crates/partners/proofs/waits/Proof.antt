@@ -1,4 +1,4 @@
-use Rattle.partners.proofs.ScanLaws.{tail-is}
+use Rattle.xliff.proofs.lists.Slices.{tail-is}
 use Rattle.partners.specs.Partners.{waits}
 use Rattle.xliff.proofs.lists.Tests.{and-false}
 use borrow.Author.Tests.{not-true, not-false}

@@ -1,5 +1,5 @@
 use Rattle.xliff.specs.RemoveTarget.{remove-target}
-use Rattle.split_limits.proofs.SizeLaws.{table-passes}
+use Rattle.part_at.proofs.CheckedLaws.{table-passes}
 use Rattle.outcomes.proofs.OutcomeLaws.{answers-refused, accepted-none, refused-some, on-refused}
 use borrow.Author.Needs.{needs}
 use Rattle.remove_target.proofs.remove_checked.Statement.{statement}

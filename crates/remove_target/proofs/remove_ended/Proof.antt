@@ -2,7 +2,7 @@ use Rattle.remove_target.proofs.WorkLaws.{work-is, work-within, work-lo
 use Rattle.remove_target.proofs.GoodLaws.{removed-good}
 use Rattle.remove_target.proofs.ChainLaws.{refused-15, refused-by, done}
 use Rattle.outcomes.proofs.OutcomeLaws.{answers-refused, answers-result}
-use Rattle.split_limits.proofs.SizeLaws.{small-table}
+use Rattle.xliff.proofs.unit.Result.{small-table}
 use Rattle.removed_target.specs.Removed.{removed-unit}
 use Rattle.writer.specs.Pieces.{lead}
 use Rattle.xliff.specs.Encode.{encode}
@@ -23,7 +23,7 @@ remove-ended-spec =
     tie.close
     (tie.spec
     (λ c. search needs)
-    (λ c κs. let (v, st) = (c .before .before .before .pre) in (st, small-table (c .before .before .before .args .table .now) (c .before .before .shared-slice-known .given) (c .before .before .before .pre .0)))
+    (λ c κs. let (v, st) = (c .before .before .before .pre) in (st, small-table (c .before .before .before .args .table .now) (c .before .before .before .pre .0)))
     (λ c. λ b p a s. answers-refused _ 15 0 (c .before .before .before .before .before .before .args .out .now) (refused-15 (length (c .before .before .before .before .before .before .args .out .now)) (removed-unit (unit (c .before .before .before .before .before .before .args .table .now)) b p a) (no-room (removed-unit (unit (c .before .before .before .before .before .before .args .table .now)) b p a) (removed-good (c .before .before .before .before .before .before .args .table .now) (c .before .before .before .before .before .shared-slice-known .given) (c .before .before .before .before .before .before .pre .0) b p a (c .before .before .before .before .before .before .args .place) s) _ (c .before .before .put-removed .last .0) (c .before .before .put-removed .result) (c .before .before .put-removed .ensures b p a s) (length (c .before .before .before .before .before .before .args .out .now)) (c .if1 .taken))))
     (λ c. let (v, st) = (c .before .before .before .before .before .before .pre) in let (b, p, a, s) = st in work-within (removed-unit (unit (c .before .before .before .before .before .before .args .table .now)) b p a) (removed-good (c .before .before .before .before .before .before .args .table .now) (c .before .before .before .before .before .shared-slice-known .given) (c .before .before .before .before .before .before .pre .0) b p a (c .before .before .before .before .before .before .args .place) s) _ (c .before .before .put-removed .last .0) (c .before .before .put-removed .result) (c .before .before .put-removed .ensures b p a s))
     (λ c. let (v, st) = (c .before .before .before .before .before .before .before .pre) in let (b, p, a, s) = st in work-long (removed-unit (unit (c .before .before .before .before .before .before .before .args .table .now)) b p a) (removed-good (c .before .before .before .before .before .before .before .args .table .now) (c .before .before .before .before .before .before .shared-slice-known .given) (c .before .before .before .before .before .before .before .pre .0) b p a (c .before .before .before .before .before .before .before .args .place) s) _ (c .before .before .before .put-removed .last .0) (c .before .before .before .put-removed .result) (c .before .before .before .put-removed .ensures b p a s))

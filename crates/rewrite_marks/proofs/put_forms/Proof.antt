@@ -1,7 +1,6 @@
 use Prim.Native.Nat.{_-_}
 use lib.ListN.{length}
 use native.Mathlib.Omega.{arith}
-use Rattle.text.proofs.Laws.{tail-is}
 use Rattle.orders.proofs.WalkLaws.{stepped}
 use Rattle.rewrite_marks.proofs.WalkLaws.{Written, written-start, written-length, written-on, written-end, two-left}
 use borrow.Author.Needs.{needs}

@@ -1,19 +1,17 @@
 use Rattle.sequences.proofs.GlanceLaws.{source-marks, sources-on}
 use Rattle.sequences.proofs.MarkLaws.{source-room, marks-end}
-use Rattle.sequences.specs.Marks.{insideSource, offsets}
+use Rattle.sequences.specs.Marks.{offsets}
 use Rattle.sequences.proofs.FillLaws.{Filled, fill-room, fill-on, fill-end}
 use Rattle.orders.proofs.WalkLaws.{walked}
 use Rattle.places.proofs.Places.{At, at-start}
 use Rattle.xliff.specs.Encode.{Record, unit-records}
 use Rattle.xliff.specs.Parse.{unit}
-use Rattle.text.proofs.Laws.{tail-is}
-use lib.Dec.{eqb}
-use lib.ListN.{length, take}
+use lib.ListN.{length}
 use native.Mathlib.Omega.{arith}
-use mathlib.Core.Path.{_≡_, refl, sym, _∙_, ap}
+use mathlib.Core.Path.{refl, sym, _∙_, ap}
 use mathlib.Core.List.{List, [], _∷_, _++_}
-use mathlib.Core.Bool.{Bool, true, false, cond, _&&_}
-use Prim.Native.Nat.{ℕ, _-_, _+_}
+use mathlib.Core.Bool.{Bool, true, cond, _&&_}
+use Prim.Native.Nat.{_-_, _+_}
 use borrow.Author.Needs.{needs}
 use Rattle.sequences.proofs.sources.Statement.{statement}
 use Rattle.sequences.proofs.sources.Tie as tie

@@ -6,14 +6,13 @@ use Rattle.orders.proofs.WalkLaws.{walked}
 use Rattle.places.proofs.Places.{At, at-start}
 use Rattle.xliff.specs.Encode.{Record, unit-records}
 use Rattle.xliff.specs.Parse.{unit}
-use Rattle.text.proofs.Laws.{tail-is}
 use lib.Dec.{eqb}
-use lib.ListN.{length, take}
+use lib.ListN.{length}
 use native.Mathlib.Omega.{arith}
-use mathlib.Core.Path.{_≡_, refl, sym, _∙_, ap}
-use mathlib.Core.List.{List, [], _∷_, _++_}
-use mathlib.Core.Bool.{Bool, true, false, cond, _&&_}
-use Prim.Native.Nat.{ℕ, _-_, _+_}
+use mathlib.Core.Path.{refl, sym, _∙_}
+use mathlib.Core.List.{List, [], _∷_}
+use mathlib.Core.Bool.{cond}
+use Prim.Native.Nat.{_-_}
 use borrow.Author.Needs.{needs}
 use Rattle.sequences.proofs.target_heads.Statement.{statement}
 use Rattle.sequences.proofs.target_heads.Tie as tie

@@ -1,16 +1,15 @@
 use Rattle.sequences.proofs.GlanceLaws.{content-on, content-off, content-end}
-use Rattle.sequences.proofs.TargetLaws.{head-within, begun, order-here, order-other}
+use Rattle.sequences.proofs.TargetLaws.{begun, order-here, order-other}
 use Rattle.sequences.specs.Targets.{content-marks, of-order, head-number}
 use Rattle.sequences.proofs.FillLaws.{Filled, fill-room, fill-on, fill-end, fill-none}
 use Rattle.orders.proofs.WalkLaws.{walked}
 use Rattle.places.proofs.Places.{At}
 use Rattle.xliff.specs.Encode.{Record}
-use Rattle.text.proofs.Laws.{tail-is}
-use lib.ListN.{length, take, drop}
+use lib.ListN.{length, take}
 use native.Mathlib.Omega.{arith}
-use mathlib.Core.Path.{_≡_, refl, sym, _∙_, ap}
+use mathlib.Core.Path.{refl, sym, ap}
 use mathlib.Core.List.{List, [], _∷_, _++_}
-use mathlib.Core.Bool.{Bool, true, false, cond, _&&_}
+use mathlib.Core.Bool.{cond}
 use Prim.Native.Nat.{ℕ, _-_, _+_}
 use borrow.Author.Needs.{needs}
 use Rattle.sequences.proofs.target_markers.Statement.{statement}

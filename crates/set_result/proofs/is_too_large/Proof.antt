@@ -1,12 +1,13 @@
 use Rattle.set_result.proofs.CountLaws.{holds-bytes, old-within, long-content, counted}
 use Rattle.xliff.specs.Parse.{unit}
 use Rattle.removed_target.proofs.RemovedLaws.{in-order}
-use Rattle.split_limits.proofs.SizeLaws.{small-table, table-passes}
+use Rattle.xliff.proofs.unit.Result.{small-table}
+use Rattle.part_at.proofs.CheckedLaws.{table-passes}
 use native.Mathlib.Omega.{arith}
 use borrow.Author.Needs.{needs}
 use Rattle.set_result.proofs.is_too_large.Statement.{statement}
 use Rattle.set_result.proofs.is_too_large.Tie as tie
-use Rattle.split_limits.proofs.count_records.Reads as count-records-reads′
+use Rattle.record_count.proofs.count_records.Reads as count-records-reads′
 
 pub is-too-large-spec : {M : Type 1} → statement M
 is-too-large-spec =
@@ -22,5 +23,5 @@ is-too-large-spec =
     (λ c. search needs)
     (λ c. search needs)
     (λ c. search needs)
-    (λ c. let (ck, sm) = (c .before .before .before .before .before .before .before .before .pre) in let (v, st) = ck in let (b, p, a, s) = st in let (xs, o) = sm in let k = table-passes (c .before .before .before .before .before .before .before .before .args .t .now) ((c .before .before .before .before .before .before .before .shared-slice-known .given)) v in let z = in-order (c .before .before .before .before .before .before .before .before .args .t .now) b p a (c .before .before .before .before .before .before .before .before .args .place) s in omega (arith, small-table (c .before .before .before .before .before .before .before .before .args .t .now) ((c .before .before .before .before .before .before .before .shared-slice-known .given)) v))
+    (λ c. let (ck, sm) = (c .before .before .before .before .before .before .before .before .pre) in let (v, st) = ck in let (b, p, a, s) = st in let (xs, o) = sm in let k = table-passes (c .before .before .before .before .before .before .before .before .args .t .now) ((c .before .before .before .before .before .before .before .shared-slice-known .given)) v in let z = in-order (c .before .before .before .before .before .before .before .before .args .t .now) b p a (c .before .before .before .before .before .before .before .before .args .place) s in omega (arith, small-table (c .before .before .before .before .before .before .before .before .args .t .now) v))
     (λ c. let (ck, sm) = (c .before .before .before .before .before .before .before .before .pre) in λ b p a s xs o st q. counted (c .before .before .before .before .before .before .before .before .args .t .now) (table-passes (c .before .before .before .before .before .before .before .before .args .t .now) ((c .before .before .before .before .before .before .before .shared-slice-known .given)) (ck .0)) (c .before .before .before .before .before .before .before .before .args .place) b p a s (c .before .before .before .before .before .before .before .before .args .content .now) xs (holds-bytes (c .before .before .before .before .before .before .before .before .args .content .now) xs o) st q (c .before .before .before .before .before .before .before .before .args .room) (c .before .before .before .count-records .result) (c .before .before .count-records2 .result) (c .before .before .before .before .old-records .result) (c .before .before .before .count-records .ensures) (c .before .before .count-records2 .ensures .1 xs o) (c .before .before .before .before .old-records .ensures b p a s)))

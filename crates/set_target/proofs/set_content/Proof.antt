@@ -3,7 +3,7 @@ use lib.ListN.{length}
 use Rattle.xliff.specs.SetTarget.{old-content}
 use Rattle.xliff.specs.Parse.{content}
 use Rattle.xliff.specs.Answer.{Outcome}
-use Rattle.split_limits.proofs.SizeLaws.{table-passes}
+use Rattle.part_at.proofs.CheckedLaws.{table-passes}
 use Rattle.outcomes.specs.Outcomes.{Answers}
 use Rattle.outcomes.proofs.OutcomeLaws.{answers-refused}
 use Rattle.set_target.proofs.ChainLaws.{refused-18, refused-19, ends}

@@ -1,5 +1,5 @@
 use Rattle.xliff.specs.Split.{split}
-use Rattle.split_limits.proofs.SizeLaws.{table-passes}
+use Rattle.part_at.proofs.CheckedLaws.{table-passes}
 use Rattle.outcomes.proofs.OutcomeLaws.{answers-refused, accepted-none, refused-some, on-refused}
 use borrow.Author.Needs.{needs}
 use Rattle.split.proofs.split_checked.Statement.{statement}

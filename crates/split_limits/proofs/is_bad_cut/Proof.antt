@@ -1,4 +1,4 @@
-use Rattle.split_limits.proofs.StandLaws.{bad-cut-is}
+use Rattle.split_limits.proofs.CutLaws.{bad-cut-is}
 use borrow.Author.Needs.{needs}
 use Rattle.split_limits.proofs.is_bad_cut.Statement.{statement}
 use Rattle.split_limits.proofs.is_bad_cut.Tie as tie

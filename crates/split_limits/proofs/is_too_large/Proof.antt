@@ -1,7 +1,9 @@
 use native.Mathlib.Omega.{arith}
 use Prim.Native.Nat.{_-_}
 use Rattle.orders.proofs.WalkLaws.{few-parts}
-use Rattle.split_limits.proofs.SizeLaws.{small-table, table-passes, placed-checked, few-added, too-large-at}
+use Rattle.xliff.proofs.unit.Result.{small-table}
+use Rattle.part_at.proofs.CheckedLaws.{table-passes, placed-checked}
+use Rattle.split_limits.proofs.SizeLaws.{few-added, too-large-at}
 use borrow.Author.Needs.{needs}
 use Rattle.split_limits.proofs.is_too_large.Statement.{statement}
 use Rattle.split_limits.proofs.is_too_large.Tie as tie
@@ -19,5 +21,5 @@ is-too-large-spec =
     (λ c. search needs)
     (λ c. search needs)
     (λ c. omega (arith, few-added (c .before .before .before .before .before .args .t .now) ((c .before .before .before .before .shared-slice-known .given)) (c .before .before .before .before .before .args .n) (c .before .before .before .before .before .args .place) ((c .before .before .before .before .before .pre)) (c .before .before .before .before .before .args .cut) (c .before .before .before .before .before .args .tcut) (c .before .before .before .added .result) (c .before .before .before .added .ensures)))
-    (λ c. let (v, st) = (c .before .before .before .before .before .pre) in let (b, p, a, e, s) = st in omega (arith, few-added (c .before .before .before .before .before .args .t .now) ((c .before .before .before .before .shared-slice-known .given)) (c .before .before .before .before .before .args .n) (c .before .before .before .before .before .args .place) ((c .before .before .before .before .before .pre)) (c .before .before .before .before .before .args .cut) (c .before .before .before .before .before .args .tcut) (c .before .before .before .added .result) (c .before .before .before .added .ensures), small-table (c .before .before .before .before .before .args .t .now) ((c .before .before .before .before .shared-slice-known .given)) (c .before .before .before .before .before .pre .0), s .head .ordered, s .head .within))
+    (λ c. let (v, st) = (c .before .before .before .before .before .pre) in let (b, p, a, e, s) = st in omega (arith, few-added (c .before .before .before .before .before .args .t .now) ((c .before .before .before .before .shared-slice-known .given)) (c .before .before .before .before .before .args .n) (c .before .before .before .before .before .args .place) ((c .before .before .before .before .before .pre)) (c .before .before .before .before .before .args .cut) (c .before .before .before .before .before .args .tcut) (c .before .before .before .added .result) (c .before .before .before .added .ensures), small-table (c .before .before .before .before .before .args .t .now) (c .before .before .before .before .before .pre .0), s .head .ordered, s .head .within))
     (λ c. too-large-at (c .before .before .before .before .before .args .t .now) ((c .before .before .before .before .shared-slice-known .given)) (c .before .before .before .before .before .args .n) (c .before .before .before .before .before .args .place) ((c .before .before .before .before .before .pre)) (c .before .before .before .before .before .args .cut) (c .before .before .before .before .before .args .tcut) (c .before .before .before .added .result) (c .before .before .before .added .ensures) (c .before .before .before .before .before .args .id) (c .before .before .before .before .before .args .room) (c .before .before .count-records .result) (c .before .count-parts .result) (c .before .before .count-records .ensures) (c .before .count-parts .ensures)))

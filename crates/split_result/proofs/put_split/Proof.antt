@@ -4,13 +4,12 @@ use mathlib.Core.Path.{refl, sym, _∙_, ap}
 use mathlib.Core.List.{List}
 use lib.Seq.{length-take-le}
 use lib.ListN.{length, take, drop, length-drop}
-use Rattle.writer.proofs.PieceLaws.{tail-is}
+use Rattle.xliff.proofs.lists.Slices.{tail-is, tail-room}
 use Rattle.writer.specs.Pieces.{lead}
-use Rattle.cut.proofs.HalfLaws.{tail-room}
-use Rattle.halves_of_part.proofs.PartLaws.{three-back, three-room}
+use Rattle.writer.proofs.PieceLaws.{three-back, three-room}
 use Rattle.split_result.specs.Result.{split-parts}
 use Rattle.split_result.proofs.UnitLaws.{table-nth, result-long, result-is}
-use Rattle.part_offsets.proofs.TableLaws.{table-long}
+use Rattle.parts.proofs.TableLaws.{table-long}
 use borrow.Author.Needs.{needs}
 use Rattle.split_result.proofs.put_split.Statement.{statement}
 use Rattle.split_result.proofs.put_split.Tie as tie

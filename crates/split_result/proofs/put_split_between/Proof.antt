@@ -7,8 +7,8 @@ use lib.Seq.{length-take-le}
 use lib.ListN.{length, take, drop}
 use Rattle.writer.specs.Pieces.{lead}
 use Rattle.split_result.proofs.ResultLaws.{pieces, pieces-long, rest-in}
-use Rattle.cut.proofs.HalfLaws.{tail-room}
-use Rattle.halves_of_part.proofs.PartLaws.{three-back, three-room}
+use Rattle.xliff.proofs.lists.Slices.{tail-room}
+use Rattle.writer.proofs.PieceLaws.{three-back, three-room}
 use Rattle.halves_of_part.specs.Parts.{halves}
 use Rattle.parts.proofs.OrderLaws.{ordered-length}
 use Rattle.parts.specs.Parts.{moved, ordered}

@@ -9,7 +9,8 @@ use mathlib.Core.Path.{_≡_, refl, sym, _∙_, ap}
 use Prim.Native.Nat.{_≤_, _-_}
 use native.Mathlib.Omega.{arith}
 use lib.ListN.{length}
-use Rattle.walk.proofs.WalkLaws.{tail-is, Rest, rest-start, next, rest-end, other-step}
+use Rattle.xliff.proofs.lists.Slices.{tail-is}
+use Rattle.walk.proofs.WalkLaws.{Rest, rest-start, next, rest-end, other-step}
 use borrow.Author.Needs.{needs}
 use Rattle.walk.proofs.has_other.Statement.{statement}
 use Rattle.walk.proofs.has_other.Tie as tie

@@ -1,6 +1,7 @@
 use Rattle.walk.specs.Kept.{Of}
 use Rattle.xliff.specs.Encode.{Record, spell}
-use Rattle.walk.proofs.WalkLaws.{next, tail-is}
+use Rattle.xliff.proofs.lists.Slices.{tail-is}
+use Rattle.walk.proofs.WalkLaws.{next}
 use Rattle.walk.proofs.PlaceLaws.{Along, along-start, along-on, along-stop, along-end, moved}
 use mathlib.Core.List.{List}
 use mathlib.Core.Path.{sym, _∙_}

@@ -1,5 +1,5 @@
 use native.Mathlib.Omega.{arith}
-use Rattle.text.proofs.Laws.{tail-is}
+use Rattle.xliff.proofs.lists.Slices.{tail-is}
 use Rattle.walker.proofs.OffsetLaws.{after-end, after-width}
 use borrow.Author.Needs.{needs}
 use Rattle.walker.proofs.after_at.Statement.{statement}

@@ -48,6 +48,11 @@ unfolding applies
 applies-false n true e = absurd (true≢false e)
 applies-false n false e = refl
 
+-- number 1 leaves at most 8,192 bytes
+pub small-table : (t : List ℕ) → table-refusal t ≡ none → length t ≤ 8192
+unfolding table-refusal
+small-table t v = ltb-false most-bytes (length t) (applies-none 1 (ltb most-bytes (length t)) (then-left _ _ v))
+
 pub of-result-none : (o : Option Refusal) → of-result o ≡ none → o ≡ none
 unfolding of-result
 of-result-none none e = refl

@@ -6,12 +6,10 @@ use mathlib.Core.List.{List, [], _∷_, _++_}
 use mathlib.Core.Option.{none}
 use native.Mathlib.Omega.{arith}
 use lib.ListN.{length, length-append}
-use lib.Dec.{ltb}
-use borrow.Author.Tests.{ltb-false}
 use Rattle.xliff.specs.Bytes.{gather, Bytes}
 use Rattle.xliff.specs.Unit.{Target, no-target, target, Part, order-list, orders}
 use Rattle.xliff.specs.Encode.{Record, closing, part-head, target-head, record-bytes, content-records, content-bytes, target-records, part-records, spell, encode}
-use Rattle.xliff.specs.Parse.{table-fault, unit, most-bytes}
+use Rattle.xliff.specs.Parse.{table-fault, unit}
 use Rattle.xliff.specs.Sequences.{located}
 use Rattle.xliff.specs.Rules.{bad-order, fault-5}
 use Rattle.xliff.specs.Check.{table-refusal, Valid}
@@ -22,13 +20,11 @@ use Rattle.xliff.proofs.records.Fits.{bytes-left, bytes-right}
 use Rattle.xliff.proofs.rules.Orders.{orders-fit, rule-5, order-fits}
 use Rattle.xliff.proofs.unit.Table.{encode-unit}
 use Rattle.xliff.proofs.unit.Valid.{ready-parts}
-use Rattle.xliff.proofs.unit.Result.{then-left, then-right, applies-none, sent}
+use Rattle.xliff.proofs.unit.Result.{then-left, then-right, small-table, sent}
 use Rattle.cut.proofs.ContentLaws.{holds-good}
-use Rattle.walk.proofs.PlaceLaws.{spell-append}
-use Rattle.parts.specs.Parts.{GoodTarget, GoodPart}
-use Rattle.part_offsets.specs.Table.{TableOf}
-use Rattle.part_offsets.proofs.OffsetLaws.{bytes-of, part-least}
-use Rattle.part_offsets.proofs.TableLaws.{opened, closed, table-pieces}
+use Rattle.xliff.proofs.unit.Pieces.{spell-append, bytes-of, opened, closed, table-pieces}
+use Rattle.parts.specs.Parts.{GoodTarget, GoodPart, TableOf}
+use Rattle.parts.proofs.TableLaws.{part-least}
 
 -- records that are good, with orders below a bound
 abbrev Small : Target → Type 0
@@ -77,7 +73,7 @@ parts-few (p ∷ ps) =
     let z : length (bytes-of (p ∷ ps)) ≡ length (spell (part-records p)) + length (bytes-of ps) = ap length (spell-append (part-records p) (gather part-records ps)) ∙ length-append (spell (part-records p)) (bytes-of ps) in
     omega (arith, part-least p, parts-few ps)
 
-pub table-of : (t : List ℕ) → Bytes t → Valid t → TableOf t (unit t)
+pub table-of : (t : List ℕ) → Bytes t → table-refusal t ≡ none → TableOf t (unit t)
 unfolding Valid table-refusal fault-5 located
 table-of t b v =
     let ps : List Part = unit t .parts in
@@ -86,10 +82,10 @@ table-of t b v =
     let d : (opened (unit t) ++ bytes-of ps) ++ closed ≡ t = sym (table-pieces (unit t)) ∙ e in
     let l : length t ≡ length (opened (unit t)) + length (bytes-of ps) + length closed =
     ap length (sym d) ∙ length-append (opened (unit t) ++ bytes-of ps) closed ∙ ap (λ (n : ℕ). n + length closed) (length-append (opened (unit t)) (bytes-of ps)) in
-    let m : length t ≤ most-bytes = ltb-false most-bytes (length t) (applies-none 1 (ltb most-bytes (length t)) (then-left _ _ v)) in
+    let m = small-table t v in
     let s = sent t b v in
     let c : Bytes (bytes-of ps) = bytes-right (opened (unit t)) (bytes-of ps) (bytes-left (opened (unit t) ++ bytes-of ps) closed (subst Bytes (sym d) b)) in (
       e,
       good-parts ps (each-left (gather part-records ps) (closing ∷ []) (ready-parts ps (s .good) .all-good)) c
-          (small-orders (length ps) [] ps (omega (arith, parts-few ps)) (rule-5 (length ps) _ [] ps (s .rule-5))),
+          (small-orders (length ps) [] ps (omega (arith, m, parts-few ps)) (rule-5 (length ps) _ [] ps (s .rule-5))),
     )

@@ -1,29 +1,21 @@
--- A table in three pieces: UN, its parts, UE.
-use Prim.Native.Nat.{ℕ, _+_, _-_}
+-- The table of a unit, taken apart: UN, its parts, UE. No part is empty.
+use Prim.Native.Nat.{ℕ, _+_, _-_, _≤_}
 use mathlib.Core.Path.{_≡_, sym, ap, _∙_}
-use mathlib.Core.List.{List, [], _∷_, _++_, append-assoc, append-nil}
+use mathlib.Core.List.{List, _++_, append-assoc}
 use native.Mathlib.Omega.{arith}
 use lib.ListN.{length, take, drop, length-append}
 use lib.Seq.{take-at, drop-at}
 use Rattle.xliff.specs.Bytes.{gather}
-use Rattle.xliff.specs.Unit.{XliffUnit}
-use Rattle.xliff.specs.Encode.{opening, closing, record-bytes, part-records, unit-records, spell, encode}
-use Rattle.walk.proofs.PlaceLaws.{spell-append}
-use Rattle.parts.specs.Parts.{PartsIn}
-use Rattle.part_offsets.proofs.OffsetLaws.{bytes-of}
-use Rattle.part_offsets.specs.Table.{TableOf}
+use Rattle.xliff.specs.Unit.{XliffUnit, Part}
+use Rattle.xliff.specs.Encode.{record-bytes, part-records, spell, part-head, content-records, target-records}
+use Rattle.xliff.proofs.unit.Pieces.{bytes-of, table-pieces, opened, closed}
+use Rattle.parts.specs.Parts.{PartsIn, TableOf, head-in}
+use Rattle.parts.proofs.RecordLaws.{record-least}
 
-abbrev pub opened : XliffUnit → List ℕ
-opened u = record-bytes (opening (u .canResegment))
-
-abbrev pub closed : List ℕ
-closed = record-bytes closing
-
-pub table-pieces : (u : XliffUnit) → encode u ≡ (opened u ++ bytes-of (u .parts)) ++ closed
-unfolding encode unit-records spell gather
-table-pieces u =
-    ap (λ (l : List ℕ). opened u ++ l) (spell-append (gather part-records (u .parts)) (closing ∷ []) ∙ ap (λ (l : List ℕ). bytes-of (u .parts) ++ l) (append-nil closed))
-    ∙ sym (append-assoc (opened u) (bytes-of (u .parts)) closed)
+pub part-least : (p : Part) → 4 ≤ length (spell (part-records p))
+unfolding spell gather part-records
+part-least p =
+    omega (arith, record-least (part-head (p .head)) head-in, length-append (record-bytes (part-head (p .head))) (spell (content-records (p .source) ++ target-records (p .target))))
 
 module _ (t : List ℕ) (u : XliffUnit) (h : TableOf t u) where
   apart : t ≡ opened u ++ (bytes-of (u .parts) ++ closed)
