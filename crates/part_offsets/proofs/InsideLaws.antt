@@ -8,13 +8,22 @@ use lib.ListN.{length, drop, length-append, length-drop}
 use Rattle.xliff.specs.Bytes.{gather}
 use Rattle.xliff.specs.Item.{Item}
 use Rattle.xliff.specs.Unit.{Head, segment, ignorable, Target, no-target, target, Part}
-use Rattle.xliff.specs.Encode.{Record, part-head, text-run, inline, head-bytes, record-bytes, content-records, target-records, part-records, spell}
+use Rattle.xliff.specs.Encode.{Record, opening, closing, part-head, target-head, text-run, inline, ill-text, broken, head-bytes, record-bytes, content-records, target-records, part-records, spell}
 use Rattle.xliff.proofs.lists.Each.{Each, each-nil, each-cons, each-append, each-apart}
-use Rattle.xliff.proofs.records.Read.{GoodItem}
+use Rattle.xliff.proofs.records.Read.{GoodItem, GoodRecord}
+use lib.Dec.{eqb}
 use Rattle.walk.specs.Kept.{Kept, kept-end, kept-item, kept-text}
 use Rattle.xliff.proofs.unit.Pieces.{spell-append}
+use Rattle.table.specs.Meaning.{record-meaning, meaning, body}
+use Rattle.table.specs.declared.Record as table
+use Rattle.table.specs.declared.Record.the-variants.{Unit as UnitStart, UnitEnd, Segment, Ignorable, Target as TargetHead, Text, Inline}
+use Rattle.table.specs.declared.Read.{Read}
+use Rattle.table.specs.declared.Read.the-variants.{Good, Ill, Broken}
+use Rattle.glance.specs.declared.Glance.{Glance}
+use Rattle.glance.specs.Glances.{headIn, Glanced, Agrees, on-good, on-ill, on-broken}
+use Rattle.parts.proofs.GlanceLaws.{good-in, next-read}
 use Rattle.parts.specs.Parts.{GoodTarget, PartsIn, InPart, head-in, target-in, item-in, text-in, widthIn}
-use Rattle.parts.proofs.RecordLaws.{unmarked, item-letter, record-least, Rest, Next, next, rest-end}
+use Rattle.parts.proofs.RecordLaws.{unmarked, item-letter, head-least, Rest, Next, next, rest-end}
 use Rattle.parts.proofs.OrderLaws.{parts-in}
 use Rattle.part_offsets.specs.Offsets.{isHead}
 
@@ -41,6 +50,45 @@ head-is : (h : Head) (s : List ℕ) → isHead (head-bytes h ++ s) ≡ true
 unfolding head-bytes
 head-is (segment i c t) s = refl
 head-is (ignorable i) s = refl
+
+-- a glance tells the head of a part
+heads : Record → Bool
+heads (part-head h) = true
+heads (opening c) = false
+heads closing = false
+heads (target-head q) = false
+heads (text-run cs) = false
+heads (inline x) = false
+heads ill-text = false
+heads (broken b) = false
+
+read-heads : (cs : List ℕ) (y : table.Record) → eqb (headIn y) 0 ≡ heads (record-meaning cs y)
+unfolding heads
+read-heads cs (UnitStart c) = refl
+read-heads cs UnitEnd = refl
+read-heads cs (Segment i c s) = refl
+read-heads cs (Ignorable i) = refl
+read-heads cs (TargetHead q) = refl
+read-heads cs Text = refl
+read-heads cs (Inline i) = refl
+
+marked-heads : (r : Record) (s : List ℕ) → InPart r → heads r ≡ isHead (record-bytes r ++ s)
+unfolding heads record-bytes
+marked-heads (part-head h) s (head-in g) = sym (head-is h s)
+marked-heads (target-head q) s (target-in l) = refl
+marked-heads (inline x) s (item-in g) = sym (item-inner x g .1 s)
+marked-heads (text-run (d ∷ ds)) s (text-in a l) = refl
+
+pub glance-head : (t : List ℕ) (at : ℕ) (rs : List Record) (n : Next t at rs) (g : Glance) → Glanced (drop at t) g → eqb (g .head) 0 ≡ isHead (drop at t)
+glance-head t at rs n g f =
+    by (f .found) (f .agrees) (f .means ∙ next-read t at rs n)
+    ∙ marked-heads (n .first) (spell (n .others)) (n .good)
+    ∙ ap isHead (sym (n .bytes))
+  where
+    by : (r : Read) → Agrees g r → meaning (body (drop at t)) r ≡ n .first → eqb (g .head) 0 ≡ heads (n .first)
+    by (Good y w) (on-good e) m = ap (λ (h : Glance). eqb (h .head) 0) e ∙ read-heads (body (drop at t)) y ∙ ap heads m
+    by Ill on-ill m = absurd (subst GoodRecord (sym m) (good-in (n .first) (n .good)))
+    by (Broken b) on-broken m = absurd (subst GoodRecord (sym m) (good-in (n .first) (n .good)))
 
 -- at the offset at, behind some records of the part p, which the parts ps follow
 pub record Along (t : List ℕ) (p : Part) (ps : List Part) (at : ℕ) : Type 0 where
@@ -83,7 +131,7 @@ begin t p ps h =
     let s : List Record = content-records (p .source) ++ target-records (p .target) ++ gather part-records ps in
     let z : length (record-bytes (part-head (p .head)) ++ spell s) ≡ length t = ap length (h .0) in
     next t 0 (gather part-records (p ∷ ps))
-    (omega (arith, length-append (record-bytes (part-head (p .head))) (spell s), record-least (part-head (p .head)) head-in)) (from-start t p ps h)
+    (omega (arith, length-append (record-bytes (part-head (p .head))) (spell s), head-least (p .head))) (from-start t p ps h)
 
 pub along-start : (t : List ℕ) (p : Part) (ps : List Part) → PartsIn t (p ∷ ps) → Along t p ps (widthIn t)
 unfolding gather part-records spell
@@ -121,11 +169,11 @@ meets-by t p ps at l before (r ∷ after) all (each-cons g inner) rest offset =
 pub meets : (t : List ℕ) (p : Part) (ps : List Part) (at : ℕ) → at < length t → Along t p ps at → Meets t p ps at
 meets t p ps at l m = meets-by t p ps at l (m .before) (m .after) (m .all) (m .inner) (m .rest) (m .offset)
 
--- what the code asks
-pub meets-least : (t : List ℕ) (p : Part) (ps : List Part) (at : ℕ) → Meets t p ps at → 4 ≤ length (drop at t)
-meets-least t p ps at (record-next a b c) = b
-meets-least t p ps at (part-next a b c) = b
+-- the record there
+pub meets-next : (t : List ℕ) (p : Part) (ps : List Part) (at : ℕ) → at < length t → Along t p ps at → (rs : List Record) × Next t at rs
+meets-next t p ps at l m = (m .after ++ gather part-records ps, next t at (m .after ++ gather part-records ps) l (m .rest))
 
+-- what the code asks
 pub meets-part : (t : List ℕ) (p : Part) (ps : List Part) (at : ℕ) → Meets t p ps at → isHead (drop at t) ≡ true → at ≡ length (spell (part-records p))
 meets-part t p ps at (record-next a b c) z = absurd (true≢false (sym z ∙ a))
 meets-part t p ps at (part-next a b c) z = c

@@ -1,29 +1,21 @@
 // Where the parts of a table begin.
 ghost use mathlib.Core.Path.{_≡_};
-ghost use Prim.Native.Nat.{_≤_};
-ghost use lib.ListN.{length};
 ghost use Rattle.parts.specs.Parts.{SomeParts};
-ghost use Rattle.part_offsets.specs.Offsets.{isHead, Begins, PartWidth, OffsetOf};
-
-// Whether `t` begins with SG or IG.
-fn is_head(t: &[u8]) -> bool
-    requires { ⌜ 4 ≤ length (now t) ⌝ }
-    ensures { λ r. ⌜ r ≡ isHead (now (t .entry)) ⌝ }
-{
-    ((t[0] == b'S') & (t[1] == b'G')) | ((t[0] == b'I') & (t[1] == b'G'))
-}
+ghost use Rattle.part_offsets.specs.Offsets.{Begins, PartWidth, OffsetOf};
 
 // The bytes of the part at the head of `t`.
 fn part_width(t: &[u8]) -> usize
     requires { ⌜ Begins (now t) ⌝ }
     ensures { λ r. ⌜ PartWidth (now (t .entry)) r ⌝ }
 {
-    let mut at = parts::width_of(t);
+    let first = walker::glance_at(t, 0);
+    let mut at = first.width;
     while at < t.len() {
-        if is_head(&t[at..]) {
+        let g = walker::glance_at(t, at);
+        if g.head == 0 {
             return at;
         }
-        at += parts::width_of(&t[at..]);
+        at += g.width;
     }
     at
 }

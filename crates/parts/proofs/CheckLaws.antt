@@ -44,6 +44,7 @@ good-part p (each-cons g a) h l =
     let b : Bytes (spell s ++ spell t) = subst Bytes (spell-append s t) (bytes-right (record-bytes (part-head (p .head))) (spell (s ++ t)) h) in (
       holds-good (content-bytes (p .source)) (p .source) (bytes-left (spell s) (spell t) b) refl (each-left s t a) .0,
       good-target (p .target) (each-right s t a) (bytes-right (spell s) (spell t) b) l,
+      g,
     )
 
 good-parts : (ps : List Part) → AllGood (gather part-records ps) → Bytes (bytes-of ps) → Each (λ (p : Part). Small (p .target)) ps → Each GoodPart ps

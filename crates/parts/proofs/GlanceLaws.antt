@@ -1,4 +1,4 @@
--- A glance at a record of a part: its width, and whether it is the head of a part.
+-- A glance at a record of a part tells its width.
 use Prim.Native.Nat.{ℕ}
 use mathlib.Core.Path.{_≡_, sym, ap, _∙_, subst}
 use mathlib.Core.List.{List}
@@ -15,7 +15,7 @@ use Rattle.parts.specs.Parts.{InPart, head-in, target-in, item-in, text-
 use Rattle.parts.proofs.RecordLaws.{Next}
 
 -- a record of a part is read back
-good-in : (r : Record) → InPart r → GoodRecord r
+pub good-in : (r : Record) → InPart r → GoodRecord r
 good-in (part-head h) (head-in g) = g
 good-in (target-head q) (target-in l) = tt
 good-in (inline x) (item-in g) = g

@@ -9,7 +9,7 @@ use lib.Seq.{drop-append-seam, take-append-seam, drop-drop}
 use lib.Dec.{eqb}
 use Rattle.xliff.specs.Bytes.{two, gather}
 use Rattle.xliff.specs.Item.{Item, start, end, form-P, form-S, text, character, standalone, isolated, pair, annotation-start, annotation-end, mark}
-use Rattle.xliff.specs.Unit.{segment, ignorable}
+use Rattle.xliff.specs.Unit.{Head, segment, ignorable}
 use Rattle.xliff.specs.Encode.{Record, part-head, target-head, text-run, inline, head-bytes, record-bytes, spell}
 use Rattle.xliff.proofs.lists.Tests.{two-value, and-false}
 use Rattle.xliff.proofs.lists.Each.{Each, each-cons}
@@ -51,10 +51,14 @@ record-width (target-head q) s (target-in l) = refl
 record-width (inline x) s (item-in g) = unmarked-width (record-bytes (inline x) ++ s) (item-letter x s g) ∙ item-width s x g
 record-width (text-run cs) s (text-in a l) = text-width s cs
 
+pub head-least : (h : Head) → 4 ≤ length (record-bytes (part-head h))
+unfolding record-bytes head-bytes two
+head-least (segment i c t) = omega arith
+head-least (ignorable i) = omega arith
+
 pub record-least : (r : Record) → InPart r → 4 ≤ length (record-bytes r)
 unfolding record-bytes head-bytes two
-record-least (part-head (segment i c t)) (head-in g) = omega arith
-record-least (part-head (ignorable i)) (head-in g) = omega arith
+record-least (part-head h) (head-in g) = head-least h
 record-least (target-head q) (target-in l) = omega arith
 record-least (inline x) (item-in g) = item-least [] x g
 record-least (text-run cs) (text-in a l) = omega arith

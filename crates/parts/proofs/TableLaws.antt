@@ -10,12 +10,12 @@ use Rattle.xliff.specs.Unit.{XliffUnit, Part}
 use Rattle.xliff.specs.Encode.{record-bytes, part-records, spell, part-head, content-records, target-records}
 use Rattle.xliff.proofs.unit.Pieces.{bytes-of, table-pieces, opened, closed}
 use Rattle.parts.specs.Parts.{PartsIn, TableOf, head-in}
-use Rattle.parts.proofs.RecordLaws.{record-least}
+use Rattle.parts.proofs.RecordLaws.{head-least}
 
 pub part-least : (p : Part) → 4 ≤ length (spell (part-records p))
 unfolding spell gather part-records
 part-least p =
-    omega (arith, record-least (part-head (p .head)) head-in, length-append (record-bytes (part-head (p .head))) (spell (content-records (p .source) ++ target-records (p .target))))
+    omega (arith, head-least (p .head), length-append (record-bytes (part-head (p .head))) (spell (content-records (p .source) ++ target-records (p .target))))
 
 module _ (t : List ℕ) (u : XliffUnit) (h : TableOf t u) where
   apart : t ≡ opened u ++ (bytes-of (u .parts) ++ closed)

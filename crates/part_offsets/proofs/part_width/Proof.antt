@@ -1,12 +1,15 @@
-use native.Mathlib.Omega.{arith}
-use Prim.Native.Nat.{_≤_, _-_}
-use mathlib.Core.Path.{sym, _∙_}
-use mathlib.Core.List.{List, _∷_}
-use lib.ListN.{length}
-use Rattle.xliff.specs.Unit.{Part}
-use Rattle.xliff.proofs.lists.Slices.{tail-is}
-use Rattle.part_offsets.proofs.InsideLaws.{Along, begin, along-start, meets, meets-least, meets-part, meets-record, along-end}
+use borrow.Author.Tests.{eq-eqb, ne-eqb}
 use Rattle.parts.specs.Parts.{PartsIn}
+use Rattle.part_offsets.proofs.InsideLaws.{Along, begin, along-start, meets, meets-next, glance-head, meets-part, meets-record, along-end}
+use Rattle.parts.proofs.GlanceLaws.{glance-width}
+use Rattle.xliff.specs.Encode.{part-records}
+use Rattle.xliff.specs.Bytes.{gather}
+use Rattle.xliff.specs.Unit.{Part}
+use lib.ListN.{length}
+use mathlib.Core.List.{List, _∷_}
+use mathlib.Core.Path.{sym, _∙_}
+use Prim.Native.Nat.{_≤_, _-_}
+use native.Mathlib.Omega.{arith}
 use borrow.Author.Needs.{needs}
 use Rattle.part_offsets.proofs.part_width.Statement.{statement}
 use Rattle.part_offsets.proofs.part_width.Tie as tie
@@ -23,18 +26,11 @@ part-width-spec =
     (tie.spec
     Inv-loop
     μ-loop
-    (λ c κs. let (p, ps, h) = (c .before .pre) in begin (c .before .args .t .now) p ps h .enough)
-    (λ c. let (p, ps, h) = (c .before .before .pre) in (let n = begin (c .before .before .args .t .now) p ps h in omega (arith, n .fit, c .width-of .ensures), λ p ps h. rw (c .width-of .ensures) (along-start (c .before .before .args .t .now) p ps h)))
-    (λ c. search needs)
-    (λ c. search needs)
-    (λ c. search needs)
-    (λ c κs. let (p, ps, h) = (c .before .before .before .before .before .pre) in let m = meets (c .before .before .before .before .before .args .t .now) p ps (c .before .before .loop .at) (c .before .loop-test .taken) (c .before .before .loop .inv .1 p ps h) in simp tail-is (meets-least (c .before .before .before .before .before .args .t .now) p ps (c .before .before .loop .at) m))
-    (λ c. λ p ps h. let m = meets (c .before .before .before .before .before .before .before .args .t .now) p ps (c .before .before .before .before .loop .at) (c .before .before .before .loop-test .taken) (c .before .before .before .before .loop .inv .1 p ps h) in meets-part (c .before .before .before .before .before .before .before .args .t .now) p ps (c .before .before .before .before .loop .at) m (sym (simp tail-is at (c .before .is-head .ensures)) ∙ (c .if1 .taken)))
-    (λ c. search needs)
-    (λ c. search needs)
-    (λ c. search needs)
-    (λ c κs. let (p, ps, h) = (c .before .before .before .before .before .before .before .before .pre) in let m = meets (c .before .before .before .before .before .before .before .before .args .t .now) p ps (c .before .before .before .before .before .loop .at) (c .before .before .before .before .loop-test .taken) (c .before .before .before .before .before .loop .inv .1 p ps h) in simp tail-is (meets-least (c .before .before .before .before .before .before .before .before .args .t .now) p ps (c .before .before .before .before .before .loop .at) m))
-    (λ c. let (p, ps, h) = (c .before .before .before .before .before .before .before .before .before .pre) in let m = meets (c .before .before .before .before .before .before .before .before .before .args .t .now) p ps (c .before .before .before .before .before .before .loop .at) (c .before .before .before .before .before .loop-test .taken) (c .before .before .before .before .before .before .loop .inv .1 p ps h) in let n = meets-record (c .before .before .before .before .before .before .before .before .before .args .t .now) p ps (c .before .before .before .before .before .before .loop .at) m (sym (simp tail-is at (c .before .before .before .is-head .ensures)) ∙ (c .before .before .if1 .left)) in let e = simp tail-is at (c .width-of2 .ensures) in omega (arith, n .fit))
-    (λ c. let (p, ps, h) = (c .before .before .before .before .before .before .before .before .before .pre) in let m = meets (c .before .before .before .before .before .before .before .before .before .args .t .now) p ps (c .before .before .before .before .before .before .loop .at) (c .before .before .before .before .before .loop-test .taken) (c .before .before .before .before .before .before .loop .inv .1 p ps h) in let n = meets-record (c .before .before .before .before .before .before .before .before .before .args .t .now) p ps (c .before .before .before .before .before .before .loop .at) m (sym (simp tail-is at (c .before .before .before .is-head .ensures)) ∙ (c .before .before .if1 .left)) in let e = simp tail-is at (c .width-of2 .ensures) in omega (arith, n .fit, n .least))
-    (λ c. let (p, ps, h) = (c .before .before .before .before .before .before .before .before .before .pre) in let m = meets (c .before .before .before .before .before .before .before .before .before .args .t .now) p ps (c .before .before .before .before .before .before .loop .at) (c .before .before .before .before .before .loop-test .taken) (c .before .before .before .before .before .before .loop .inv .1 p ps h) in let n = meets-record (c .before .before .before .before .before .before .before .before .before .args .t .now) p ps (c .before .before .before .before .before .before .loop .at) m (sym (simp tail-is at (c .before .before .before .is-head .ensures)) ∙ (c .before .before .if1 .left)) in let e = simp tail-is at (c .width-of2 .ensures) in (omega (arith, n .fit), λ p ps h. let m = meets (c .before .before .before .before .before .before .before .before .before .args .t .now) p ps (c .before .before .before .before .before .before .loop .at) (c .before .before .before .before .before .loop-test .taken) (c .before .before .before .before .before .before .loop .inv .1 p ps h) in let n = meets-record (c .before .before .before .before .before .before .before .before .before .args .t .now) p ps (c .before .before .before .before .before .before .loop .at) m (sym (simp tail-is at (c .before .before .before .is-head .ensures)) ∙ (c .before .before .if1 .left)) in rw e (n .more)))
+    (λ c κs. search needs)
+    (λ c. let (p, ps, h) = (c .before .before .pre) in let n = begin (c .before .before .args .t .now) p ps h in let e = glance-width (c .before .before .args .t .now) 0 (gather part-records (p ∷ ps)) n (c .glance-at .result) (c .glance-at .ensures) in (omega (arith, n .fit, e), λ p ps h. let n = begin (c .before .before .args .t .now) p ps h in rw (glance-width (c .before .before .args .t .now) 0 (gather part-records (p ∷ ps)) n (c .glance-at .result) (c .glance-at .ensures)) (along-start (c .before .before .args .t .now) p ps h)))
+    (λ c κs. search needs)
+    (λ c. λ p ps h. let m = meets (c .before .before .before .before .before .before .before .args .t .now) p ps (c .before .before .before .before .loop .at) (c .before .before .before .loop-test .taken) (c .before .before .before .before .loop .inv .1 p ps h) in let x = meets-next (c .before .before .before .before .before .before .before .args .t .now) p ps (c .before .before .before .before .loop .at) (c .before .before .before .loop-test .taken) (c .before .before .before .before .loop .inv .1 p ps h) in meets-part (c .before .before .before .before .before .before .before .args .t .now) p ps (c .before .before .before .before .loop .at) m (sym (glance-head (c .before .before .before .before .before .before .before .args .t .now) (c .before .before .before .before .loop .at) (x .0) (x .1) (c .before .before .glance-at2 .result) (c .before .before .glance-at2 .ensures)) ∙ eq-eqb _ _ (c .if1 .taken)))
+    (λ c. let (p, ps, h) = (c .before .before .before .before .before .before .before .before .pre) in let m = meets (c .before .before .before .before .before .before .before .before .args .t .now) p ps (c .before .before .before .before .before .loop .at) (c .before .before .before .before .loop-test .taken) (c .before .before .before .before .before .loop .inv .1 p ps h) in let x = meets-next (c .before .before .before .before .before .before .before .before .args .t .now) p ps (c .before .before .before .before .before .loop .at) (c .before .before .before .before .loop-test .taken) (c .before .before .before .before .before .loop .inv .1 p ps h) in let n = meets-record (c .before .before .before .before .before .before .before .before .args .t .now) p ps (c .before .before .before .before .before .loop .at) m (sym (glance-head (c .before .before .before .before .before .before .before .before .args .t .now) (c .before .before .before .before .before .loop .at) (x .0) (x .1) (c .before .before .before .glance-at2 .result) (c .before .before .before .glance-at2 .ensures)) ∙ ne-eqb _ _ (c .before .if1 .left)) in let e = glance-width (c .before .before .before .before .before .before .before .before .args .t .now) (c .before .before .before .before .before .loop .at) (x .0) (x .1) (c .before .before .before .glance-at2 .result) (c .before .before .before .glance-at2 .ensures) in omega (arith, n .fit, e))
+    (λ c. let (p, ps, h) = (c .before .before .before .before .before .before .before .before .pre) in let m = meets (c .before .before .before .before .before .before .before .before .args .t .now) p ps (c .before .before .before .before .before .loop .at) (c .before .before .before .before .loop-test .taken) (c .before .before .before .before .before .loop .inv .1 p ps h) in let x = meets-next (c .before .before .before .before .before .before .before .before .args .t .now) p ps (c .before .before .before .before .before .loop .at) (c .before .before .before .before .loop-test .taken) (c .before .before .before .before .before .loop .inv .1 p ps h) in let n = meets-record (c .before .before .before .before .before .before .before .before .args .t .now) p ps (c .before .before .before .before .before .loop .at) m (sym (glance-head (c .before .before .before .before .before .before .before .before .args .t .now) (c .before .before .before .before .before .loop .at) (x .0) (x .1) (c .before .before .before .glance-at2 .result) (c .before .before .before .glance-at2 .ensures)) ∙ ne-eqb _ _ (c .before .if1 .left)) in let e = glance-width (c .before .before .before .before .before .before .before .before .args .t .now) (c .before .before .before .before .before .loop .at) (x .0) (x .1) (c .before .before .before .glance-at2 .result) (c .before .before .before .glance-at2 .ensures) in omega (arith, n .fit, n .least, e))
+    (λ c. let (p, ps, h) = (c .before .before .before .before .before .before .before .before .pre) in let m = meets (c .before .before .before .before .before .before .before .before .args .t .now) p ps (c .before .before .before .before .before .loop .at) (c .before .before .before .before .loop-test .taken) (c .before .before .before .before .before .loop .inv .1 p ps h) in let x = meets-next (c .before .before .before .before .before .before .before .before .args .t .now) p ps (c .before .before .before .before .before .loop .at) (c .before .before .before .before .loop-test .taken) (c .before .before .before .before .before .loop .inv .1 p ps h) in let n = meets-record (c .before .before .before .before .before .before .before .before .args .t .now) p ps (c .before .before .before .before .before .loop .at) m (sym (glance-head (c .before .before .before .before .before .before .before .before .args .t .now) (c .before .before .before .before .before .loop .at) (x .0) (x .1) (c .before .before .before .glance-at2 .result) (c .before .before .before .glance-at2 .ensures)) ∙ ne-eqb _ _ (c .before .if1 .left)) in let e = glance-width (c .before .before .before .before .before .before .before .before .args .t .now) (c .before .before .before .before .before .loop .at) (x .0) (x .1) (c .before .before .before .glance-at2 .result) (c .before .before .before .glance-at2 .ensures) in (omega (arith, n .fit, e), λ p ps h. let m = meets (c .before .before .before .before .before .before .before .before .args .t .now) p ps (c .before .before .before .before .before .loop .at) (c .before .before .before .before .loop-test .taken) (c .before .before .before .before .before .loop .inv .1 p ps h) in let x = meets-next (c .before .before .before .before .before .before .before .before .args .t .now) p ps (c .before .before .before .before .before .loop .at) (c .before .before .before .before .loop-test .taken) (c .before .before .before .before .before .loop .inv .1 p ps h) in let n = meets-record (c .before .before .before .before .before .before .before .before .args .t .now) p ps (c .before .before .before .before .before .loop .at) m (sym (glance-head (c .before .before .before .before .before .before .before .before .args .t .now) (c .before .before .before .before .before .loop .at) (x .0) (x .1) (c .before .before .before .glance-at2 .result) (c .before .before .before .glance-at2 .ensures)) ∙ ne-eqb _ _ (c .before .if1 .left)) in rw (glance-width (c .before .before .before .before .before .before .before .before .args .t .now) (c .before .before .before .before .before .loop .at) (x .0) (x .1) (c .before .before .before .glance-at2 .result) (c .before .before .before .glance-at2 .ensures)) (n .more)))
     (λ c. λ p ps h. along-end (c .before .before .before .before .args .t .now) p ps (c .before .loop .at) (c .loop-test .left) (c .before .loop .inv .1 p ps h)))
