@@ -13,7 +13,7 @@ use Rattle.xliff.specs.Answer.{answer}
 use Rattle.xliff.specs.Parse.{is}
 use Rattle.xliff.specs.Check.{Valid}
 use Rattle.xliff.specs.Calls.{Call, SP, JN, ST, RT, RW, outcome, left, after, answers, Given, AllGiven, no-call, one-call}
-use Rattle.xliff.specs.Desk.{Request, lent, asked, request, request-among, line, table-line, table-length, answer-requests, desk-job, desk-with, desk, most-job}
+use Rattle.xliff.specs.Desk.{Request, lent, asked, request, line, table-line, table-length, answer-requests, desk-job, desk, most-job}
 use Rattle.xliff.specs.BothEnds.{Demand-3}
 use Rattle.xliff.proofs.lists.Tests.{byte-at}
 use Rattle.xliff.proofs.unit.Table.{bytes-drop}
@@ -68,16 +68,16 @@ calls-given (suc f) (b ∷ s) h = by (request (b ∷ s)) (request-given (b ∷ s
 printed : ℕ → List ℕ → ℕ → List ℕ → List ℕ
 printed f t at s = gather line (answers t (calls-from f s)) ++ (unreadable-from f at s ++ table-line (after t (calls-from f s)))
 
-lines-are : (f : ℕ) (t : List ℕ) (at : ℕ) (s : List ℕ) → answer-requests (λ c. true) f t at s ≡ printed f t at s
-unfolding answer-requests request-among calls-from unreadable-from answers after gather printed
+lines-are : (f : ℕ) (t : List ℕ) (at : ℕ) (s : List ℕ) → answer-requests f t at s ≡ printed f t at s
+unfolding answer-requests calls-from unreadable-from answers after gather printed
 lines-are zero t at s = refl
 lines-are (suc f) t at [] = refl
 lines-are (suc f) t at (b ∷ s) = by (request (b ∷ s)) refl (λ u i k. lines-are f u i (drop k (b ∷ s)))
   where
-    by : (o : Option Request) → request (b ∷ s) ≡ o → ((u : List ℕ) (i k : ℕ) → answer-requests (λ c. true) f u i (drop k (b ∷ s)) ≡ printed f u i (drop k (b ∷ s)))
-        → answer-requests (λ c. true) (suc f) t at (b ∷ s) ≡ printed (suc f) t at (b ∷ s)
-    by none e rest = rw (answer-requests, request-among, printed, calls-from, unreadable-from, e) refl
-    by (some r) e rest = rw (answer-requests, request-among, printed, calls-from, unreadable-from, e)
+    by : (o : Option Request) → request (b ∷ s) ≡ o → ((u : List ℕ) (i k : ℕ) → answer-requests f u i (drop k (b ∷ s)) ≡ printed f u i (drop k (b ∷ s)))
+        → answer-requests (suc f) t at (b ∷ s) ≡ printed (suc f) t at (b ∷ s)
+    by none e rest = rw (answer-requests, printed, calls-from, unreadable-from, e) refl
+    by (some r) e rest = rw (answer-requests, printed, calls-from, unreadable-from, e)
         (ap (λ (l : List ℕ). line (answer (outcome t (r .call))) ++ l) (rest (left t (r .call)) (at + r .size) (r .size))
         ∙ sym (append-assoc (line (answer (outcome t (r .call)))) (gather line (answers (left t (r .call)) (calls-from f (drop (r .size) (b ∷ s))))) _))
 
@@ -95,7 +95,7 @@ given-calls job h = calls-given (length job) (drop (table-length job) job) (byte
 
 desk-prints : (input : List ℕ) → Valid (sent (job-of input))
     → desk input ≡ gather line (answers (sent (job-of input)) (calls (job-of input))) ++ (unreadable (job-of input) ++ table-line (after (sent (job-of input)) (calls (job-of input))))
-unfolding desk desk-with desk-job Valid sent calls unreadable printed job-of
+unfolding desk desk-job Valid sent calls unreadable printed job-of
 desk-prints input v =
     rw (desk-job, v)
     (lines-are (length (take most-job input)) (take (table-length (take most-job input)) (take most-job input)) (table-length (take most-job input)) (drop (table-length (take most-job input)) (take most-job input)))

@@ -12,7 +12,6 @@ use Rattle.xliff.specs.Parse.{most-bytes}
 use Rattle.xliff.proofs.unit.Result.{then-left, applies-none}
 use lib.Dec.{ltb}
 use borrow.Author.Tests.{ltb-false}
-use Rattle.job.specs.Job.{every}
 use Rattle.outcomes.proofs.OutcomeLaws.{accepted-none, refused-some}
 
 -- an accepted table has at most 8,192 bytes
@@ -21,20 +20,20 @@ unfolding table-refusal
 accepted-small t m h = ltb-false most-bytes (length t) (applies-none 1 (ltb most-bytes (length t)) (then-left _ _ (accepted-none t m h)))
 
 accepted-here : (job t : List ℕ) (m : ℕ) → t ≡ take (table-length job) job → spec.accepted m ≡ check t
-    → desk-job every job ≡ answer-requests every (length job) (take (table-length job) job) (table-length job) (drop (table-length job) job)
+    → desk-job job ≡ answer-requests (length job) (take (table-length job) job) (table-length job) (drop (table-length job) job)
 unfolding desk-job
 accepted-here job t m e h = rw (desk-job, ap table-refusal (sym e) ∙ accepted-none t m h) refl
 
-refused-here : (job t : List ℕ) (k at : ℕ) → t ≡ take (table-length job) job → spec.refused k at ≡ check t → desk-job every job ≡ line (spec.refused k at)
+refused-here : (job t : List ℕ) (k at : ℕ) → t ≡ take (table-length job) job → spec.refused k at ≡ check t → desk-job job ≡ line (spec.refused k at)
 unfolding desk-job
 refused-here job t k at e h = rw (desk-job, ap table-refusal (sym e) ∙ refused-some t k at h) refl
 
 module _ (job : List ℕ) (n : ℕ) (e : n ≡ table-length job) where
-  pub job-accepted : (m : ℕ) → spec.accepted m ≡ check (take n job) → desk-job every job ≡ answer-requests every (length job) (take n job) n (drop n job)
+  pub job-accepted : (m : ℕ) → spec.accepted m ≡ check (take n job) → desk-job job ≡ answer-requests (length job) (take n job) n (drop n job)
   job-accepted m h =
-      accepted-here job (take n job) m (ap (λ (k : ℕ). take k job) e) h ∙ ap (λ (k : ℕ). answer-requests every (length job) (take k job) k (drop k job)) (sym e)
+      accepted-here job (take n job) m (ap (λ (k : ℕ). take k job) e) h ∙ ap (λ (k : ℕ). answer-requests (length job) (take k job) k (drop k job)) (sym e)
 
-  pub job-refused : (k at : ℕ) → spec.refused k at ≡ check (take n job) → desk-job every job ≡ line (spec.refused k at)
+  pub job-refused : (k at : ℕ) → spec.refused k at ≡ check (take n job) → desk-job job ≡ line (spec.refused k at)
   job-refused k at h = refused-here job (take n job) k at (ap (λ (k : ℕ). take k job) e) h
 
 -- what is printed lies within the output

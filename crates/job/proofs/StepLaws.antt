@@ -1,23 +1,22 @@
 -- One request after the other.
 use Prim.Native.Nat.{ℕ, zero, suc, _+_, _-_, _≤_, _<_}
 use mathlib.Core.Path.{_≡_, refl, sym, ap, ap₂, subst, _∙_}
-use mathlib.Core.Bool.{cond}
 use mathlib.Core.List.{List, [], _∷_, _++_, append-assoc}
-use mathlib.Core.Option.{Option, none, some}
+use mathlib.Core.Option.{none, some}
 use native.Mathlib.Omega.{arith}
 use lib.ListN.{length, take, drop, length-drop, length-append, drop-of-length-le}
 use lib.Seq.{length-take-le, take-append-seam, drop-drop}
 use Rattle.xliff.specs.Answer as spec
 use Rattle.xliff.specs.Answer.{Outcome, result, refuse, answer, output, next-table}
 use Rattle.xliff.specs.Calls.{outcome, left}
-use Rattle.xliff.specs.Desk.{Request, request, request-among, answer-requests, line, table-line}
+use Rattle.xliff.specs.Desk.{Request, request, answer-requests, line, table-line}
 use Rattle.answers.specs.declared.Answer.{Answer}
 use Rattle.answers.specs.declared.Answer.the-variants.{Accepted, Refused}
 use Rattle.writer.specs.Pieces.{lead}
 use Rattle.xliff.proofs.lists.Slices.{tail-is}
 use Rattle.writer.proofs.PieceLaws.{tail-ends, two-back}
 use Rattle.outcomes.specs.Outcomes.{Answers}
-use Rattle.job.specs.Job.{every, FitsIn, kept-table}
+use Rattle.job.specs.Job.{FitsIn, kept-table}
 
 clash : {A : Type 0} {n m k : ℕ} → spec.accepted n ≡ spec.refused m k → A
 clash e = absurd (let z : _≡_ {A = ℕ} 0 1 = cc in omega arith)
@@ -50,42 +49,33 @@ pub put-keeps : (table work last : List ℕ) (m r : ℕ) → m ≤ length work �
     → (take r last ≡ take m work) × (r ≤ 8192)
 put-keeps table work last m r h k e f = (head-by (take m work) table last r e f, omega (arith, e, length-take-le m work h, h, k))
 
--- no request is for an operation that the program lacks
-all-read : (s : List ℕ) → request-among every s ≡ request s
-unfolding request-among
-all-read s = by (request s)
-  where
-    by : (o : Option Request) → _≡_ {A = Option Request} (elim o [ none ↦ none | some r ↦ cond (every (r .call)) (some r) none ]) o
-    by none = refl
-    by (some r) = refl
-
 -- the first of the requests
 requests-on : (f : ℕ) (t : List ℕ) (at : ℕ) (s : List ℕ) (q : Request) → 1 ≤ f → 1 ≤ length s → some q ≡ request s
-    → answer-requests every f t at s ≡ line (answer (outcome t (q .call))) ++ answer-requests every (f - 1) (left t (q .call)) (at + q .size) (drop (q .size) s)
+    → answer-requests f t at s ≡ line (answer (outcome t (q .call))) ++ answer-requests (f - 1) (left t (q .call)) (at + q .size) (drop (q .size) s)
 unfolding answer-requests
 requests-on zero t at s q h k e = absurd (omega arith)
 requests-on (suc f) t at [] q h k e = absurd (omega arith)
 requests-on (suc f) t at (b ∷ s) q h k e =
     let z : suc f - 1 ≡ f = omega arith in
-    rw (answer-requests, all-read (b ∷ s) ∙ sym e)
-    (ap (λ (i : ℕ). line (answer (outcome t (q .call))) ++ answer-requests every i (left t (q .call)) (at + q .size) (drop (q .size) (b ∷ s))) (sym z))
+    rw (answer-requests, sym e)
+    (ap (λ (i : ℕ). line (answer (outcome t (q .call))) ++ answer-requests i (left t (q .call)) (at + q .size) (drop (q .size) (b ∷ s))) (sym z))
 
 requests-stop : (f : ℕ) (t : List ℕ) (at : ℕ) (s : List ℕ) → 1 ≤ f → 1 ≤ length s → none ≡ request s
-    → answer-requests every f t at s ≡ line (spec.refused 2 at) ++ table-line t
+    → answer-requests f t at s ≡ line (spec.refused 2 at) ++ table-line t
 unfolding answer-requests
 requests-stop zero t at s h k e = absurd (omega arith)
 requests-stop (suc f) t at [] h k e = absurd (omega arith)
-requests-stop (suc f) t at (b ∷ s) h k e = rw (answer-requests, all-read (b ∷ s) ∙ sym e) refl
+requests-stop (suc f) t at (b ∷ s) h k e = rw (answer-requests, sym e) refl
 
-requests-end : (f : ℕ) (t : List ℕ) (at : ℕ) (s : List ℕ) → s ≡ [] → answer-requests every f t at s ≡ table-line t
+requests-end : (f : ℕ) (t : List ℕ) (at : ℕ) (s : List ℕ) → s ≡ [] → answer-requests f t at s ≡ table-line t
 unfolding answer-requests
 requests-end zero t at s e = refl
 requests-end (suc f) t at s e = rw e refl
 
 -- the requests of the table at the head of a buffer are those of the table itself
 pub same-requests : (job table : List ℕ) (m n : ℕ) → m ≡ n → take m table ≡ take n job
-    → answer-requests every (length job) (take m table) m (drop m job) ≡ answer-requests every (length job) (take n job) n (drop n job)
-same-requests job table m n e f = ap₂ (λ (t : List ℕ) (k : ℕ). answer-requests every (length job) t k (drop k job)) f e
+    → answer-requests (length job) (take m table) m (drop m job) ≡ answer-requests (length job) (take n job) n (drop n job)
+same-requests job table m n e f = ap₂ (λ (t : List ℕ) (k : ℕ). answer-requests (length job) t k (drop k job)) f e
 
 -- a tail that was lent keeps its length, and so the output
 pub back-length : (out last : List ℕ) (k : ℕ) → k ≤ length out → length last ≡ length (take (length out - k) (drop k out))
@@ -102,7 +92,7 @@ pub record Printed (job first : List ℕ) (n : ℕ) (out₀ out table : List ℕ
   pub wrote : out ≡ lead lines out₀
   pub steps : ℕ
   pub enough : length job ≤ at + steps
-  pub same : lines ++ answer-requests every steps (take m table) at (drop at job) ≡ answer-requests every (length job) (take n first) n (drop n job)
+  pub same : lines ++ answer-requests steps (take m table) at (drop at job) ≡ answer-requests (length job) (take n first) n (drop n job)
 
 module _ (job first : List ℕ) (n : ℕ) (out₀ : List ℕ) where
   pub printed-start : Printed job first n out₀ out₀ first n n 0
@@ -125,7 +115,7 @@ module _ (job first : List ℕ) (n : ℕ) (out₀ : List ℕ) where
           same =
               append-assoc (p .lines) (line (answer (outcome (take m table) (q .call)))) _
               ∙ ap (λ (l : List ℕ). p .lines ++ (line (answer (outcome (take m table) (q .call))) ++ l))
-              (ap₂ (λ (t s : List ℕ). answer-requests every (p .steps - 1) t (at + q .size) s) v (sym (drop-drop (q .size) at job)))
+              (ap₂ (λ (t s : List ℕ). answer-requests (p .steps - 1) t (at + q .size) s) v (sym (drop-drop (q .size) at job)))
               ∙ ap (λ (l : List ℕ). p .lines ++ l)
               (sym (requests-on (p .steps) (take m table) at (drop at job) q (omega (arith, p .enough, h)) (omega (arith, length-drop at job, h)) e))
               ∙ p .same;
@@ -142,21 +132,21 @@ module _ (job first : List ℕ) (n : ℕ) (out₀ : List ℕ) where
 
     -- the last lines
     module _ (last : List ℕ) (k′ : ℕ) (piece : List ℕ) (l : k′ ≡ length piece) (w : last ≡ lead piece (take (length out - k) (drop k out))) where
-      ends-by : answer-requests every (p .steps) (take m table) at (drop at job) ≡ piece
-          → (k + k′ ≡ length (answer-requests every (length job) (take n first) n (drop n job)))
-          × (take k out ++ (last ++ drop (length out - k) (drop k out)) ≡ lead (answer-requests every (length job) (take n first) n (drop n job)) out₀)
+      ends-by : answer-requests (p .steps) (take m table) at (drop at job) ≡ piece
+          → (k + k′ ≡ length (answer-requests (length job) (take n first) n (drop n job)))
+          × (take k out ++ (last ++ drop (length out - k) (drop k out)) ≡ lead (answer-requests (length job) (take n first) n (drop n job)) out₀)
       ends-by e =
-          let z : p .lines ++ piece ≡ answer-requests every (length job) (take n first) n (drop n job) = ap (λ (x : List ℕ). p .lines ++ x) (sym e) ∙ p .same in (
+          let z : p .lines ++ piece ≡ answer-requests (length job) (take n first) n (drop n job) = ap (λ (x : List ℕ). p .lines ++ x) (sym e) ∙ p .same in (
             omega (arith, p .long, l, length-append (p .lines) piece, ap length z),
             two-back out₀ (p .lines) piece out last k (p .long) (p .wrote) w ∙ ap (λ (x : List ℕ). lead x out₀) z,
           )
 
       pub printed-stop : at < length job → none ≡ request (drop at job) → piece ≡ line (spec.refused 2 at) ++ table-line (take m table)
-          → (k + k′ ≡ length (answer-requests every (length job) (take n first) n (drop n job)))
-          × (take k out ++ (last ++ drop (length out - k) (drop k out)) ≡ lead (answer-requests every (length job) (take n first) n (drop n job)) out₀)
+          → (k + k′ ≡ length (answer-requests (length job) (take n first) n (drop n job)))
+          × (take k out ++ (last ++ drop (length out - k) (drop k out)) ≡ lead (answer-requests (length job) (take n first) n (drop n job)) out₀)
       printed-stop h e f = ends-by (requests-stop (p .steps) (take m table) at (drop at job) (omega (arith, p .enough, h)) (omega (arith, length-drop at job, h)) e ∙ sym f)
 
       pub printed-end : length job ≤ at → piece ≡ table-line (take m table)
-          → (k + k′ ≡ length (answer-requests every (length job) (take n first) n (drop n job)))
-          × (take k out ++ (last ++ drop (length out - k) (drop k out)) ≡ lead (answer-requests every (length job) (take n first) n (drop n job)) out₀)
+          → (k + k′ ≡ length (answer-requests (length job) (take n first) n (drop n job)))
+          × (take k out ++ (last ++ drop (length out - k) (drop k out)) ≡ lead (answer-requests (length job) (take n first) n (drop n job)) out₀)
       printed-end h f = ends-by (requests-end (p .steps) (take m table) at (drop at job) (drop-of-length-le job h) ∙ sym f)

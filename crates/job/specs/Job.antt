@@ -1,7 +1,6 @@
 -- What one request comes to: its line, and the table that it leaves.
 use Prim.Native.Nat.{ℕ, _≤_}
 use mathlib.Core.Path.{_≡_}
-use mathlib.Core.Bool.{Bool, true}
 use mathlib.Core.List.{List}
 use lib.ListN.{length, take}
 use Rattle.xliff.specs.Answer.{answer}
@@ -11,10 +10,6 @@ use Rattle.answers.specs.declared.Answer.{Answer}
 use Rattle.answers.specs.declared.Answer.the-variants.{Accepted, Refused}
 use Rattle.writer.specs.Pieces.{lead}
 use Rattle.job.specs.declared.Step.{Step}
-
--- the program has every operation
-abbrev pub every : Call → Bool
-every c = true
 
 -- an accepted length within the lent output
 abbrev pub FitsIn : Answer → Type 0

@@ -12,7 +12,7 @@ ghost use Rattle.xliff.specs.Desk.{line, table-line, table-length, answer-reque
 ghost use Rattle.answers.specs.Answers.{answer-meaning};
 ghost use Rattle.writer.specs.Pieces.{lead};
 ghost use Rattle.requests.specs.Requests.{request-size, call-of};
-ghost use Rattle.job.specs.Job.{every, FitsIn, kept-table, Performed};
+ghost use Rattle.job.specs.Job.{FitsIn, kept-table, Performed};
 
 // What a request printed, and the length of the table that it left.
 pub struct Step {
@@ -59,7 +59,7 @@ fn put_unreadable(out: &mut [u8], at: usize, t: &[u8]) -> usize
 // No line is longer than 48 bytes and no request shorter than 4.
 fn put_requests(job: &[u8], n: usize, table: &mut [u8], out: &mut [u8]) -> usize
     requires { ⌜ (n ≤ length (now job)) × (n ≤ 8192) × (length (now job) ≤ 65535) × (length (now table) ≡ 8192) × (length (now out) ≡ 1048576) ⌝ }
-    ensures { λ r. ⌜ (r ≡ length (answer-requests every (length (now (job .entry))) (take n (now (table .entry))) n (drop n (now (job .entry))))) × (now (out .exit) ≡ lead (answer-requests every (length (now (job .entry))) (take n (now (table .entry))) n (drop n (now (job .entry)))) (now (out .entry))) ⌝ }
+    ensures { λ r. ⌜ (r ≡ length (answer-requests (length (now (job .entry))) (take n (now (table .entry))) n (drop n (now (job .entry))))) × (now (out .exit) ≡ lead (answer-requests (length (now (job .entry))) (take n (now (table .entry))) n (drop n (now (job .entry)))) (now (out .entry))) ⌝ }
 {
     let mut at = n;
     let mut m = n;
@@ -83,7 +83,7 @@ fn put_requests(job: &[u8], n: usize, table: &mut [u8], out: &mut [u8]) -> usize
 // The requests of a job whose table, its first `n` bytes, is accepted.
 fn put_accepted(job: &[u8], n: usize, out: &mut [u8]) -> usize
     requires { ⌜ (n ≤ length (now job)) × (n ≤ 8192) × (length (now job) ≤ 65535) × (length (now out) ≡ 1048576) ⌝ }
-    ensures { λ r. ⌜ (r ≡ length (answer-requests every (length (now (job .entry))) (take n (now (job .entry))) n (drop n (now (job .entry))))) × (now (out .exit) ≡ lead (answer-requests every (length (now (job .entry))) (take n (now (job .entry))) n (drop n (now (job .entry)))) (now (out .entry))) ⌝ }
+    ensures { λ r. ⌜ (r ≡ length (answer-requests (length (now (job .entry))) (take n (now (job .entry))) n (drop n (now (job .entry))))) × (now (out .exit) ≡ lead (answer-requests (length (now (job .entry))) (take n (now (job .entry))) n (drop n (now (job .entry)))) (now (out .entry))) ⌝ }
 {
     let mut table = [0u8; 8192];
     let m = writer::put(&mut table, &job[..n]);
@@ -92,7 +92,7 @@ fn put_accepted(job: &[u8], n: usize, out: &mut [u8]) -> usize
 
 fn put_answers(job: &[u8], n: usize, a: Answer, out: &mut [u8]) -> usize
     requires { ⌜ (n ≡ table-length (now job)) × (n ≤ length (now job)) × (length (now job) ≤ 65535) × (length (now out) ≡ 1048576) × (answer-meaning a ≡ check (take n (now job))) ⌝ }
-    ensures { λ r. ⌜ (r ≡ length (desk-job every (now (job .entry)))) × (now (out .exit) ≡ lead (desk-job every (now (job .entry))) (now (out .entry))) ⌝ }
+    ensures { λ r. ⌜ (r ≡ length (desk-job (now (job .entry)))) × (now (out .exit) ≡ lead (desk-job (now (job .entry))) (now (out .entry))) ⌝ }
 {
     match a {
         Answer::Accepted(_) => put_accepted(job, n, out),
@@ -102,7 +102,7 @@ fn put_answers(job: &[u8], n: usize, a: Answer, out: &mut [u8]) -> usize
 
 fn run_job(job: &[u8], out: &mut [u8]) -> usize
     requires { ⌜ (length (now job) ≤ 65535) × (length (now out) ≡ 1048576) ⌝ }
-    ensures { λ r. ⌜ (r ≡ length (desk-job every (now (job .entry)))) × (now (out .exit) ≡ lead (desk-job every (now (job .entry))) (now (out .entry))) ⌝ }
+    ensures { λ r. ⌜ (r ≡ length (desk-job (now (job .entry)))) × (now (out .exit) ≡ lead (desk-job (now (job .entry))) (now (out .entry))) ⌝ }
 {
     let n = job_table::table_length(job);
     put_answers(job, n, table_check::check(&job[..n]), out)
