@@ -42,4 +42,3 @@ TargetAddedIs t place k n = (b : List Part) (p : Part) (a : List Part) → PartS
 
 abbrev pub AddedIs : List ℕ → PartPlace → ℕ → ℕ → ℕ → Type 0
 AddedIs t place k j n = (b : List Part) (p : Part) (a : List Part) → PartStands t b p a place → PartAdded k j p n
-
