@@ -10,7 +10,7 @@ use Rattle.xliff.specs.Item.{Item, Content, start, end, form-P, form-S, text, c
 use Rattle.xliff.specs.Encode.{Record, text-run, inline, code-bytes, field-bytes, record-bytes, spell, content-records, content-bytes, item-before}
 use Rattle.xliff.specs.Parse.{reading, take-record}
 use Rattle.xliff.specs.Split.{cut-item}
-use Rattle.xliff.proofs.lists.Tests.{two-value}
+use Rattle.xliff.proofs.lists.Tests.{two-value, and-false}
 use Rattle.xliff.proofs.records.Read.{GoodItem}
 use Rattle.xliff.proofs.unit.Table.{starts-text, content-records-text}
 use Rattle.walk.specs.Kept.{Kept, kept-end, kept-item, kept-text, items, Inline, an-item, a-text}
@@ -19,10 +19,6 @@ use Rattle.walk.proofs.WalkLaws.{inline-least}
 use Rattle.writer.specs.Pieces.{lead, overlay, numberBytes}
 use Rattle.writer.proofs.PieceLaws.{over-lead, two-back}
 use Rattle.cut.specs.Turned.{turnIf, formP, startOrEnd, codeOrMark, cut-record, cut-records, One, textPiece}
-
-and-false : (a : Bool) → a && false ≡ false
-and-false true = refl
-and-false false = refl
 
 and-true : (a : Bool) → a && true ≡ a
 and-true true = refl

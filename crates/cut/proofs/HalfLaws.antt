@@ -107,7 +107,7 @@ text-instead b [] cs rs e es (kept-text a l k) p q = kept-text p q kept-end
 text-instead b (inline x ∷ us) cs rs e es (kept-item g k) p q = kept-item g (text-instead false us cs rs e es k p q)
 text-instead b (text-run ds ∷ us) cs rs e es (kept-text a l k) p q = kept-text a l (text-instead true us cs rs e es k p q)
 
-length-texts : (cs : List ℕ) → length (map text cs) ≡ length cs
+pub length-texts : (cs : List ℕ) → length (map text cs) ≡ length cs
 length-texts [] = refl
 length-texts (c ∷ cs) = ap suc (length-texts cs)
 
@@ -421,7 +421,6 @@ module _ (k : ℕ) (c : List ℕ) (xs : Content) (p : Place) (s : Sides k c xs p
       by zero e = omega (arith, second-size-0 k c xs p s e)
       by (suc n) e = second-size-1 k c xs p s (omega arith)
 
--- for the code: slices and the rest of an output
 -- the records behind the text, where its width is known
 pub rest-at : (k : ℕ) (c : List ℕ) (xs : Content) (p : Place) (a b : List Record) (i : Inner k c xs p a b) (w : ℕ) → w ≡ widthAt (drop (p .at) c) → Of (drop (p .at + w) c) (i .others)
 rest-at k c xs p a b i w e = subst (λ (n : ℕ). Of (drop (p .at + n) c) (i .others)) (sym (e ∙ i .width)) (i .rest)

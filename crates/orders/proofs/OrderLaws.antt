@@ -29,10 +29,10 @@ use Rattle.orders.specs.Heads.{orderIn, orderOf, orderBy}
 use Rattle.orders.specs.declared.Order.the-variants.{Is, Not}
 use Rattle.orders.proofs.WalkLaws.{Stepped, Walked}
 
-is-not : {A : Type 0} {q : ℕ} → Not ≡ Is q → A
+pub is-not : {A : Type 0} {q : ℕ} → Not ≡ Is q → A
 is-not e = absurd (let z : _≡_ {A = ℕ} 0 1 = cc in omega arith)
 
-is-is : {q k : ℕ} → Is k ≡ Is q → k ≡ q
+pub is-is : {q k : ℕ} → Is k ≡ Is q → k ≡ q
 is-is e = cc
 
 order-target : (cs : List ℕ) (r : Read) (q : ℕ) → orderOf r ≡ Is q → meaning cs r ≡ target-head q
@@ -102,10 +102,6 @@ bad-same n k used us l m = ap (λ (b : Bool). eqb k 0 || b) (by (ltb n k) refl)
     by : (b : Bool) → ltb n k ≡ b → b || eqb (getD used k 0) 1 ≡ b || among k us
     by true e = refl
     by false e = m k (omega (arith, ltb-false n k e))
-
-pub or-true : (b : Bool) → b || true ≡ true
-or-true true = refl
-or-true false = refl
 
 pub marked-more : (used us : List ℕ) (k : ℕ) → Marked used us → k < length used → Marked (set used k 1) (k ∷ us)
 unfolding among

@@ -18,6 +18,7 @@ use Rattle.table.specs.declared.Read.the-variants.{Good, Ill, Broken}
 use Rattle.orders.specs.Heads.{orderOf}
 use Rattle.orders.specs.declared.Order.{Order}
 use Rattle.orders.specs.declared.Order.the-variants.{Is, Not}
+use Rattle.orders.proofs.OrderLaws.{is-not, is-is}
 use Rattle.part_at.specs.declared.PartPlace.{PartPlace}
 use Rattle.part_at.specs.Content.{is-content, outer, ContentAt, ContentEnds}
 use Rattle.part_at.specs.Stands.{Begins, part-next, end-next, TargetAt, TargetSpan, TargetSpans, PartFrom, PartSpans}
@@ -44,12 +45,6 @@ order-same cs (Good Text w) = refl
 order-same cs (Good (Inline i) w) = refl
 order-same cs Ill = refl
 order-same cs (Broken b) = refl
-
-is-not : {A : Type 0} {q : ℕ} → Not ≡ Is q → A
-is-not e = absurd (let z : _≡_ {A = ℕ} 0 1 = cc in omega arith)
-
-is-is : {q k : ℕ} → Is k ≡ Is q → k ≡ q
-is-is e = cc
 
 outer-begins : (rest : List encode.Record) → Begins rest → outer rest ≡ true
 unfolding outer is-content

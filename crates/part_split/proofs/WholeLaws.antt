@@ -11,10 +11,10 @@ use Rattle.xliff.specs.Item.{Item, Content, start, end, form-P, form-S, text, c
 use Rattle.xliff.specs.Unit.{Head, segment, ignorable, Target, no-target, target, Part}
 use Rattle.xliff.specs.Encode.{Record, text-run, inline, record-bytes, head-bytes, content-records, content-bytes, target-records, spell}
 use Rattle.xliff.proofs.records.Read.{GoodItem}
-use Rattle.walk.specs.Kept.{Kept, kept-item, kept-text, Inline, an-item, a-text}
+use Rattle.walk.specs.Kept.{Kept, Inline, an-item, a-text}
 use Rattle.walk.specs.Marks.{marked, number, widthAt}
 use Rattle.xliff.proofs.lists.Slices.{tail-is}
-use Rattle.walk.proofs.WalkLaws.{inline-width, inline-least}
+use Rattle.walk.proofs.WalkLaws.{inline-width, inline-least, kept-first}
 use Rattle.xliff.proofs.unit.Pieces.{spell-append, part-bytes}
 use Rattle.parts.specs.Parts.{GoodTarget}
 use Rattle.halves_of_part.specs.Parts.{TargetIs, PartIs}
@@ -75,10 +75,6 @@ pub data Meets (t : List ℕ) (rs : List Record) (u : List ℕ) (at : ℕ) : Typ
   record-next : marked (drop at t) 84 71 ≡ false → 4 ≤ length (drop at t) → 4 ≤ widthAt (drop at t) → at + widthAt (drop at t) ≤ length t → Along t rs u (at + widthAt (drop at t)) → Meets t rs u at
   target-next : marked (drop at t) 84 71 ≡ true → 4 ≤ length (drop at t) → at ≡ length (spell rs) → Meets t rs u at
 
-kept-one : (b : Bool) (r : Record) (rs : List Record) → Kept b (r ∷ rs) → Inline r × ((a : Bool) × Kept a rs)
-kept-one b r rs (kept-item g k) = (an-item g, (false, k))
-kept-one b r rs (kept-text a l k) = (a-text a l, (true, k))
-
 meets-by : (t : List ℕ) (rs : List Record) (u : List ℕ) (g : Target) (at : ℕ) → at < length t → TargetIs u g → (before after : List Record) (b : Bool) → Kept b after → rs ≡ before ++ after
     → drop at t ≡ spell after ++ u → at ≡ length (spell before) → Meets t rs u at
 unfolding spell gather
@@ -88,7 +84,7 @@ meets-by t rs u g at h i before [] b k all bytes offset =
     target-next (ap (λ (l : List ℕ). marked l 84 71) bytes ∙ m .0) (omega (arith, m .1))
     (offset ∙ ap (λ (l : List Record). length (spell l)) (sym (all ∙ append-nil before)))
 meets-by t rs u g at h i before (r ∷ after) b k all bytes offset =
-    let (q, (c, k2)) = kept-one b r after k in
+    let (q, (c, k2)) = kept-first b r after k in
     let e : drop at t ≡ record-bytes r ++ (spell after ++ u) = bytes ∙ append-assoc (record-bytes r) (spell after) u in
     let w : widthAt (drop at t) ≡ length (record-bytes r) = ap widthAt e ∙ inline-width r (spell after ++ u) q in
     let l : 4 ≤ length (record-bytes r) = inline-least r q in

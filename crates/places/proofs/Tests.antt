@@ -11,8 +11,8 @@ use Rattle.xliff.specs.Unit.{Part}
 use Rattle.xliff.specs.Encode.{Record, opening, closing, part-head, target-head, text-run, inline, ill-text, broken, record-bytes, unit-records}
 use Rattle.xliff.specs.Parse.{read, unit}
 use Rattle.xliff.specs.Unit.{source-sequence}
-use Rattle.xliff.specs.Sequences.{Placed, located, located-from, part-size, target-at, blamed, items, placed-source-sequence, placed-of-order, placed-targets, placed-target-sequence}
-use Rattle.xliff.proofs.rules.Sequences.{items-source}
+use Rattle.xliff.specs.Sequences.{Placed, located, target-at, blamed, items, placed-source-sequence, placed-of-order, placed-targets, placed-target-sequence}
+use Rattle.xliff.proofs.rules.Sequences.{items-source, length-from}
 use Rattle.xliff.proofs.lists.Tests.{map-append, gather-append}
 use Rattle.places.specs.Passes.{Passes}
 use Rattle.places.proofs.Places.{At, at-start, at-next}
@@ -20,7 +20,7 @@ use Rattle.places.specs.Found.{marker, no-marker, markers, marks-found, 
 use Rattle.places.proofs.Found.{source-marks, order-marks}
 use Rattle.places.specs.Markers.{is-marked, marked, OnMarks, item-in, item-at, placed-at, target-offsets}
 
-marked-items : (ps : List Placed) → items (markers ps) ≡ marked (items ps)
+pub marked-items : (ps : List Placed) → items (markers ps) ≡ marked (items ps)
 unfolding items markers marked gather keep marker is-marked
 marked-items [] = refl
 marked-items (p ∷ ps) = by (not (eqb (class (p .item)) 0)) (marked-items ps)
@@ -122,11 +122,6 @@ unfolding marked keep placed-target-sequence
 target-blamed t p bad bad′ o =
     blamed-marks bad bad′ o [] (placed-targets (located (unit t .parts)) 0 (length (located (unit t .parts))))
     ∙ ap (blamed bad′ []) (sym (targets-back t p 0 (length (located (unit t .parts)))))
-
-length-from : (at : ℕ) (ps : List Part) → length (located-from at ps) ≡ length ps
-unfolding located-from
-length-from at [] = refl
-length-from at (p ∷ ps) = ap suc (length-from (at + part-size p) ps)
 
 pub length-located : (ps : List Part) → length (located ps) ≡ length ps
 unfolding located

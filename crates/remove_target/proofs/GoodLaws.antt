@@ -1,21 +1,19 @@
 -- The unit without the target: its parts are good, and it is within the limits.
 use Prim.Native.Nat.{ℕ, _+_, _≤_}
-use mathlib.Core.Path.{_≡_, ap, _∙_, subst}
+use mathlib.Core.Path.{_≡_, ap, subst}
 use mathlib.Core.List.{List, [], _∷_, _++_}
 use mathlib.Core.Option.{none}
 use native.Mathlib.Omega.{arith}
 use lib.ListN.{length, getD, length-append}
 use mir.Val.{Fits}
 use mir.Syntax.{w8}
-use Rattle.xliff.specs.Bytes.{gather}
 use Rattle.xliff.specs.Unit.{Part, XliffUnit}
-use Rattle.xliff.specs.Encode.{Record, closing, content-records, target-records, part-records, unit-records}
+use Rattle.xliff.specs.Encode.{content-records, target-records, part-records, unit-records}
 use Rattle.xliff.specs.Parse.{unit}
 use Rattle.xliff.specs.Check.{Valid, table-refusal}
 use Rattle.xliff.specs.Focus.{with-parts}
 use Rattle.xliff.specs.RemoveTarget.{remove-focus}
 use Rattle.xliff.proofs.lists.Each.{each-cons, each-append, each-apart}
-use Rattle.xliff.proofs.lists.Tests.{gather-append}
 use Rattle.xliff.proofs.unit.Valid.{GoodParts, heads-unit}
 use Rattle.xliff.proofs.operations.RemoveValid.{initial-good}
 use Rattle.xliff.proofs.unit.Result.{Sent, sent, small-table}
@@ -27,31 +25,18 @@ use Rattle.part_at.proofs.CheckedLaws.{table-passes}
 use Rattle.result_rules.proofs.GoodLaws.{GoodUnit}
 use Rattle.removed_target.specs.Removed.{removed-unit}
 use Rattle.removed_target.proofs.RemovedLaws.{bared, in-order, removed-long}
-
--- the records of parts
-abbrev count : List Part → ℕ
-count ps = length (gather part-records ps)
-
-count-at : (b : List Part) (p : Part) (a : List Part) → count (b ++ (p ∷ a)) ≡ count b + (length (part-records p) + count a)
-unfolding gather
-count-at b p a =
-    ap (λ (l : List Record). length l) (gather-append part-records b (p ∷ a)) ∙ length-append (gather part-records b) (gather part-records (p ∷ a))
-    ∙ ap (λ (n : ℕ). count b + n) (length-append (part-records p) (gather part-records a))
+use Rattle.record_count.proofs.CountLaws.{count, count-append, count-cons, unit-count}
 
 bared-fewer : (p : Part) → length (part-records (bared p)) ≤ length (part-records p)
 unfolding part-records target-records
 bared-fewer p = omega (arith, length-append (content-records (p .source)) [], length-append (content-records (p .source)) (target-records (p .target)))
-
-unit-count : (u : XliffUnit) → length (unit-records u) ≡ 2 + count (u .parts)
-unfolding unit-records
-unit-count u = omega (arith, length-append (gather part-records (u .parts)) (closing ∷ []))
 
 module _ (u : XliffUnit) (b : List Part) (p : Part) (a : List Part) (e : u .parts ≡ b ++ (p ∷ a)) where
   fewer-records : length (unit-records (removed-unit u b p a)) ≤ length (unit-records u)
   unfolding removed-unit with-parts remove-focus
   fewer-records =
       let z : count (u .parts) ≡ count (b ++ (p ∷ a)) = ap count e in
-      omega (arith, z, unit-count (removed-unit u b p a), unit-count u, count-at b (bared p) a, count-at b p a, bared-fewer p)
+      omega (arith, z, unit-count (removed-unit u b p a), unit-count u, count-append b (bared p ∷ a), count-cons (bared p) a, count-append b (p ∷ a), count-cons p a, bared-fewer p)
 
   same-parts : length (removed-unit u b p a .parts) ≡ length (u .parts)
   unfolding removed-unit with-parts remove-focus

@@ -22,13 +22,12 @@ use Rattle.walk.proofs.TextLaws.{utf8s-append, utf8-some}
 use Rattle.walk.proofs.PlaceLaws.{kept-items, kept-front, kept-back}
 use Rattle.cut.specs.Turned.{cut-records}
 use Rattle.cut.proofs.CutLaws.{cut-kept, cut-items, kept-records}
-use Rattle.cut.proofs.HalfLaws.{items-of, weaken, sides, first-size-0, first-size-1, second-size-0, second-size-1}
+use Rattle.cut.proofs.HalfLaws.{items-of, weaken, sides, first-size-0, first-size-1, second-size-0, second-size-1, length-texts}
 use Rattle.halves_of_part.specs.Parts.{halves}
 use Rattle.halves_of_part.proofs.PartLaws.{part-long, first-long, second-long, id-long, halves-are}
 use Rattle.part_at.specs.declared.PartPlace.{PartPlace}
 use Rattle.part_at.specs.Stands.{TargetStands}
 use Rattle.split_limits.specs.Added.{ContentAdded, TargetAdded, PartAdded}
-use Rattle.split_limits.proofs.CountLaws.{length-texts}
 
 -- what the bytes before a cut in a text tell: 1 if the cut stands inside it
 abbrev pub one-if : ℕ → ℕ

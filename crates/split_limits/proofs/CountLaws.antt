@@ -1,8 +1,8 @@
 -- A place and the number of items.
 use Prim.Native.Nat.{ℕ, zero, suc, _+_, _<_, _≤_}
-use mathlib.Core.Path.{_≡_, refl, sym, ap, _∙_, subst}
+use mathlib.Core.Path.{_≡_, sym, ap, _∙_, subst}
 use mathlib.Core.Bool.{Bool, false}
-use mathlib.Core.List.{List, [], _∷_, _++_, map}
+use mathlib.Core.List.{List, _∷_, _++_, map}
 use native.Mathlib.Omega.{arith}
 use lib.ListN.{length, length-append}
 use lib.Dec.{eqb, leb, ltb}
@@ -17,7 +17,7 @@ use Rattle.walk.specs.declared.Place.{Place}
 use Rattle.walk.proofs.WalkLaws.{inline-least}
 use Rattle.xliff.proofs.unit.Pieces.{spell-append}
 use Rattle.walk.proofs.PlaceLaws.{kept-items, kept-back}
-use Rattle.cut.proofs.HalfLaws.{items-of}
+use Rattle.cut.proofs.HalfLaws.{items-of, length-texts}
 
 -- what a place says of the number of items
 pub record Counted (k at left size count : ℕ) : Type 0 where
@@ -28,10 +28,6 @@ some-item : (b : Bool) (r : Record) (rs : List Record) → Kept b (r ∷ rs) →
 unfolding reading take-record
 some-item b r rs (kept-item g k) = (omega arith, inline-least r (an-item g))
 some-item b r rs (kept-text a l k) = (omega arith, inline-least r (a-text a l))
-
-pub length-texts : (cs : List ℕ) → length (map text cs) ≡ length cs
-length-texts [] = refl
-length-texts (c ∷ cs) = ap suc (length-texts cs)
 
 texts-count : (cs ds : List ℕ) (rs : List Record) → length (items (text-run (cs ++ ds) ∷ rs)) ≡ length cs + length ds + length (items rs)
 unfolding reading take-record

@@ -10,7 +10,7 @@ use lib.ListN.{length, drop, getD, length-drop, length-append, drop-of-length-le
 use lib.Seq.{drop-drop}
 use lib.Dec.{ltb, eqb}
 use Rattle.xliff.specs.Bytes.{Bytes, no-bytes, one-byte, two, gather}
-use Rattle.xliff.specs.Text.{utf8, utf8s, utf8-1, utf8-2, utf8-3, utf8-4}
+use Rattle.xliff.specs.Text.{utf8, utf8s}
 use Rattle.xliff.specs.Answer.{Refusal, refusal, unless, answer, accepted, refused}
 use Rattle.xliff.specs.Encode as encode
 use Rattle.xliff.specs.Encode.{text-run, inline, record-bytes}
@@ -19,6 +19,7 @@ use Rattle.xliff.proofs.records.Parse.{good-length}
 use Rattle.xliff.proofs.lists.Tests.{or-left}
 use Rattle.xliff.proofs.records.Read.{read-sound}
 use Rattle.xliff.proofs.unit.Table.{stepped-whole, bytes-drop}
+use Rattle.xliff.proofs.text.Utf8.{utf8-nonempty}
 use Rattle.table.specs.Meaning.{item, record-meaning, meaning, width, body}
 use Rattle.text.proofs.TextLaws.{xml-same}
 use Rattle.table.specs.declared.Item.{Item}
@@ -67,21 +68,11 @@ inline-same i Complete = refl
 inline-same i (Alone a) = step-if (badItem i) (Alone false) ∙ rw (item-same i)
 
 -- a text is empty when its record has four bytes
-utf8-length : (c : ℕ) → 0 < length (utf8 c)
-unfolding utf8
-utf8-length c = by (ltb c 0x80) (ltb c 0x800) (ltb c 0x10000)
-  where
-    by : (a b d : Bool) → 0 < length (cond a (utf8-1 c) (cond b (utf8-2 c) (cond d (utf8-3 c) (utf8-4 c))))
-    by true b d = omega arith
-    by false true d = omega arith
-    by false false true = omega arith
-    by false false false = omega arith
-
 empty-text : (w : ℕ) (cs : List ℕ) → w ≡ length (record-bytes (text-run cs)) → eqb w 4 ≡ eqb (length cs) 0
 unfolding record-bytes two utf8s gather
 empty-text w [] h = eq-eqb w 4 h
 empty-text w (c ∷ cs) h =
-    ne-eqb w 4 (omega (arith, utf8-length c, length-append (utf8 c) (gather utf8 cs))) ∙ sym (ne-eqb (suc (length cs)) 0 (omega arith))
+    ne-eqb w 4 (omega (arith, utf8-nonempty c, length-append (utf8 c) (gather utf8 cs))) ∙ sym (ne-eqb (suc (length cs)) 0 (omega arith))
 
 record-same : (st : Stage) (cs : List ℕ) (x : Record) (w : ℕ) → w ≡ length (record-bytes (record-meaning cs x))
     → step-meaning (recordStep st x w) ≡ step (stage st) (record-meaning cs x)

@@ -12,14 +12,10 @@ use Rattle.xliff.specs.Text.{utf8s}
 use Rattle.xliff.specs.Item.{Item, Content, start, end, form-P, form-S, text, character, standalone, isolated, pair, annotation-start, annotation-end, mark, id-of}
 use Rattle.xliff.specs.Encode.{Record, text-run, inline, code-bytes, field-bytes, record-bytes, spell}
 use Rattle.xliff.specs.Parse.{reading, take-record}
-use Rattle.xliff.proofs.lists.Tests.{two-value}
+use Rattle.xliff.proofs.lists.Tests.{two-value, and-false}
 use Rattle.xliff.proofs.records.Read.{GoodItem}
 use Rattle.walk.specs.Kept.{Kept, kept-item, kept-text, Of, items, Inline, an-item, a-text}
 use Rattle.walk.specs.Marks.{number, widthAt, kindAt, kind, opposite, is-other, has-other}
-
-and-false : (a : Bool) → a && false ≡ false
-and-false true = refl
-and-false false = refl
 
 -- what is no half has no other half
 pub no-opposite : (k : ℕ) → opposite k 0 ≡ false
@@ -134,7 +130,7 @@ pub record Next (c : List ℕ) (at : ℕ) (rs : List Record) : Type 0 where
 pub rest-start : (c : List ℕ) (rs : List Record) → Of c rs → Rest c 0 rs
 rest-start c rs o = record { behind = false; kept = o .0; bytes = o .1 }
 
-kept-first : (b : Bool) (r : Record) (rs : List Record) → Kept b (r ∷ rs) → Inline r × ((a : Bool) × Kept a rs)
+pub kept-first : (b : Bool) (r : Record) (rs : List Record) → Kept b (r ∷ rs) → Inline r × ((a : Bool) × Kept a rs)
 kept-first b r rs (kept-item g k) = (an-item g, (false, k))
 kept-first b r rs (kept-text a l k) = (a-text a l, (true, k))
 

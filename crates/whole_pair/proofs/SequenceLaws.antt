@@ -1,24 +1,24 @@
 -- A pair of a sequence is one of its markers: texts and characters are no halves.
 use Prim.Native.Nat.{ℕ}
 use mathlib.Core.Path.{_≡_, refl, sym, ap, _∙_}
-use mathlib.Core.Bool.{Bool, true, false, not, _&&_, cond, true≢false}
-use mathlib.Core.List.{List, [], _∷_, _++_, map}
+use mathlib.Core.Bool.{Bool, true, false, _&&_, cond, true≢false}
+use mathlib.Core.List.{List, [], _∷_}
 use mathlib.Core.Option.{some}
 use lib.ListN.{length}
 use lib.Dec.{eqb}
 use borrow.Author.Tests.{eq-eqb, ne-eqb}
-use Rattle.xliff.specs.Bytes.{'S', gather, keep}
+use Rattle.xliff.specs.Bytes.{'S', keep}
 use Rattle.xliff.specs.Item.{Item, Content, start, end, text, character, standalone, isolated, pair, annotation-start, annotation-end, class, half, id-of, is-start-half, other-half}
 use Rattle.xliff.specs.Unit.{Part, source-sequence, target-sequence}
 use Rattle.xliff.specs.Parse.{unit}
-use Rattle.xliff.specs.Sequences.{Placed, located, items, placed-target-sequence}
+use Rattle.xliff.specs.Sequences.{located, items, placed-target-sequence}
 use Rattle.xliff.specs.Rules.{nearest}
 use Rattle.xliff.specs.Rewrite.{ended-by, find-whole, side-sequence}
 use Rattle.xliff.proofs.rules.Sequences.{items-target}
 use Rattle.places.specs.Passes.{Passes}
-use Rattle.places.specs.Found.{marker, markers}
+use Rattle.places.specs.Found.{markers}
 use Rattle.places.specs.Markers.{is-marked, marked, placed-at, target-offsets}
-use Rattle.places.proofs.Tests.{targets-back, source-items, length-located}
+use Rattle.places.proofs.Tests.{targets-back, source-items, length-located, marked-items}
 use Rattle.views.specs.Views.{itemsAt}
 use Rattle.views.proofs.ViewLaws.{items-at}
 use Rattle.sequences.specs.Marks.{offsets}
@@ -55,16 +55,6 @@ whole-marked i (x ∷ xs) = by (is-marked x) refl (whole-marked i xs)
         ≡ find-whole i (cond b (x ∷ keep is-marked xs) (keep is-marked xs))
     by true e ih = rw (nearest-marked (other-half x) (other-unmarked x) xs, ih)
     by false e ih = rw (no-start-half x e) ih
-
-marked-items : (ps : List Placed) → items (markers ps) ≡ marked (items ps)
-unfolding items markers marked gather keep marker is-marked
-marked-items [] = refl
-marked-items (p ∷ ps) = by (not (eqb (class (p .item)) 0)) (marked-items ps)
-  where
-    by : (b : Bool) → map (λ p. p .item) (gather (marker true) ps) ≡ keep is-marked (map (λ p. p .item) ps)
-        → map (λ p. p .item) (cond b (p ∷ []) [] ++ gather (marker true) ps) ≡ cond b (p .item ∷ keep is-marked (map (λ p. p .item) ps)) (keep is-marked (map (λ p. p .item) ps))
-    by true e = ap {B = Content} (λ l. p .item ∷ l) e
-    by false e = e
 
 module _ (t : List ℕ) (p : Passes t) (i : ℕ) where
   pub source-whole : find-whole i (itemsAt t (offsets true 0 t)) ≡ find-whole i (source-sequence (unit t .parts))

@@ -1,4 +1,4 @@
-use Rattle.orders.proofs.OrderLaws.{or-true}
+use Rattle.xliff.proofs.lists.Tests.{or-true}
 use borrow.Author.Tests.{lt-ltb, le-ltb}
 use borrow.Author.Needs.{needs}
 use Rattle.orders.proofs.bad_order.Statement.{statement}

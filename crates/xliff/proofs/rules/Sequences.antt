@@ -55,14 +55,14 @@ items-targets at q (suc n) ps =
     items-append (gather (λ l. placed-of-order (suc q) (target-at l) (l .part .target)) (located-from at ps)) (placed-targets (located-from at ps) (suc q) n)
     ∙ ap₂ _++_ (items-target-of-order (suc q) at ps) (items-targets at (suc q) n ps)
 
-length-located : (at : ℕ) (ps : List Part) → length (located-from at ps) ≡ length ps
+pub length-from : (at : ℕ) (ps : List Part) → length (located-from at ps) ≡ length ps
 unfolding located-from
-length-located at [] = refl
-length-located at (p ∷ ps) = ap suc (length-located (at + part-size p) ps)
+length-from at [] = refl
+length-from at (p ∷ ps) = ap suc (length-from (at + part-size p) ps)
 
 pub items-target : (at : ℕ) (ps : List Part) → items (placed-target-sequence (located-from at ps)) ≡ target-sequence ps
 unfolding placed-target-sequence target-sequence
-items-target at ps = ap (λ (n : ℕ). items (placed-targets (located-from at ps) 0 n)) (length-located at ps) ∙ items-targets at 0 (length ps) ps
+items-target at ps = ap (λ (n : ℕ). items (placed-targets (located-from at ps) 0 n)) (length-from at ps) ∙ items-targets at 0 (length ps) ps
 
 -- a test that no item of a list fails, each with what is before and after it
 unfoldable pub clear : (Content → Item → Content → Bool) → Content → Content → Bool

@@ -81,7 +81,7 @@ pub data Allowed : List ℕ → Type 0 where
   no-text : Allowed []
   one-point : {c : ℕ} {cs : List ℕ} → xml-allows c ≡ true → Allowed cs → Allowed (c ∷ cs)
 
-utf8-nonempty : (c : ℕ) → 0 < length (utf8 c)
+pub utf8-nonempty : (c : ℕ) → 0 < length (utf8 c)
 unfolding utf8
 utf8-nonempty c = by (ltb c 0x80) (ltb c 0x800) (ltb c 0x10000)
   where
