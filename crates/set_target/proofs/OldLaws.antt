@@ -1,7 +1,7 @@
 -- The old content of a part, and the states that fit it.
 use Prim.Native.Nat.{ℕ, _-_, _<_, _≤_}
 use mathlib.Core.Path.{_≡_, refl, sym, ap, _∙_}
-use mathlib.Core.Bool.{Bool, _||_}
+use mathlib.Core.Bool.{Bool, _||_, true}
 use mathlib.Core.List.{List}
 use mathlib.Core.Option.{none}
 use native.Mathlib.Omega.{arith}
@@ -11,7 +11,7 @@ use mir.Val.{Fits}
 use mir.Syntax.{w8}
 use Rattle.xliff.specs.Bytes.{'-', 'F', 'I', 'R', 'T', two, among}
 use Rattle.xliff.specs.Item.{Content}
-use Rattle.xliff.specs.Unit.{Head, segment, ignorable, Target, no-target, target, Part}
+use Rattle.xliff.specs.Unit.{Head, segment, ignorable, Target, no-target, target, Part, target-items}
 use Rattle.xliff.specs.Encode.{head-bytes}
 use Rattle.xliff.specs.Check.{table-refusal}
 use Rattle.xliff.specs.SetTarget.{state-fits, old-content}
