@@ -4,10 +4,9 @@ use mathlib.Core.Path.{_≡_, sym, ap, ap₂, _∙_}
 use mathlib.Core.List.{List, _++_, append-assoc}
 use native.Mathlib.Omega.{arith}
 use lib.ListN.{length, take, drop, length-append}
-use lib.Seq.{take-add, drop-drop}
-use Rattle.xliff.specs.Bytes.{two, gather, Bytes}
+use Rattle.xliff.specs.Bytes.{gather, Bytes}
 use Rattle.xliff.specs.Unit.{Target, no-target, target, Part}
-use Rattle.xliff.specs.Encode.{target-head, record-bytes, head-bytes, content-records, target-records, part-records, spell, content-bytes}
+use Rattle.xliff.specs.Encode.{record-bytes, head-bytes, content-records, target-records, part-records, spell, content-bytes}
 use Rattle.xliff.specs.Focus.{order-part}
 use Rattle.xliff.specs.Join.{join-heads, join-parts}
 use Rattle.xliff.proofs.lists.Each.{each-right}
@@ -18,6 +17,7 @@ use Rattle.writer.specs.Pieces.{lead}
 use Rattle.part_contents.proofs.HoldLaws.{good-rest, holds-slice, good-part, holds-source, target-ends}
 use Rattle.part_at.specs.declared.PartPlace.{PartPlace}
 use Rattle.part_at.specs.Stands.{TargetStands, PartStands}
+use Rattle.part_at.proofs.SliceLaws.{target-is}
 use Rattle.joined_content.specs.Seam.{RoomJoined, WroteJoined}
 use Rattle.joined_part.specs.Heads.{joinedHead}
 use Rattle.joined_part.specs.Joined.{TargetIs, joined-target, target-bytes, RoomTargets, WroteTargets, joined-part, part-bytes}
@@ -25,18 +25,9 @@ use Rattle.joined_part.proofs.HeadLaws.{head-long, head-same}
 
 module _ (t : List ℕ) (h : Bytes t) (b : List Part) (p : Part) (a : List Part) (x : PartPlace) (s : PartStands t b p a x) where
   target-by : (g : Target) → TargetStands t x g → AllGood (target-records g) → TargetIs (take (x .end - x .target) (drop (x .target) t)) g
-  unfolding target-records record-bytes two content-bytes
-  target-by no-target e k = ap (λ (n : ℕ). take n (drop (x .target) t)) (let z : x .end - x .target ≡ 0 = omega (arith, e .2) in z)
-  target-by (target q xs) e k =
-      let z : x .end - x .target ≡ 4 + (x .end - (x .target + 4)) = omega (arith, e .3 .ordered) in
-      let y : x .target + 4 - x .target ≡ 4 = omega arith in (
-        ap (λ (n : ℕ). take n (drop (x .target) t)) z
-            ∙ take-add 4 (x .end - (x .target + 4)) (drop (x .target) t)
-            ∙ ap (λ (l : List ℕ). l ++ take (x .end - (x .target + 4)) (drop 4 (drop (x .target) t))) (ap (λ (n : ℕ). take n (drop (x .target) t)) (sym y) ∙ e .2 .is)
-            ∙ ap (λ (l : List ℕ). record-bytes (target-head q) ++ take (x .end - (x .target + 4)) l) (drop-drop 4 (x .target) t)
-            ∙ ap (λ (l : List ℕ). record-bytes (target-head q) ++ l) (e .3 .is),
-        holds-slice t (x .target + 4) (x .end) xs h (e .3) (good-rest k) .0,
-      )
+  unfolding target-records spell gather content-bytes
+  target-by no-target e k = target-is t x no-target e
+  target-by (target q xs) e k = (target-is t x (target q xs) e, holds-slice t (x .target + 4) (x .end) xs h (e .3) (good-rest k) .0)
 
   pub target-slice : TargetIs (take (x .end - x .target) (drop (x .target) t)) (p .target)
   target-slice = target-by (p .target) (s .target) (each-right (content-records (p .source)) (target-records (p .target)) (good-part t h b p a x s))

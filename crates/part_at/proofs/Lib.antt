@@ -3,3 +3,4 @@ pub mod SpanLaws
 pub mod PartLaws
 pub mod SearchLaws
 pub mod CheckedLaws
+pub mod SliceLaws

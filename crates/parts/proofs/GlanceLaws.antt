@@ -15,13 +15,13 @@ use Rattle.parts.specs.Parts.{InPart, head-in, target-in, item-in, text-
 use Rattle.parts.proofs.RecordLaws.{Next}
 
 -- a record of a part is read back
-pub good-in : (r : Record) → InPart r → GoodRecord r
+good-in : (r : Record) → InPart r → GoodRecord r
 good-in (part-head h) (head-in g) = g
 good-in (target-head q) (target-in l) = tt
 good-in (inline x) (item-in g) = g
 good-in (text-run cs) (text-in a l) = a
 
-pub next-read : (t : List ℕ) (at : ℕ) (rs : List Record) (n : Next t at rs) → read (drop at t) ≡ n .first
+next-read : (t : List ℕ) (at : ℕ) (rs : List Record) (n : Next t at rs) → read (drop at t) ≡ n .first
 next-read t at rs n = ap read (n .bytes) ∙ read-bytes (n .first) (spell (n .others)) (good-in (n .first) (n .good))
 
 pub glance-width : (t : List ℕ) (at : ℕ) (rs : List Record) (n : Next t at rs) (g : Glance) → Glanced (drop at t) g → g .width ≡ widthIn (drop at t)

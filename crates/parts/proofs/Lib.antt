@@ -4,3 +4,4 @@ pub mod LoopLaws
 pub mod GlanceLaws
 pub mod TableLaws
 pub mod CheckLaws
+pub mod PlaceLaws

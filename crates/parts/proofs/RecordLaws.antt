@@ -20,7 +20,7 @@ use Rattle.writer.specs.Pieces.{lead, overlay, numberBytes}
 use Rattle.parts.specs.Parts.{InPart, head-in, target-in, item-in, text-in, widthIn, order-record, One}
 
 -- only SG, IG and TG end in G
-pub item-letter : (x : Item) (s : List ℕ) → GoodItem x → eqb (getD (record-bytes (inline x) ++ s) 1 0) 71 ≡ false
+item-letter : (x : Item) (s : List ℕ) → GoodItem x → eqb (getD (record-bytes (inline x) ++ s) 1 0) 71 ≡ false
 unfolding record-bytes mark
 item-letter (text c) s g = absurd g
 item-letter (character c) s g = refl
@@ -36,7 +36,7 @@ item-letter (annotation-start form-S i t) s g = refl
 item-letter (annotation-end form-P i) s g = refl
 item-letter (annotation-end form-S i) s g = refl
 
-pub unmarked : (t : List ℕ) (a : ℕ) → eqb (getD t 1 0) 71 ≡ false → marked t a 71 ≡ false
+unmarked : (t : List ℕ) (a : ℕ) → eqb (getD t 1 0) 71 ≡ false → marked t a 71 ≡ false
 unmarked t a e = ap (λ (b : Bool). eqb (getD t 0 0) a && b) e ∙ and-false (eqb (getD t 0 0) a)
 
 unmarked-width : (t : List ℕ) → eqb (getD t 1 0) 71 ≡ false → widthIn t ≡ widthAt t

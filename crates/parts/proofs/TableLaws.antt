@@ -4,12 +4,12 @@ use mathlib.Core.Path.{_≡_, sym, ap, _∙_}
 use mathlib.Core.List.{List, _++_, append-assoc}
 use native.Mathlib.Omega.{arith}
 use lib.ListN.{length, take, drop, length-append}
-use lib.Seq.{take-at, drop-at}
+use lib.Seq.{drop-at}
 use Rattle.xliff.specs.Bytes.{gather}
 use Rattle.xliff.specs.Unit.{XliffUnit, Part}
 use Rattle.xliff.specs.Encode.{record-bytes, part-records, spell, part-head, content-records, target-records}
 use Rattle.xliff.proofs.unit.Pieces.{bytes-of, table-pieces, opened, closed}
-use Rattle.parts.specs.Parts.{PartsIn, TableOf, head-in}
+use Rattle.parts.specs.Parts.{TableOf}
 use Rattle.parts.proofs.RecordLaws.{head-least}
 
 pub part-least : (p : Part) → 4 ≤ length (spell (part-records p))
@@ -32,14 +32,6 @@ module _ (t : List ℕ) (u : XliffUnit) (h : TableOf t u) where
   table-opened = ap (take 3) apart
 
   module _ (e : ℕ) (f : e ≡ length t - 2) where
-    pub table-parts : PartsIn (take (e - 3) (drop 3 t)) (u .parts)
-    unfolding record-bytes
-    table-parts = (
-      sym (ap (λ (l : List ℕ). take (e - 3) (drop 3 l)) apart
-          ∙ take-at (bytes-of (u .parts)) closed (e - 3) (let z : length (bytes-of (u .parts)) ≡ e - 3 = omega (arith, table-long) in z)),
-      h .1,
-    )
-
     pub table-closed : drop e t ≡ closed
     unfolding record-bytes
     table-closed =

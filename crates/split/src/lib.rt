@@ -39,7 +39,7 @@ fn split_there(
     if split_limits::is_too_large(table, n, place, cut, tcut, id, room) {
         return Answer::Refused(15, 0);
     }
-    Answer::Accepted(split_result::put_split(out, table, n, cut, tcut, id))
+    Answer::Accepted(split_result::put_split(out, table, place, cut, tcut, id))
 }
 
 fn split_found(

@@ -20,10 +20,9 @@ use Rattle.xliff.proofs.unit.Pieces.{spell-append, bytes-of, bytes-append}
 use Rattle.xliff.proofs.lists.Slices.{slice-long}
 use Rattle.parts.specs.Parts.{GoodPart, moved, ordered, TableOf}
 use Rattle.parts.proofs.OrderLaws.{ordered-length}
-use Rattle.part_split.specs.Whole.{order-or}
 use Rattle.parts.proofs.TableLaws.{table-long}
 use Rattle.halves_of_part.specs.Parts.{halves}
-use Rattle.split_result.proofs.ResultLaws.{pieces-long}
+use Rattle.split_result.proofs.ResultLaws.{order-or, pieces-long}
 use Rattle.split_result.proofs.UnitLaws.{result-long}
 use Rattle.part_at.specs.declared.PartPlace.{PartPlace}
 use Rattle.part_at.specs.Stands.{PartStands, Placed}
@@ -118,7 +117,7 @@ module _ (u : XliffUnit) (n k j id : ℕ) (b : List Part) (p : Part) (a : List P
             ap length (bytes-append b (p ∷ a)),
             length-append (bytes-of b) (bytes-of (p ∷ a)),
             bytes-cons p a,
-            result-long u n k j id (record { before = b; part = p; behind = a; is = e }),
+            result-long u n k j id b p a e,
             pieces-long k j id b p a gb ga q refl,
             ordered-length (moved true q) (bytes-of b) b (refl, gb),
             ordered-length (moved true q) (bytes-of a) a (refl, ga),

@@ -1,10 +1,10 @@
 -- The bytes of split parts, in three pieces.
-use Prim.Native.Nat.{ℕ, _+_, _-_}
-use mathlib.Core.Path.{_≡_, refl, sym, ap, ap₂, _∙_, subst}
+use Prim.Native.Nat.{ℕ, _+_}
+use mathlib.Core.Path.{_≡_, refl, sym, ap, ap₂, _∙_}
 use mathlib.Core.Bool.{true}
 use mathlib.Core.List.{List, [], _∷_, _++_, append-assoc}
 use native.Mathlib.Omega.{arith}
-use lib.ListN.{length, take, drop, length-append}
+use lib.ListN.{length, length-append}
 use borrow.Author.Tests.{le-ltb}
 use Rattle.xliff.specs.Bytes.{gather}
 use Rattle.xliff.specs.Unit.{Target, no-target, target, Part}
@@ -14,11 +14,20 @@ use Rattle.xliff.specs.Split.{raise-above, split-order, first-half, second-half
 use Rattle.xliff.proofs.lists.Tests.{gather-append}
 use Rattle.xliff.proofs.lists.Each.{Each, each-nil, each-cons}
 use Rattle.xliff.proofs.unit.Pieces.{spell-append}
-use Rattle.xliff.proofs.lists.Slices.{tail-is}
-use Rattle.parts.specs.Parts.{GoodTarget, GoodPart, PartsIn, moved, ordered}
-use Rattle.part_split.specs.Whole.{order-or}
+use Rattle.parts.specs.Parts.{GoodTarget, GoodPart, moved, ordered}
 use Rattle.halves_of_part.specs.Parts.{halves}
-use Rattle.split_result.specs.Result.{split-parts}
+use Rattle.part_at.specs.declared.PartPlace.{PartPlace}
+use Rattle.part_at.specs.Stands.{TargetStands}
+use Rattle.split_result.specs.Result.{rises-above, split-parts}
+
+-- the order of a target, 65535 without one
+abbrev pub order-or : Target → ℕ
+order-or no-target = 65535
+order-or (target q xs) = q
+
+pub rises-is : (t : List ℕ) (x : PartPlace) (g : Target) → TargetStands t x g → rises-above x ≡ order-or g
+rises-is t x no-target e = rw (e .0)
+rises-is t x (target q xs) e = rw (e .0, e .1)
 
 -- without target no order is above 65535
 target-same : (g h : Target) → GoodTarget h → order-target (split-order g) h ≡ order-target (moved true (order-or g)) h
@@ -60,7 +69,3 @@ module _ (k j id : ℕ) (b : List Part) (p : Part) (a : List Part) (hb : Each Go
     pieces-long =
         ap length pieces ∙ length-append (ordered (moved true q) b ++ halves k j id p) (ordered (moved true q) a)
         ∙ ap (λ (n : ℕ). n + length (ordered (moved true q) a)) (length-append (ordered (moved true q) b) (halves k j id p))
-
--- the parts behind, as a lent tail
-pub rest-in : (s : List ℕ) (y : ℕ) (a : List Part) → PartsIn (drop y s) a → PartsIn (take (length s - y) (drop y s)) a
-rest-in s y a h = subst (λ (l : List ℕ). PartsIn l a) (sym (tail-is y s)) h
