@@ -1,4 +1,5 @@
 pub mod Laws
 pub mod Utf8Laws
+pub mod BlockLaws
 pub mod Coding
 pub mod TextLaws

@@ -1,8 +1,10 @@
 // UTF-8, and the characters that XML 1.0 allows.
 ghost use mathlib.Core.Path.{_≡_};
 ghost use mathlib.Core.Bool.{true, false};
-ghost use Prim.Native.Nat.{_+_, _-_, _*_, _<_};
+ghost use Prim.Native.Nat.{_+_, _-_, _*_, _<_, _≤_};
+ghost use lib.ListN.{length, drop};
 ghost use Rattle.text.specs.Utf8.{xmlChar, pointIf, twoOf, threeOf, fourOf, charOf, textOk};
+ghost use Rattle.text.specs.Blocks.{pairFits, pairsFit, PassedText};
 
 pub fn xml_char(c: u32) -> bool
     ensures { λ r. ⌜ r ≡ xmlChar c ⌝ }
@@ -97,20 +99,93 @@ fn char_of(t: &[u8]) -> Char
     Char::Bad
 }
 
+// Whether `c` is a character of one byte, no control character, or a byte of a character of two, and `d` is a second byte just where `c` is a first.
+fn pair_fits(c: u8, d: u8) -> bool
+    ensures { λ r. ⌜ r ≡ pairFits c d ⌝ }
+{
+    let first = 194 <= c;
+    let second = (128 <= d) & (d <= 191);
+    ((32 <= c) & (c <= 223))
+        & (!((c == 192) | (c == 193)) & ((first & second) | (!first & !second)))
+}
+
+// Whether sixteen bytes from `at` on fit, each with the next. No branch: compiled to a few wide instructions.
+fn block_fits(t: &[u8], at: usize) -> bool
+    requires { ⌜ at + 17 ≤ length (now t) ⌝ }
+    ensures { λ r. ⌜ r ≡ pairsFit 16 (drop at (now (t .entry))) ⌝ }
+{
+    let mut ok = true;
+    let mut i: usize = 0;
+    while i < 16 {
+        ok = ok & pair_fits(t[at + i], t[at + i + 1]);
+        i += 1;
+    }
+    ok
+}
+
+// How far characters that XML allows were passed; or not one of them.
+pub enum Passed {
+    To(usize),
+    Not,
+}
+
+// The characters from `from` on that begin before `until`, one by one.
+fn pass_each(t: &[u8], from: usize, until: usize) -> Passed
+    requires { ⌜ (from < until) × (until ≤ length (now t)) ⌝ }
+    ensures { λ r. ⌜ PassedText (now (t .entry)) from r ⌝ }
+{
+    let mut at = from;
+    while at < until {
+        let b = t[at];
+        if (32 <= b) & (b <= 127) {
+            at += 1;
+        } else {
+            match char_of(&t[at..]) {
+                Char::Point(c, w) => {
+                    if !xml_char(c) {
+                        return Passed::Not;
+                    }
+                    at += w;
+                }
+                Char::Bad => {
+                    return Passed::Not;
+                }
+            }
+        }
+    }
+    Passed::To(at)
+}
+
+// Some sixteen bytes of characters from `at` on: at once, where they are of one or two bytes each, else one by one.
+fn pass_some(t: &[u8], at: usize) -> Passed
+    requires { ⌜ at < length (now t) ⌝ }
+    ensures { λ r. ⌜ PassedText (now (t .entry)) at r ⌝ }
+{
+    if t.len() - at < 17 {
+        return pass_each(t, at, t.len());
+    }
+    let b = t[at];
+    if ((b < 128) | (191 < b)) & block_fits(t, at) {
+        let d = t[at + 16];
+        if (128 <= d) & (d <= 191) {
+            return Passed::To(at + 17);
+        }
+        return Passed::To(at + 16);
+    }
+    pass_each(t, at, at + 16)
+}
+
 // Whether `t` is UTF-8 of characters that XML allows.
 pub fn text_ok(t: &[u8]) -> bool
     ensures { λ r. ⌜ r ≡ textOk (now (t .entry)) ⌝ }
 {
     let mut at = 0;
     while at < t.len() {
-        match char_of(&t[at..]) {
-            Char::Point(c, w) => {
-                if !xml_char(c) {
-                    return false;
-                }
-                at += w;
+        match pass_some(t, at) {
+            Passed::To(e) => {
+                at = e;
             }
-            Char::Bad => {
+            Passed::Not => {
                 return false;
             }
         }
