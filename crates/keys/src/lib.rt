@@ -5,6 +5,7 @@ ghost use mathlib.Core.Bool.{cond};
 ghost use Prim.Native.Nat.{_+_, _*_, _/_, _%_, _<_, _≤_};
 ghost use lib.ListN.{length, take};
 ghost use Rattle.places.specs.Markers.{item-at};
+ghost use Rattle.views.specs.Views.{viewOf};
 ghost use Rattle.keys.specs.Keys.{key, keysAt, keyOf, alikeKeys, otherKey, halfKey, formKey, classKey};
 
 fn bit(b: bool) -> u32
@@ -24,6 +25,27 @@ fn key_at(t: &[u8], at: usize) -> u32
     ensures { λ r. ⌜ r ≡ key (item-at (now (t .entry)) at) ⌝ }
 {
     key_of(views::view_at(t, at))
+}
+
+// The item at an offset whose key is known: what the key holds is not read again, and nothing is looked at twice.
+pub fn view_at(t: &[u8], at: usize, k: u32) -> View
+    requires { ⌜ k ≡ key (item-at (now t) at) ⌝ }
+    ensures { λ r. ⌜ r ≡ viewOf (item-at (now (t .entry)) at) ⌝ }
+{
+    let class = k % 64 / 8;
+    let half = k % 8 / 2;
+    if class == 0 {
+        return views::nothing();
+    }
+    if class == 5 {
+        return views::annotation_view(half as u8, k % 2 == 1, table::number_at(&t[at..], 2));
+    }
+    views::code_view(
+        class as u8,
+        half as u8,
+        k % 2 == 1,
+        table::read_fields(&t[at..]),
+    )
 }
 
 // The keys of the items at some offsets, at the front of `out`.

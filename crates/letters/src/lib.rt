@@ -67,7 +67,10 @@ fn ill_ended(t: &[u8], os: &[u16], keys: &[u32], i: usize, x: View) -> bool
     if start == 0 {
         return false;
     }
-    ill_matched(views::view_at(t, views::wide(os[start - 1])), x)
+    ill_matched(
+        keys::view_at(t, views::wide(os[start - 1]), keys[start - 1]),
+        x,
+    )
 }
 
 // Rule 8 over the markers of a sequence, below `start`.
@@ -81,7 +84,7 @@ fn eight_in(t: &[u8], source: bool, os: &[u16], keys: &[u32], start: Place) -> P
     let mut i = 0;
     while i < os.len() {
         let at = views::wide(os[i]);
-        let x = views::view_at(t, at);
+        let x = keys::view_at(t, at, keys[i]);
         let bad = ill_ended(t, os, keys, i, x) | bad_alone(source, led, x);
         best = answers::lower_if(bad, best, at);
         led = is_leading(x) | led;

@@ -12,7 +12,7 @@ ghost use Rattle.keys.specs.Keys.{keysAt};
 ghost use Rattle.halves.specs.Nearest.{half-before, half-after, marker-at, earlier};
 ghost use Rattle.id_links.specs.Nearest.{next};
 ghost use Rattle.id_links.specs.Links.{Linked, LinkedAfter};
-ghost use Rattle.overlap.specs.Nine.{Filled, Halves, strayKey, strayAt, pairStart, closedStart};
+ghost use Rattle.overlap.specs.Nine.{Filled, Halves, strayKey, strayAt, pairStart, closedStart, OpenAt, AllOpen};
 ghost use Rattle.xliff.specs.Sequences.{blamed, items};
 ghost use Rattle.xliff.specs.Rules.{bad-9, fault-9};
 ghost use Rattle.xliff.specs.Parse.{unit};
@@ -120,7 +120,7 @@ fn encloses_stray(
     if !is_pair_start(keys[i]) {
         return false;
     }
-    if !is_closed_start(views::view_at(t, views::wide(os[i]))) {
+    if !is_closed_start(keys::view_at(t, views::wide(os[i]), keys[i])) {
         return false;
     }
     let end = views::wide(ends[i]);
@@ -153,9 +153,46 @@ fn overlapping(
     best
 }
 
-// Rule 9 over the markers of a sequence, below `start`.
+// Whether the marker at `i` is the start of a pair with canOverlap N.
+fn is_closed(t: &[u8], os: &[u16], keys: &[u32], i: usize) -> bool
+    requires { ⌜ (now keys ≡ keysAt (now t) (now os)) × (i < length (now os)) ⌝ }
+    ensures { λ r. ⌜ OpenAt (now (t .entry)) (now (os .entry)) i r ⌝ }
+{
+    if !is_pair_start(keys[i]) {
+        return false;
+    }
+    is_closed_start(keys::view_at(t, views::wide(os[i]), keys[i]))
+}
+
+// Whether no marker is the start of a pair with canOverlap N. Linear.
+fn all_open(t: &[u8], os: &[u16], keys: &[u32]) -> bool
+    requires { ⌜ now keys ≡ keysAt (now t) (now os) ⌝ }
+    ensures { λ r. ⌜ AllOpen (now (t .entry)) (now (os .entry)) r ⌝ }
+{
+    let mut i = 0;
+    while i < os.len() {
+        if is_closed(t, os, keys, i) {
+            return false;
+        }
+        i += 1;
+    }
+    true
+}
+
+// Rule 9 over the markers of a sequence, below `start`. Where no pair is closed, other halves are not looked for.
 // Quadratic in the markers: `overlapping`.
 fn nine_in(t: &[u8], os: &[u16], keys: &[u32], start: Place) -> Place
+    requires { ⌜ (now keys ≡ keysAt (now t) (now os)) × (length (now os) ≤ 1024) ⌝ }
+    ensures { λ r. ⌜ refusal-at 9 r ≡ toward 9 start (blamed bad-9 [] (placed-at (now (t .entry)) (now (os .entry)))) ⌝ }
+{
+    if all_open(t, os, keys) {
+        return start;
+    }
+    nine_by_halves(t, os, keys, start)
+}
+
+// The same with the nearest other halves of all markers.
+fn nine_by_halves(t: &[u8], os: &[u16], keys: &[u32], start: Place) -> Place
     requires { ⌜ (now keys ≡ keysAt (now t) (now os)) × (length (now os) ≤ 1024) ⌝ }
     ensures { λ r. ⌜ refusal-at 9 r ≡ toward 9 start (blamed bad-9 [] (placed-at (now (t .entry)) (now (os .entry)))) ⌝ }
 {

@@ -1,5 +1,5 @@
 // Rule 10: codes of targets match those of the source.
-// Throughout, `t` is the table, `src` and `tgt` the offsets of the markers of the source and the target sequence, `skeys` the keys of the source's.
+// Throughout, `t` is the table, `src` and `tgt` the offsets of the markers of the source and the target sequence, `skeys` and `tkeys` their keys.
 // `links` and `heads` link keys by the groups of their ids (`id_links`).
 use answers::Place;
 use views::View;
@@ -63,7 +63,7 @@ fn one_more(t: &[u8], at: usize, k: u32, id: u16, x: View, found: Matches) -> Ma
     if !(k / 64 == (id as u32)) {
         return found;
     }
-    let m = matches_of(x, views::view_at(t, at));
+    let m = matches_of(x, keys::view_at(t, at, k));
     Matches {
         starts: found.starts | m.starts,
         differs: found.differs | m.differs,
@@ -133,14 +133,15 @@ fn bad_in_target(t: &[u8], os: &[u16], keys: &[u32], links: &[u16], heads: &[u16
 }
 
 // Rule 10 over the markers of the source sequence.
-fn ten_source(t: &[u8], os: &[u16]) -> Place
+fn ten_source(t: &[u8], os: &[u16], keys: &[u32]) -> Place
+    requires { ⌜ now keys ≡ keysAt (now t) (now os) ⌝ }
     ensures { λ r. ⌜ refusal-at 10 r ≡ first-of 10 (blamed bad-10-source [] (placed-at (now (t .entry)) (now (os .entry)))) ⌝ }
 {
     let mut best = Place::Nowhere;
     let mut i = 0;
     while i < os.len() {
         let at = views::wide(os[i]);
-        best = answers::lower_if(bad_copy_in_source(views::view_at(t, at)), best, at);
+        best = answers::lower_if(bad_copy_in_source(keys::view_at(t, at, keys[i])), best, at);
         i += 1;
     }
     best
@@ -155,9 +156,10 @@ fn ten_target(
     links: &[u16],
     heads: &[u16],
     os: &[u16],
+    keys: &[u32],
     start: Place,
 ) -> Place
-    requires { ⌜ LinkedItems (now t) (now src) (now skeys) (now links) (now heads) ⌝ }
+    requires { ⌜ LinkedItems (now t) (now src) (now skeys) (now links) (now heads) × (now keys ≡ keysAt (now t) (now os)) ⌝ }
     ensures { λ r. ⌜ refusal-at 10 r ≡ toward 10 start (blamed (bad-10-target (itemsAt (now (t .entry)) (now (src .entry)))) [] (placed-at (now (t .entry)) (now (os .entry)))) ⌝ }
 {
     let mut best = start;
@@ -165,7 +167,7 @@ fn ten_target(
     while i < os.len() {
         let at = views::wide(os[i]);
         best = answers::lower_if(
-            bad_in_target(t, src, skeys, links, heads, views::view_at(t, at)),
+            bad_in_target(t, src, skeys, links, heads, keys::view_at(t, at, keys[i])),
             best,
             at,
         );
@@ -174,13 +176,22 @@ fn ten_target(
     best
 }
 
-// Rule 10, by the offsets of the markers of both sequences.
-pub fn rule_10(t: &[u8], src: &[u16], skeys: &[u32], tgt: &[u16]) -> Place
-    requires { ⌜ Passes (now t) × (now src ≡ offsets true 0 (now t)) × (now skeys ≡ keysAt (now t) (now src)) × (now tgt ≡ target-offsets (now t) 0 (length (unit (now t) .parts))) × (length (now src) ≤ 1024) ⌝ }
+// Rule 10, by the offsets and the keys of the markers of both sequences.
+pub fn rule_10(t: &[u8], src: &[u16], skeys: &[u32], tgt: &[u16], tkeys: &[u32]) -> Place
+    requires { ⌜ Passes (now t) × (now src ≡ offsets true 0 (now t)) × (now skeys ≡ keysAt (now t) (now src)) × (now tgt ≡ target-offsets (now t) 0 (length (unit (now t) .parts))) × (length (now src) ≤ 1024) × (now tkeys ≡ keysAt (now t) (now tgt)) ⌝ }
     ensures { λ r. ⌜ refusal-at 10 r ≡ fault-10 (unit (now (t .entry)) .parts) ⌝ }
 {
     let mut links = [0u16; 1024];
     let mut heads = [0u16; 256];
     id_links::link_before(skeys, &mut links, &mut heads);
-    ten_target(t, src, skeys, &links, &heads, tgt, ten_source(t, src))
+    ten_target(
+        t,
+        src,
+        skeys,
+        &links,
+        &heads,
+        tgt,
+        tkeys,
+        ten_source(t, src, skeys),
+    )
 }

@@ -30,7 +30,7 @@ fn from_9(
         Place::At(at) => Answer::Refused(9, at),
         Place::Nowhere => answers::refused_by(
             10,
-            source_match::rule_10(t, src, skeys, tgt),
+            source_match::rule_10(t, src, skeys, tgt, tkeys),
             Answer::Accepted(len),
         ),
     }

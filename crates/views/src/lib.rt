@@ -25,7 +25,7 @@ pub struct View {
     pub reorder: u8,
 }
 
-fn nothing() -> View
+pub fn nothing() -> View
     ensures { λ r. ⌜ r ≡ nothing ⌝ }
 {
     View {
@@ -42,7 +42,7 @@ fn nothing() -> View
     }
 }
 
-fn code_view(class: u8, half: u8, pform: bool, f: Fields) -> View
+pub fn code_view(class: u8, half: u8, pform: bool, f: Fields) -> View
     ensures { λ r. ⌜ r ≡ codeView class half pform f ⌝ }
 {
     let l = f.letters;
@@ -60,7 +60,7 @@ fn code_view(class: u8, half: u8, pform: bool, f: Fields) -> View
     }
 }
 
-fn annotation_view(half: u8, pform: bool, id: u16) -> View
+pub fn annotation_view(half: u8, pform: bool, id: u16) -> View
     ensures { λ r. ⌜ r ≡ annotationView half pform id ⌝ }
 {
     View {

@@ -1,3 +1,5 @@
+use Rattle.keys.specs.Keys.{key}
+use Rattle.halves.proofs.Others.{key-at}
 use Rattle.overlap.proofs.TestLaws.{not-start, not-closed, no-end, with-end}
 use Rattle.overlap.specs.Nine.{strayAt, pairStart}
 use Rattle.halves.proofs.Others.{length-keys}
@@ -26,13 +28,15 @@ encloses-stray-spec =
     (λ c. search needs)
     (λ c. search needs)
     (λ c κs. search needs)
+    (λ c. search needs)
+    (λ c. omega (arith, ap length (c .before .before .before .before .before .before .before .before .before .before .before .pre .0), length-keys (c .before .before .before .before .before .before .before .before .before .before .before .args .t .now) (c .before .before .before .before .before .before .before .before .before .before .before .args .os .now), c .before .before .before .before .before .before .before .before .before .before .before .pre .5))
+    (λ c κs. ap (λ (l : List ℕ). getD l (c .before .before .before .before .before .before .before .before .before .before .before .args .i) 0) (c .before .before .before .before .before .before .before .before .before .before .before .pre .0) ∙ key-at (c .before .before .before .before .before .before .before .before .before .before .before .args .t .now) (c .before .before .before .before .before .before .before .before .before .before .before .args .os .now) (c .before .before .before .before .before .before .before .before .before .before .before .args .i) (c .before .before .before .before .before .before .before .before .before .before .before .pre .5) ∙ ap (λ (k : ℕ). key (item-at (c .before .before .before .before .before .before .before .before .before .before .before .args .t .now) k)) (sym (c .before .wide .ensures .0)))
     (λ c κs. search needs)
-    (λ c κs. search needs)
-    (λ c. not-closed (c .before .before .before .before .before .before .before .before .before .before .before .before .before .args .t .now) (c .before .before .before .before .before .before .before .before .before .before .before .before .before .args .os .now) (c .before .before .before .before .before .before .before .before .before .before .before .before .before .args .i) (c .before .before .before .before .before .before .before .before .before .before .before .before .before .pre .5) (earlier (marker-at (c .before .before .before .before .before .before .before .before .before .before .before .before .before .args .t .now) (c .before .before .before .before .before .before .before .before .before .before .before .before .before .args .os .now)) (c .before .before .before .before .before .before .before .before .before .before .before .before .before .args .i)) (c .before .before .view-at .result) (c .before .before .view-at .ensures ∙ ap (λ (k : ℕ). viewOf (item-at (c .before .before .before .before .before .before .before .before .before .before .before .before .before .args .t .now) k)) (c .before .before .before .wide .ensures .0)) (sym (c .before .is-closed-start .ensures) ∙ not-true _ (c .if2 .taken)))
+    (λ c. not-closed (c .before .before .before .before .before .before .before .before .before .before .before .before .before .before .args .t .now) (c .before .before .before .before .before .before .before .before .before .before .before .before .before .before .args .os .now) (c .before .before .before .before .before .before .before .before .before .before .before .before .before .before .args .i) (c .before .before .before .before .before .before .before .before .before .before .before .before .before .before .pre .5) (earlier (marker-at (c .before .before .before .before .before .before .before .before .before .before .before .before .before .before .args .t .now) (c .before .before .before .before .before .before .before .before .before .before .before .before .before .before .args .os .now)) (c .before .before .before .before .before .before .before .before .before .before .before .before .before .before .args .i)) (c .before .before .view-at .result) (c .before .before .view-at .ensures ∙ ap (λ (k : ℕ). viewOf (item-at (c .before .before .before .before .before .before .before .before .before .before .before .before .before .before .args .t .now) k)) (c .before .before .before .before .wide .ensures .0)) (sym (c .before .is-closed-start .ensures) ∙ not-true _ (c .if2 .taken)))
     (λ c. search needs)
     (λ c. search needs)
     (λ c κs. search needs)
-    (λ c. no-end (c .before .before .before .before .before .before .before .before .before .before .before .before .before .before .before .before .args .t .now) (c .before .before .before .before .before .before .before .before .before .before .before .before .before .before .before .before .args .os .now) (c .before .before .before .before .before .before .before .before .before .before .before .before .before .before .before .before .args .i) (c .before .before .before .before .before .before .before .before .before .before .before .before .before .before .before .before .pre .5) (earlier (marker-at (c .before .before .before .before .before .before .before .before .before .before .before .before .before .before .before .before .args .t .now) (c .before .before .before .before .before .before .before .before .before .before .before .before .before .before .before .before .args .os .now)) (c .before .before .before .before .before .before .before .before .before .before .before .before .before .before .before .before .args .i)) (c .before .before .before .before .before .view-at .result) (c .before .before .before .before .before .view-at .ensures ∙ ap (λ (k : ℕ). viewOf (item-at (c .before .before .before .before .before .before .before .before .before .before .before .before .before .before .before .before .args .t .now) k)) (c .before .before .before .before .before .before .wide .ensures .0)) (omega (arith, (c .if3 .taken), c .before .wide2 .ensures .0, (c .before .before .before .before .before .before .before .before .before .before .before .before .before .before .before .before .pre .2 .1 (c .before .before .before .before .before .before .before .before .before .before .before .before .before .before .before .before .args .i) (omega (arith, c .before .before .before .before .before .before .before .before .before .before .before .before .before .before .before .before .pre .5, ap length (c .before .before .before .before .before .before .before .before .before .before .before .before .before .before .before .before .pre .0), length-keys (c .before .before .before .before .before .before .before .before .before .before .before .before .before .before .before .before .args .t .now) (c .before .before .before .before .before .before .before .before .before .before .before .before .before .before .before .before .args .os .now))) ∙ ap (λ (k : List ℕ). half-after k (c .before .before .before .before .before .before .before .before .before .before .before .before .before .before .before .before .args .i)) (c .before .before .before .before .before .before .before .before .before .before .before .before .before .before .before .before .pre .0)))))
+    (λ c. no-end (c .before .before .before .before .before .before .before .before .before .before .before .before .before .before .before .before .before .args .t .now) (c .before .before .before .before .before .before .before .before .before .before .before .before .before .before .before .before .before .args .os .now) (c .before .before .before .before .before .before .before .before .before .before .before .before .before .before .before .before .before .args .i) (c .before .before .before .before .before .before .before .before .before .before .before .before .before .before .before .before .before .pre .5) (earlier (marker-at (c .before .before .before .before .before .before .before .before .before .before .before .before .before .before .before .before .before .args .t .now) (c .before .before .before .before .before .before .before .before .before .before .before .before .before .before .before .before .before .args .os .now)) (c .before .before .before .before .before .before .before .before .before .before .before .before .before .before .before .before .before .args .i)) (c .before .before .before .before .before .view-at .result) (c .before .before .before .before .before .view-at .ensures ∙ ap (λ (k : ℕ). viewOf (item-at (c .before .before .before .before .before .before .before .before .before .before .before .before .before .before .before .before .before .args .t .now) k)) (c .before .before .before .before .before .before .before .wide .ensures .0)) (omega (arith, (c .if3 .taken), c .before .wide2 .ensures .0, (c .before .before .before .before .before .before .before .before .before .before .before .before .before .before .before .before .before .pre .2 .1 (c .before .before .before .before .before .before .before .before .before .before .before .before .before .before .before .before .before .args .i) (omega (arith, c .before .before .before .before .before .before .before .before .before .before .before .before .before .before .before .before .before .pre .5, ap length (c .before .before .before .before .before .before .before .before .before .before .before .before .before .before .before .before .before .pre .0), length-keys (c .before .before .before .before .before .before .before .before .before .before .before .before .before .before .before .before .before .args .t .now) (c .before .before .before .before .before .before .before .before .before .before .before .before .before .before .before .before .before .args .os .now))) ∙ ap (λ (k : List ℕ). half-after k (c .before .before .before .before .before .before .before .before .before .before .before .before .before .before .before .before .before .args .i)) (c .before .before .before .before .before .before .before .before .before .before .before .before .before .before .before .before .before .pre .0)))))
     (λ c. search needs)
-    (λ c κs. (c .before .before .before .before .before .before .before .before .before .before .before .before .before .before .before .before .pre .2, c .before .before .before .before .before .before .before .before .before .before .before .before .before .before .before .before .pre .3, c .before .before .before .before .before .before .before .before .before .before .before .before .before .before .before .before .pre .4, omega (arith, (c .if3 .left), ap length (c .before .before .before .before .before .before .before .before .before .before .before .before .before .before .before .before .pre .0), length-keys (c .before .before .before .before .before .before .before .before .before .before .before .before .before .before .before .before .args .t .now) (c .before .before .before .before .before .before .before .before .before .before .before .before .before .before .before .before .args .os .now)), omega (arith, c .before .before .before .before .before .before .before .before .before .before .before .before .before .before .before .before .pre .1, ap length (c .before .before .before .before .before .before .before .before .before .before .before .before .before .before .before .before .pre .0), length-keys (c .before .before .before .before .before .before .before .before .before .before .before .before .before .before .before .before .args .t .now) (c .before .before .before .before .before .before .before .before .before .before .before .before .before .before .before .before .args .os .now))))
-    (λ c. with-end (c .before .before .before .before .before .before .before .before .before .before .before .before .before .before .before .before .before .args .t .now) (c .before .before .before .before .before .before .before .before .before .before .before .before .before .before .before .before .before .args .os .now) (c .before .before .before .before .before .before .before .before .before .before .before .before .before .before .before .before .before .args .i) (c .before .before .before .before .before .before .before .before .before .before .before .before .before .before .before .before .before .pre .5) (earlier (marker-at (c .before .before .before .before .before .before .before .before .before .before .before .before .before .before .before .before .before .args .t .now) (c .before .before .before .before .before .before .before .before .before .before .before .before .before .before .before .before .before .args .os .now)) (c .before .before .before .before .before .before .before .before .before .before .before .before .before .before .before .before .before .args .i)) (c .before .before .before .before .before .before .view-at .result) (c .before .before .before .before .before .before .view-at .ensures ∙ ap (λ (k : ℕ). viewOf (item-at (c .before .before .before .before .before .before .before .before .before .before .before .before .before .before .before .before .before .args .t .now) k)) (c .before .before .before .before .before .before .before .wide .ensures .0)) (sym (c .before .before .before .before .before .is-closed-start .ensures) ∙ not-false _ (c .before .before .before .before .if2 .left)) (c .before .before .wide2 .result) (c .first-stray .result) (c .before .before .wide2 .ensures .0 ∙ (c .before .before .before .before .before .before .before .before .before .before .before .before .before .before .before .before .before .pre .2 .1 (c .before .before .before .before .before .before .before .before .before .before .before .before .before .before .before .before .before .args .i) (omega (arith, c .before .before .before .before .before .before .before .before .before .before .before .before .before .before .before .before .before .pre .5, ap length (c .before .before .before .before .before .before .before .before .before .before .before .before .before .before .before .before .before .pre .0), length-keys (c .before .before .before .before .before .before .before .before .before .before .before .before .before .before .before .before .before .args .t .now) (c .before .before .before .before .before .before .before .before .before .before .before .before .before .before .before .before .before .args .os .now))) ∙ ap (λ (k : List ℕ). half-after k (c .before .before .before .before .before .before .before .before .before .before .before .before .before .before .before .before .before .args .i)) (c .before .before .before .before .before .before .before .before .before .before .before .before .before .before .before .before .before .pre .0))) (c .before .if3 .left) (c .first-stray .ensures ∙ ap (λ (k : List ℕ). next (strayAt k ((c .before .before .before .before .before .before .before .before .before .before .before .before .before .before .before .before .before .args .i) + 1) (c .before .before .wide2 .result)) ((c .before .before .before .before .before .before .before .before .before .before .before .before .before .before .before .before .before .args .i) + 1) (c .before .before .wide2 .result - ((c .before .before .before .before .before .before .before .before .before .before .before .before .before .before .before .before .before .args .i) + 1))) (c .before .before .before .before .before .before .before .before .before .before .before .before .before .before .before .before .before .pre .0))))
+    (λ c κs. (c .before .before .before .before .before .before .before .before .before .before .before .before .before .before .before .before .before .pre .2, c .before .before .before .before .before .before .before .before .before .before .before .before .before .before .before .before .before .pre .3, c .before .before .before .before .before .before .before .before .before .before .before .before .before .before .before .before .before .pre .4, omega (arith, (c .if3 .left), ap length (c .before .before .before .before .before .before .before .before .before .before .before .before .before .before .before .before .before .pre .0), length-keys (c .before .before .before .before .before .before .before .before .before .before .before .before .before .before .before .before .before .args .t .now) (c .before .before .before .before .before .before .before .before .before .before .before .before .before .before .before .before .before .args .os .now)), omega (arith, c .before .before .before .before .before .before .before .before .before .before .before .before .before .before .before .before .before .pre .1, ap length (c .before .before .before .before .before .before .before .before .before .before .before .before .before .before .before .before .before .pre .0), length-keys (c .before .before .before .before .before .before .before .before .before .before .before .before .before .before .before .before .before .args .t .now) (c .before .before .before .before .before .before .before .before .before .before .before .before .before .before .before .before .before .args .os .now))))
+    (λ c. with-end (c .before .before .before .before .before .before .before .before .before .before .before .before .before .before .before .before .before .before .args .t .now) (c .before .before .before .before .before .before .before .before .before .before .before .before .before .before .before .before .before .before .args .os .now) (c .before .before .before .before .before .before .before .before .before .before .before .before .before .before .before .before .before .before .args .i) (c .before .before .before .before .before .before .before .before .before .before .before .before .before .before .before .before .before .before .pre .5) (earlier (marker-at (c .before .before .before .before .before .before .before .before .before .before .before .before .before .before .before .before .before .before .args .t .now) (c .before .before .before .before .before .before .before .before .before .before .before .before .before .before .before .before .before .before .args .os .now)) (c .before .before .before .before .before .before .before .before .before .before .before .before .before .before .before .before .before .before .args .i)) (c .before .before .before .before .before .before .view-at .result) (c .before .before .before .before .before .before .view-at .ensures ∙ ap (λ (k : ℕ). viewOf (item-at (c .before .before .before .before .before .before .before .before .before .before .before .before .before .before .before .before .before .before .args .t .now) k)) (c .before .before .before .before .before .before .before .before .wide .ensures .0)) (sym (c .before .before .before .before .before .is-closed-start .ensures) ∙ not-false _ (c .before .before .before .before .if2 .left)) (c .before .before .wide2 .result) (c .first-stray .result) (c .before .before .wide2 .ensures .0 ∙ (c .before .before .before .before .before .before .before .before .before .before .before .before .before .before .before .before .before .before .pre .2 .1 (c .before .before .before .before .before .before .before .before .before .before .before .before .before .before .before .before .before .before .args .i) (omega (arith, c .before .before .before .before .before .before .before .before .before .before .before .before .before .before .before .before .before .before .pre .5, ap length (c .before .before .before .before .before .before .before .before .before .before .before .before .before .before .before .before .before .before .pre .0), length-keys (c .before .before .before .before .before .before .before .before .before .before .before .before .before .before .before .before .before .before .args .t .now) (c .before .before .before .before .before .before .before .before .before .before .before .before .before .before .before .before .before .before .args .os .now))) ∙ ap (λ (k : List ℕ). half-after k (c .before .before .before .before .before .before .before .before .before .before .before .before .before .before .before .before .before .before .args .i)) (c .before .before .before .before .before .before .before .before .before .before .before .before .before .before .before .before .before .before .pre .0))) (c .before .if3 .left) (c .first-stray .ensures ∙ ap (λ (k : List ℕ). next (strayAt k ((c .before .before .before .before .before .before .before .before .before .before .before .before .before .before .before .before .before .before .args .i) + 1) (c .before .before .wide2 .result)) ((c .before .before .before .before .before .before .before .before .before .before .before .before .before .before .before .before .before .before .args .i) + 1) (c .before .before .wide2 .result - ((c .before .before .before .before .before .before .before .before .before .before .before .before .before .before .before .before .before .before .args .i) + 1))) (c .before .before .before .before .before .before .before .before .before .before .before .before .before .before .before .before .before .before .pre .0))))

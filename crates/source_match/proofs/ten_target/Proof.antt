@@ -1,7 +1,10 @@
+use Rattle.keys.specs.Keys.{key}
+use native.Mathlib.Omega.{arith}
+use Rattle.halves.proofs.Others.{length-keys, key-at}
 use Prim.Native.Nat.{ℕ, suc, _-_, _≤_}
-use mathlib.Core.List.{[]}
+use mathlib.Core.List.{List, []}
 use mathlib.Core.Path.{_≡_, _∙_, refl, sym, ap}
-use lib.ListN.{length, drop}
+use lib.ListN.{length, drop, getD}
 use Rattle.answers.specs.Answers.{toward}
 use Rattle.answers.proofs.Places.{blamed-end}
 use Rattle.xliff.specs.Sequences.{blamed, items}
@@ -17,10 +20,10 @@ use Rattle.source_match.proofs.ten_target.Statement.{statement}
 use Rattle.source_match.proofs.ten_target.Tie as tie
 
 abbrev Inv-loop : tie.InvT-loop
-Inv-loop t src skeys links heads os best₀ i₀ best i = (i ≤ length os) × (toward 10 best₀ (blamed (bad-10-target (itemsAt t src)) [] (placed-at t os)) ≡ toward 10 best (blamed (bad-10-target (itemsAt t src)) (earlier (marker-at t os) i) (placed-at t (drop i os))))
+Inv-loop t src skeys links heads os keys best₀ i₀ best i = (i ≤ length os) × (toward 10 best₀ (blamed (bad-10-target (itemsAt t src)) [] (placed-at t os)) ≡ toward 10 best (blamed (bad-10-target (itemsAt t src)) (earlier (marker-at t os) i) (placed-at t (drop i os))))
 
 abbrev μ-loop : tie.MeasureT-loop
-μ-loop t src skeys links heads os best₀ i₀ best i = length os - i
+μ-loop t src skeys links heads os keys best₀ i₀ best i = length os - i
 
 pub ten-target-spec : {M : Type 1} → statement M
 unfolding earlier
@@ -33,10 +36,12 @@ ten-target-spec =
     (λ c. search needs)
     (λ c. search needs)
     (λ c κs. search needs)
-    (λ c κs. search needs)
-    (λ c κs. search needs)
-    (λ c κs. search needs)
     (λ c. search needs)
-    (λ c. search needs)
-    (λ c. (search needs, c .before .before .before .before .before .before .loop .inv .1 ∙ blamed-step 10 (bad-10-target (itemsAt (c .before .before .before .before .before .before .before .before .before .before .before .before .before .args .t .now) (c .before .before .before .before .before .before .before .before .before .before .before .before .before .args .src .now))) (c .before .before .before .before .before .before .before .before .before .before .before .before .before .args .t .now) (c .before .before .before .before .before .before .before .before .before .before .before .before .before .args .os .now) (c .before .before .before .before .before .before .loop .i) (c .before .before .before .before .before .before .loop .best) (c .before .bad-in-target .result) (c .before .before .before .wide .result) (c .lower-if .result) (c .before .before .before .before .before .loop-test .taken) (c .before .before .before .wide .ensures .0) (c .before .bad-in-target .ensures ∙ ap (badTenTarget (itemsAt (c .before .before .before .before .before .before .before .before .before .before .before .before .before .args .t .now) (c .before .before .before .before .before .before .before .before .before .before .before .before .before .args .src .now))) (c .before .before .view-at .ensures ∙ ap (λ (k : ℕ). viewOf (item-at (c .before .before .before .before .before .before .before .before .before .before .before .before .before .args .t .now) k)) (c .before .before .before .wide .ensures .0)) ∙ ten-target-is (marker-at (c .before .before .before .before .before .before .before .before .before .before .before .before .before .args .t .now) (c .before .before .before .before .before .before .before .before .before .before .before .before .before .args .os .now) (c .before .before .before .before .before .before .loop .i)) (itemsAt (c .before .before .before .before .before .before .before .before .before .before .before .before .before .args .t .now) (c .before .before .before .before .before .before .before .before .before .before .before .before .before .args .src .now)) (earlier (marker-at (c .before .before .before .before .before .before .before .before .before .before .before .before .before .args .t .now) (c .before .before .before .before .before .before .before .before .before .before .before .before .before .args .os .now)) (c .before .before .before .before .before .before .loop .i)) (items (placed-at (c .before .before .before .before .before .before .before .before .before .before .before .before .before .args .t .now) (drop (suc (c .before .before .before .before .before .before .loop .i)) (c .before .before .before .before .before .before .before .before .before .before .before .before .before .args .os .now))))) (c .lower-if .ensures)))
-    (λ c. sym (c .before .loop .inv .1 ∙ blamed-end (bad-10-target (itemsAt (c .before .before .before .before .before .before .before .before .args .t .now) (c .before .before .before .before .before .before .before .before .args .src .now))) (c .before .before .before .before .before .before .before .before .args .t .now) (c .before .before .before .before .before .before .before .before .args .os .now) (earlier (marker-at (c .before .before .before .before .before .before .before .before .args .t .now) (c .before .before .before .before .before .before .before .before .args .os .now)) (c .before .loop .i)) (c .before .loop .i) (c .before .loop .best) 10 (c .loop-test .left))))
+    (λ c. omega (arith, ap length (c .before .before .before .before .before .before .before .before .before .before .before .before .pre .1), length-keys (c .before .before .before .before .before .before .before .before .before .before .before .before .args .t .now) (c .before .before .before .before .before .before .before .before .before .before .before .before .args .os .now), c .before .before .before .loop-test .taken))
+    (λ c κs. ap (λ (l : List ℕ). getD l (c .before .before .before .before .loop .i) 0) (c .before .before .before .before .before .before .before .before .before .before .before .before .pre .1) ∙ key-at (c .before .before .before .before .before .before .before .before .before .before .before .before .args .t .now) (c .before .before .before .before .before .before .before .before .before .before .before .before .args .os .now) (c .before .before .before .before .loop .i) (c .before .before .before .loop-test .taken) ∙ ap (λ (k : ℕ). key (item-at (c .before .before .before .before .before .before .before .before .before .before .before .before .args .t .now) k)) (sym (c .before .wide .ensures .0)))
+    (λ c κs. c .before .before .before .before .before .before .before .before .before .before .before .before .before .pre .0)
+    (λ c κs. search needs)
+    (λ c. omega (arith, c .before .before .before .before .before .before .loop-test .taken, c .before .before .before .before .before .before .before .before .before .before .before .before .before .before .before .good))
+    (λ c. omega (arith, c .before .before .before .before .before .before .loop-test .taken))
+    (λ c. (search needs, c .before .before .before .before .before .before .before .loop .inv .1 ∙ blamed-step 10 (bad-10-target (itemsAt (c .before .before .before .before .before .before .before .before .before .before .before .before .before .before .before .args .t .now) (c .before .before .before .before .before .before .before .before .before .before .before .before .before .before .before .args .src .now))) (c .before .before .before .before .before .before .before .before .before .before .before .before .before .before .before .args .t .now) (c .before .before .before .before .before .before .before .before .before .before .before .before .before .before .before .args .os .now) (c .before .before .before .before .before .before .before .loop .i) (c .before .before .before .before .before .before .before .loop .best) (c .before .bad-in-target .result) (c .before .before .before .before .wide .result) (c .lower-if .result) (c .before .before .before .before .before .before .loop-test .taken) (c .before .before .before .before .wide .ensures .0) (c .before .bad-in-target .ensures ∙ ap (badTenTarget (itemsAt (c .before .before .before .before .before .before .before .before .before .before .before .before .before .before .before .args .t .now) (c .before .before .before .before .before .before .before .before .before .before .before .before .before .before .before .args .src .now))) (c .before .before .view-at .ensures ∙ ap (λ (k : ℕ). viewOf (item-at (c .before .before .before .before .before .before .before .before .before .before .before .before .before .before .before .args .t .now) k)) (c .before .before .before .before .wide .ensures .0)) ∙ ten-target-is (marker-at (c .before .before .before .before .before .before .before .before .before .before .before .before .before .before .before .args .t .now) (c .before .before .before .before .before .before .before .before .before .before .before .before .before .before .before .args .os .now) (c .before .before .before .before .before .before .before .loop .i)) (itemsAt (c .before .before .before .before .before .before .before .before .before .before .before .before .before .before .before .args .t .now) (c .before .before .before .before .before .before .before .before .before .before .before .before .before .before .before .args .src .now)) (earlier (marker-at (c .before .before .before .before .before .before .before .before .before .before .before .before .before .before .before .args .t .now) (c .before .before .before .before .before .before .before .before .before .before .before .before .before .before .before .args .os .now)) (c .before .before .before .before .before .before .before .loop .i)) (items (placed-at (c .before .before .before .before .before .before .before .before .before .before .before .before .before .before .before .args .t .now) (drop (suc (c .before .before .before .before .before .before .before .loop .i)) (c .before .before .before .before .before .before .before .before .before .before .before .before .before .before .before .args .os .now))))) (c .lower-if .ensures)))
+    (λ c. sym (c .before .loop .inv .1 ∙ blamed-end (bad-10-target (itemsAt (c .before .before .before .before .before .before .before .before .before .args .t .now) (c .before .before .before .before .before .before .before .before .before .args .src .now))) (c .before .before .before .before .before .before .before .before .before .args .t .now) (c .before .before .before .before .before .before .before .before .before .args .os .now) (earlier (marker-at (c .before .before .before .before .before .before .before .before .before .args .t .now) (c .before .before .before .before .before .before .before .before .before .args .os .now)) (c .before .loop .i)) (c .before .loop .i) (c .before .loop .best) 10 (c .loop-test .left))))
