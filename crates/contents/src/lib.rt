@@ -77,7 +77,7 @@ fn key_by(head: u8, key: u32) -> u32
 }
 
 // The key of the record at an offset: 1 for TG, 0 for all but TG and markers, also where no record is.
-fn bar_key(t: &[u8], at: usize) -> u32
+fn read_key(t: &[u8], at: usize) -> u32
     ensures { λ r. ⌜ r ≡ bar-key (read (drop at (now (t .entry)))) ⌝ }
 {
     if t.len() < at {
@@ -85,6 +85,19 @@ fn bar_key(t: &[u8], at: usize) -> u32
     }
     let r = walker::known_at(t, at);
     key_by(head_of(r), keys::key_of(views::read_view(r)))
+}
+
+// The same. Only a record whose mark begins as that of TG is read whole.
+fn bar_key(t: &[u8], at: usize) -> u32
+    ensures { λ r. ⌜ r ≡ bar-key (read (drop at (now (t .entry)))) ⌝ }
+{
+    if t.len() <= at {
+        return 0;
+    }
+    if t[at] == b'T' {
+        return read_key(t, at);
+    }
+    keys::key_at(t, at)
 }
 
 // The keys of the heads and markers at some offsets, at the front of `out`.

@@ -1,3 +1,4 @@
 pub mod KeyLaws
 pub mod FillLaws
 pub mod SeenLaws
+pub mod MarkLaws

@@ -6,6 +6,7 @@ ghost use Prim.Native.Nat.{_+_, _*_, _/_, _%_, _<_, _≤_};
 ghost use lib.ListN.{length, take};
 ghost use Rattle.places.specs.Markers.{item-at};
 ghost use Rattle.views.specs.Views.{viewOf};
+ghost use Rattle.keys.specs.Marks.{lowAfterP, lowAfterS, lowAfterE, lowAfterM, lowAfterI, lowOf, codeGood, startGood, endGood, markerGood, markerKey};
 ghost use Rattle.keys.specs.Keys.{key, keysAt, keyOf, alikeKeys, otherKey, halfKey, formKey, classKey};
 
 fn bit(b: bool) -> u32
@@ -20,11 +21,147 @@ pub fn key_of(v: View) -> u32
     (v.id as u32) * 64 + ((v.class as u32) * 8 + ((v.half as u32) * 2 + bit(v.pform)))
 }
 
+// What a mark says of the key: 8 times the class, twice the half, 1 for PO PC MO MC; 0 where it is no marker's. So by the second letter, after P, S, E, M and I.
+fn low_after_p(b: u8) -> u32
+    ensures { λ r. ⌜ (r ≡ lowAfterP b) × (r ≤ 45) ⌝ }
+{
+    if b == b'O' {
+        return 19;
+    }
+    if b == b'C' {
+        return 21;
+    }
+    if b == b'H' { 8 } else { 0 }
+}
+
+fn low_after_s(b: u8) -> u32
+    ensures { λ r. ⌜ (r ≡ lowAfterS b) × (r ≤ 45) ⌝ }
+{
+    if b == b'M' {
+        return 42;
+    }
+    if b == b'C' { 18 } else { 0 }
+}
+
+fn low_after_e(b: u8) -> u32
+    ensures { λ r. ⌜ (r ≡ lowAfterE b) × (r ≤ 45) ⌝ }
+{
+    if b == b'M' {
+        return 44;
+    }
+    if b == b'C' { 20 } else { 0 }
+}
+
+fn low_after_m(b: u8) -> u32
+    ensures { λ r. ⌜ (r ≡ lowAfterM b) × (r ≤ 45) ⌝ }
+{
+    if b == b'O' {
+        return 43;
+    }
+    if b == b'C' { 45 } else { 0 }
+}
+
+fn low_after_i(b: u8) -> u32
+    ensures { λ r. ⌜ (r ≡ lowAfterI b) × (r ≤ 45) ⌝ }
+{
+    if b == b'S' {
+        return 24;
+    }
+    if b == b'E' { 32 } else { 0 }
+}
+
+fn low_of(a: u8, b: u8) -> u32
+    ensures { λ r. ⌜ (r ≡ lowOf a b) × (r ≤ 45) ⌝ }
+{
+    if a == b'P' {
+        return low_after_p(b);
+    }
+    if a == b'S' {
+        return low_after_s(b);
+    }
+    if a == b'E' {
+        return low_after_e(b);
+    }
+    if a == b'M' {
+        return low_after_m(b);
+    }
+    if a == b'I' {
+        return low_after_i(b);
+    }
+    0
+}
+
+// Whether the fields of a code are good; so of the start and of the end of an annotation.
+fn code_good(s: &[u8], alone: bool) -> bool
+    ensures { λ r. ⌜ r ≡ codeGood (now (s .entry)) alone ⌝ }
+{
+    if s.len() < 12 {
+        return false;
+    }
+    table::fields_ok(alone, table::read_fields(s))
+}
+
+fn start_good(s: &[u8]) -> bool
+    ensures { λ r. ⌜ r ≡ startGood (now (s .entry)) ⌝ }
+{
+    if s.len() < 5 {
+        return false;
+    }
+    !(table::number_at(s, 2) == 0) & table::yes_no_none(s[4])
+}
+
+fn end_good(s: &[u8]) -> bool
+    requires { ⌜ 4 ≤ length (now s) ⌝ }
+    ensures { λ r. ⌜ r ≡ endGood (now (s .entry)) ⌝ }
+{
+    !(table::number_at(s, 2) == 0)
+}
+
+// Whether a marker's fields are good, by what its mark says.
+fn marker_good(s: &[u8], low: u32) -> bool
+    requires { ⌜ 4 ≤ length (now s) ⌝ }
+    ensures { λ r. ⌜ r ≡ markerGood (now (s .entry)) low ⌝ }
+{
+    if low < 40 {
+        return code_good(s, low == 8);
+    }
+    if low < 44 {
+        return start_good(s);
+    }
+    end_good(s)
+}
+
+fn wide(x: u16) -> u32
+    ensures { λ r. ⌜ (r ≡ x) × (r < 65536) ⌝ }
+{
+    x as u32
+}
+
+// The key of the item at the head of `s`; where none is, as a text's.
+fn marker_key(s: &[u8]) -> u32
+    ensures { λ r. ⌜ r ≡ markerKey (now (s .entry)) ⌝ }
+{
+    if s.len() < 4 {
+        return 0;
+    }
+    let low = low_of(s[0], s[1]);
+    if low == 0 {
+        return 0;
+    }
+    if !marker_good(s, low) {
+        return 0;
+    }
+    wide(table::number_at(s, 2)) * 64 + low
+}
+
 // The key of the item at an offset; where none is, as a text's.
-fn key_at(t: &[u8], at: usize) -> u32
+pub fn key_at(t: &[u8], at: usize) -> u32
     ensures { λ r. ⌜ r ≡ key (item-at (now (t .entry)) at) ⌝ }
 {
-    key_of(views::view_at(t, at))
+    if t.len() < at {
+        return 0;
+    }
+    marker_key(&t[at..])
 }
 
 // The item at an offset whose key is known: what the key holds is not read again, and nothing is looked at twice.

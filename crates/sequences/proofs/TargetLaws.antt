@@ -4,8 +4,9 @@ use mathlib.Core.Path.{_≡_, refl, sym, _∙_, ap, subst}
 use mathlib.Core.Bool.{Bool, true, false, cond}
 use mathlib.Core.List.{List, [], _∷_, _++_, map, append-assoc}
 use native.Mathlib.Omega.{arith}
-use borrow.Author.Tests.{eq-eqb, ne-eqb}
-use lib.ListN.{length, drop, getD, drop-of-length-le, length-append, length-map}
+use borrow.Author.Tests.{eq-eqb, ne-eqb, eqb-true, eqb-false}
+use lib.ListN.{length, drop, getD, set, drop-of-length-le, length-append, length-map}
+use lib.Seq.{getD-set-same, getD-set-other}
 use lib.Dec.{eqb}
 use Rattle.xliff.specs.Bytes.{gather}
 use Rattle.xliff.specs.Item as spec
@@ -24,7 +25,7 @@ use Rattle.glance.specs.declared.Glance.{Glance}
 use Rattle.glance.specs.Glances.{orderNumber, Glanced}
 use Rattle.orders.proofs.WalkLaws.{Walked, walked, few-parts}
 use Rattle.sequences.specs.Marks.{places, offsets}
-use Rattle.sequences.specs.Targets.{TargetHead, head-here, heads-from, heads-of, head-offsets, head-number, content-marks, of-order}
+use Rattle.sequences.specs.Targets.{TargetHead, head-here, heads-from, heads-of, head-offsets, head-number, content-marks, of-order, Ordered}
 
 -- The markers of the targets of an order are those of its TG records, one after the other
 abbrev here : Bool → ℕ → List encode.Record → List ℕ
@@ -167,6 +168,18 @@ pub heads-done : (t heads : List ℕ) (i q : ℕ) → heads ≡ head-offsets t �
 unfolding head-offsets gather
 heads-done t heads i q e l =
     ap (gather (of-order q)) (drop-of-length-le (heads-of t) (let z : length (heads-of t) ≤ i = omega (arith, l, ap length e, length-map (heads-of t) (λ (h : TargetHead). h .at)) in z))
+
+-- The orders of the TG records in an array
+pub other-order : (q : ℕ) (h : TargetHead) → (q ≡ h .order → ⊥) → of-order q h ≡ []
+unfolding of-order
+other-order q h e = ap (λ (c : Bool). cond c (content-marks (h .at + length (record-bytes (target-head (h .order)))) (h .behind)) []) (ne-eqb q (h .order) e)
+
+pub ordered-on : (t out : List ℕ) (i v : ℕ) → i < length out → Ordered t i out → v ≡ head-number t i .order → Ordered t (i + 1) (set out i v)
+ordered-on t out i v l f e k h = by (eqb k i) refl
+  where
+    by : (b : Bool) → eqb k i ≡ b → getD (set out i v) k 0 ≡ head-number t k .order
+    by true p = ap (λ (j : ℕ). getD (set out i v) j 0) (eqb-true k i p) ∙ getD-set-same out i v 0 l ∙ e ∙ ap (λ (j : ℕ). head-number t j .order) (sym (eqb-true k i p))
+    by false p = getD-set-other out i k v 0 (λ z. eqb-false k i p z) ∙ f k (let n = eqb-false k i p in omega (arith, n))
 
 -- There are no more TG records than parts: at most one to a part
 one-if : encode.Record → ℕ

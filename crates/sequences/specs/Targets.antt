@@ -1,5 +1,6 @@
 -- The markers of the targets by their TG records.
-use Prim.Native.Nat.{ℕ, _+_}
+use Prim.Native.Nat.{ℕ, _+_, _<_}
+use mathlib.Core.Path.{_≡_}
 use mathlib.Core.Bool.{true, cond}
 use mathlib.Core.List.{List, [], _∷_, _++_, map}
 use lib.ListN.{length, getD}
@@ -54,3 +55,7 @@ content-marks at (broken b ∷ rs) = content-marks (at + length (record-bytes (b
 -- the markers of a target, if its order is q
 unfoldable pub of-order : ℕ → TargetHead → List ℕ
 of-order q h = cond (eqb q (h .order)) (content-marks (h .at + length (record-bytes (target-head (h .order)))) (h .behind)) []
+
+-- an array that holds the orders of the first n of them
+abbrev pub Ordered : List ℕ → ℕ → List ℕ → Type 0
+Ordered t n out = (k : ℕ) → k < n → getD out k 0 ≡ head-number t k .order

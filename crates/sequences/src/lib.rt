@@ -7,7 +7,7 @@ ghost use lib.ListN.{length, take};
 ghost use Rattle.places.specs.Passes.{Passes};
 ghost use Rattle.places.specs.Markers.{target-offsets};
 ghost use Rattle.sequences.specs.Marks.{insideSource, offsets};
-ghost use Rattle.sequences.specs.Targets.{head-offsets, head-number, of-order};
+ghost use Rattle.sequences.specs.Targets.{head-offsets, head-number, of-order, Ordered};
 
 // `at` behind the first `m` of `out`, if asked for; how many there are then.
 pub fn put_if(b: bool, out: &mut [u16], m: usize, at: u16) -> usize
@@ -89,15 +89,47 @@ fn target_markers(t: &[u8], heads: &[u16], i: usize, q: u16, out: &mut [u16], n:
     m
 }
 
-// The markers of the targets of order `q`, behind the first `n`; `heads` are the offsets of the TG records.
-fn collect(t: &[u8], heads: &[u16], q: u16, out: &mut [u16], n: usize) -> usize
-    requires { ⌜ Passes (now t) × (length (now t) ≤ 8192) × (now heads ≡ head-offsets (now t)) × (length (offsets false q (now t)) + n ≤ length (now out)) × (length (now out) ≤ 1024) ⌝ }
+// The orders of the TG records at the offsets `heads`, at the front of `out`.
+fn head_orders(t: &[u8], heads: &[u16], out: &mut [u16])
+    requires { ⌜ Passes (now t) × (now heads ≡ head-offsets (now t)) × (length (now heads) ≤ length (now out)) ⌝ }
+    ensures { λ r. ⌜ (length (now (out .exit)) ≡ length (now (out .entry))) × Ordered (now (t .entry)) (length (now (heads .entry))) (now (out .exit)) ⌝ }
+{
+    let mut i: usize = 0;
+    while i < heads.len() {
+        let g = walker::glance_at(t, wide(heads[i]));
+        out[i] = g.order;
+        i += 1;
+    }
+}
+
+// As `target_markers`, by the orders of the TG records: the table is read only where the order is `q`.
+fn markers_of(
+    t: &[u8],
+    heads: &[u16],
+    orders: &[u16],
+    i: usize,
+    q: u16,
+    out: &mut [u16],
+    n: usize,
+) -> usize
+    requires { ⌜ Passes (now t) × (length (now t) ≤ 8192) × (now heads ≡ head-offsets (now t)) × (i < length (now heads)) × (length (of-order q (head-number (now t) i)) + n ≤ length (now out)) × (length (now out) ≤ 1024) × (length (now heads) ≤ length (now orders)) × Ordered (now t) (length (now heads)) (now orders) ⌝ }
+    ensures { λ r. ⌜ (take r (now (out .exit)) ≡ take n (now (out .entry)) ++ of-order q (head-number (now (t .entry)) i)) × (r ≡ length (of-order q (head-number (now (t .entry)) i)) + n) × (length (now (out .exit)) ≡ length (now (out .entry))) ⌝ }
+{
+    if q != orders[i] {
+        return n;
+    }
+    target_markers(t, heads, i, q, out, n)
+}
+
+// The markers of the targets of order `q`, behind the first `n`; `heads` and `orders` are the offsets and the orders of the TG records.
+fn collect(t: &[u8], heads: &[u16], orders: &[u16], q: u16, out: &mut [u16], n: usize) -> usize
+    requires { ⌜ Passes (now t) × (length (now t) ≤ 8192) × (now heads ≡ head-offsets (now t)) × (length (offsets false q (now t)) + n ≤ length (now out)) × (length (now out) ≤ 1024) × (length (now heads) ≤ length (now orders)) × Ordered (now t) (length (now heads)) (now orders) ⌝ }
     ensures { λ r. ⌜ (take r (now (out .exit)) ≡ take n (now (out .entry)) ++ offsets false q (now (t .entry))) × (r ≡ length (offsets false q (now (t .entry))) + n) × (length (now (out .exit)) ≡ length (now (out .entry))) ⌝ }
 {
     let mut m = n;
     let mut i: usize = 0;
     while i < heads.len() {
-        m = target_markers(t, heads, i, q, out, m);
+        m = markers_of(t, heads, orders, i, q, out, m);
         i += 1;
     }
     m
@@ -109,11 +141,13 @@ pub fn targets(t: &[u8], parts: u16, out: &mut [u16]) -> usize
     ensures { λ r. ⌜ (take r (now (out .exit)) ≡ target-offsets (now (t .entry)) 0 parts) × (r ≤ 1024) × (length (now (out .exit)) ≡ 1024) ⌝ }
 {
     let mut heads = [0u16; 64];
+    let mut orders = [0u16; 64];
     let k = target_heads(t, &mut heads);
+    head_orders(t, &heads[..k], &mut orders);
     let mut q: u16 = 0;
     let mut n: usize = 0;
     while q < parts {
-        n = collect(t, &heads[..k], q + 1, out, n);
+        n = collect(t, &heads[..k], &orders, q + 1, out, n);
         q += 1;
     }
     n

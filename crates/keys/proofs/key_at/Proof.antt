@@ -1,6 +1,7 @@
-use mathlib.Core.Path.{_∙_, ap}
-use Rattle.keys.specs.Keys.{keyOf}
-use Rattle.keys.proofs.KeyLaws.{key-view}
+use mathlib.Core.Path.{_∙_}
+use native.Mathlib.Omega.{arith}
+use Rattle.xliff.proofs.lists.Slices.{tail-is}
+use Rattle.keys.proofs.MarkLaws.{key-of-bytes, no-key}
 use borrow.Author.Needs.{needs}
 use Rattle.keys.proofs.key_at.Statement.{statement}
 use Rattle.keys.proofs.key_at.Tie as tie
@@ -9,6 +10,9 @@ pub key-at-spec : {M : Type 1} → statement M
 key-at-spec =
     tie.close
     (tie.spec
+    (λ c. no-key (c .before .before .args .t .now) (c .before .before .args .at) (omega (arith, (c .if1 .taken))))
+    (λ c. search needs)
+    (λ c. search needs)
+    (λ c. search needs)
     (λ c κs. search needs)
-    (λ c κs. search needs)
-    (λ c. c .key-of .ensures ∙ ap keyOf (c .before .view-at .ensures) ∙ key-view _))
+    (λ c. simp tail-is at (c .marker-key .ensures) ∙ key-of-bytes (c .before .before .before .before .args .t .now) (c .before .before .before .before .args .at)))
