@@ -1,11 +1,11 @@
 -- Rule 6, one record further.
 use Prim.Native.Nat.{ℕ, zero, suc, _+_, _-_, _/_, _%_, _≤_, _<_}
-use mathlib.Core.Path.{_≡_, refl, sym, _∙_, ap, ap₂}
+use mathlib.Core.Path.{_≡_, refl, sym, _∙_, ap, ap₂, subst}
 use mathlib.Core.Bool.{Bool, true, false, not, _&&_, _||_, cond, true≢false}
 use mathlib.Core.List.{List, [], _∷_, _++_}
 use mathlib.Core.Option.{none}
 use native.Mathlib.Omega.{arith}
-use borrow.Author.Tests.{eqb-true}
+use borrow.Author.Tests.{eqb-true, ne-eqb}
 use lib.ListN.{length, take, drop, set}
 use lib.Seq.{take-suc-set}
 use lib.Dec.{eqb}
@@ -13,18 +13,19 @@ use Rattle.xliff.specs.Bytes.{any}
 use Rattle.xliff.specs.Answer.{refusal}
 use Rattle.xliff.specs.Encode as encode
 use Rattle.xliff.specs.Encode.{record-bytes, unit-records}
-use Rattle.xliff.specs.Parse.{unit}
+use Rattle.xliff.specs.Parse.{unit, read, is-part}
 use Rattle.xliff.proofs.lists.Tests.{any-append}
 use Rattle.xliff.specs.Rules.{Owner, of-part, of-source, of-target, Named, start-name, clashes, may-share, first-clash, fault-6}
-use Rattle.places.proofs.Places.{At, at-end}
+use Rattle.places.proofs.Places.{At, at-next, at-end}
 use Rattle.places.specs.Found.{found, found-at, state-after, head-name, no-name, names-found}
 use Rattle.places.proofs.Found.{rule-6-found}
-use Rattle.table.specs.Meaning.{meaning, width, body}
+use Rattle.table.specs.Meaning.{record-meaning, body}
+use Rattle.table.specs.declared.Record.{Record}
 use Rattle.table.specs.declared.Record.the-variants.{Unit as UnitStart, UnitEnd, Segment, Ignorable, Target, Text, Inline}
-use Rattle.table.specs.declared.Read.{Read}
-use Rattle.table.specs.declared.Read.the-variants.{Good, Ill, Broken}
-use Rattle.orders.proofs.WalkLaws.{Stepped}
-use Rattle.ids.specs.Keys.{owner, named, clashTest, ReadKeyed, ownerOf}
+use Rattle.glance.specs.declared.Glance.{Glance}
+use Rattle.glance.specs.Glances.{headIn}
+use Rattle.orders.proofs.WalkLaws.{Walked}
+use Rattle.ids.specs.Keys.{owner, named, clashTest, ownerBy, NameAt}
 
 unfoldable pub named-key : ℕ → Named
 named-key k = record { owner = owner (k % 64); name = k / 64; at = 0 }
@@ -111,42 +112,51 @@ module _ (keys : List ℕ) (n : ℕ) (met : List Named) (m : Met keys n met) (k 
       by false e = (record { owner = owner (k % 64); name = k / 64; at = at } ∷ met, rw (hits k at n keys met m ∙ e), λ x. met-more keys n met m k at h x)
 
 -- the owner after a record
-owner-after : (o : ℕ) (cs : List ℕ) (r : Read) → state-after of-source (λ q. of-target) head-name (λ q at. []) start-name no-name (owner o) (meaning cs r) ≡ owner (ownerOf o r)
+owner-after : (o : ℕ) (cs : List ℕ) (x : Record)
+    → state-after of-source (λ q. of-target) head-name (λ q at. []) start-name no-name (owner o) (record-meaning cs x) ≡ owner (ownerBy (headIn x) o)
 unfolding state-after owner
-owner-after o cs (Good (UnitStart c) w) = refl
-owner-after o cs (Good UnitEnd w) = refl
-owner-after o cs (Good (Segment i c s) w) = refl
-owner-after o cs (Good (Ignorable i) w) = refl
-owner-after o cs (Good (Target k) w) = refl
-owner-after o cs (Good Text w) = refl
-owner-after o cs (Good (Inline i) w) = refl
-owner-after o cs Ill = refl
-owner-after o cs (Broken b) = refl
+owner-after o cs (UnitStart c) = refl
+owner-after o cs UnitEnd = refl
+owner-after o cs (Segment i c s) = refl
+owner-after o cs (Ignorable i) = refl
+owner-after o cs (Target k) = refl
+owner-after o cs Text = refl
+owner-after o cs (Inline i) = refl
 
-pub owner-bound : (o : ℕ) (r : Read) → (1 ≤ o) × (o ≤ 3) → (1 ≤ ownerOf o r) × (ownerOf o r ≤ 3)
-owner-bound o (Good (UnitStart c) w) h = h
-owner-bound o (Good UnitEnd w) h = h
-owner-bound o (Good (Segment i c s) w) h = (omega arith, omega arith)
-owner-bound o (Good (Ignorable i) w) h = (omega arith, omega arith)
-owner-bound o (Good (Target k) w) h = (omega arith, omega arith)
-owner-bound o (Good Text w) h = h
-owner-bound o (Good (Inline i) w) h = h
-owner-bound o Ill h = h
-owner-bound o (Broken b) h = h
+pub owner-bound : (h o : ℕ) → (1 ≤ o) × (o ≤ 3) → (1 ≤ ownerBy h o) × (ownerBy h o ≤ 3)
+owner-bound h o b = by (eqb h 0) (eqb h 1)
+  where
+    by : (p q : Bool) → (1 ≤ cond p 2 (cond q 3 o)) × (cond p 2 (cond q 3 o) ≤ 3)
+    by true q = (omega arith, omega arith)
+    by false true = (omega arith, omega arith)
+    by false false = b
+
+part-is : (cs : List ℕ) (x : Record) → is-part (record-meaning cs x) ≡ eqb (headIn x) 0
+unfolding is-part
+part-is cs (UnitStart c) = refl
+part-is cs UnitEnd = refl
+part-is cs (Segment i c s) = refl
+part-is cs (Ignorable i) = refl
+part-is cs (Target k) = refl
+part-is cs Text = refl
+part-is cs (Inline i) = refl
 
 pub count-bound : (b : Bool) (n m : ℕ) → n + suc m ≤ 1024 → cond b n (n + 1) + m ≤ 1024
 count-bound true n m h = omega arith
 count-bound false n m h = omega arith
 
-pub names-step : (t : List ℕ) (at : ℕ) (rs : List encode.Record) (r : Read) (s : Stepped t at rs r) (o k : ℕ) → ReadKeyed o r k
-    → names-found (owner o) at rs ≡ named k at ++ names-found (owner (ownerOf o r)) (at + width r) (s .others)
+pub names-step : (t : List ℕ) (at : ℕ) (rs : List encode.Record) (g : Glance) → At t at rs → at < length t → (v : Walked t at rs g) (o k : ℕ) → NameAt t at (g .head) o k
+    → names-found (owner o) at rs ≡ named k at ++ names-found (owner (ownerBy (g .head) o)) (at + g .width) (v .step .others)
 unfolding found
-names-step t at rs r s o k e =
-    ap (names-found (owner o) at) (s .split)
-    ∙ ap₂ (λ (l : List Named) (p : Owner). l ++ names-found p (at + length (record-bytes (s .first))) (s .others))
-    (ap (found-at of-source (λ q. of-target) head-name (λ q at. []) start-name no-name (owner o) at) (sym (s .means)) ∙ sym (e (body (drop at t)) at))
-    (ap (state-after of-source (λ q. of-target) head-name (λ q at. []) start-name no-name (owner o)) (sym (s .means)) ∙ owner-after o (body (drop at t)) r)
-    ∙ ap (λ (j : ℕ). named k at ++ names-found (owner (ownerOf o r)) (at + j) (s .others)) (sym (s .wide))
+names-step t at rs g a l v o k e =
+    let reads = at-next t at (v .step .first) (v .step .others) (subst (At t at) (v .step .split) a) .reads in
+    let part : (g .head ≡ 0 → ⊥) → is-part (read (drop at t)) ≡ false =
+    λ n. ap is-part (reads ∙ sym (v .step .means)) ∙ part-is (body (drop at t)) (v .the) ∙ ap (λ (h : Glance). eqb (h .head) 0) (sym (v .is)) ∙ ne-eqb (g .head) 0 n in
+    ap (names-found (owner o) at) (v .step .split)
+    ∙ ap₂ (λ (l : List Named) (p : Owner). l ++ names-found p (at + length (record-bytes (v .step .first))) (v .step .others))
+    (ap (found-at of-source (λ q. of-target) head-name (λ q at. []) start-name no-name (owner o) at) (sym reads) ∙ sym (e rs a l part))
+    (ap (state-after of-source (λ q. of-target) head-name (λ q at. []) start-name no-name (owner o)) (sym (v .step .means)) ∙ owner-after o (body (drop at t)) (v .the) ∙ ap (λ (h : Glance). owner (ownerBy (h .head) o)) (sym (v .is)))
+    ∙ ap (λ (j : ℕ). named k at ++ names-found (owner (ownerBy (g .head) o)) (at + j) (v .step .others)) (sym (v .wide ∙ v .step .wide))
 
 pub names-end : (t : List ℕ) (at : ℕ) (rs : List encode.Record) (o : Owner) (met : List Named) → At t at rs → length t ≤ at → first-clash met (names-found o at rs) ≡ none
 unfolding first-clash found

@@ -1,11 +1,15 @@
 -- Ids with their owners as numbers.
-use Prim.Native.Nat.{ℕ, _-_, _/_, _%_}
+use Prim.Native.Nat.{ℕ, _+_, _-_, _*_, _/_, _%_, _<_}
 use mathlib.Core.Path.{_≡_}
-use mathlib.Core.Bool.{Bool, not, _&&_, _||_, cond}
+use mathlib.Core.Bool.{Bool, false, not, _&&_, _||_, cond}
 use mathlib.Core.List.{List, [], _∷_}
+use lib.ListN.{length, drop}
 use lib.Dec.{eqb}
+use Rattle.xliff.specs.Encode as encode
+use Rattle.xliff.specs.Parse.{read, is-part}
 use Rattle.xliff.specs.Item as spec
 use Rattle.xliff.specs.Rules.{Owner, of-part, of-source, of-target, Named, start-name}
+use Rattle.places.proofs.Places.{At}
 use Rattle.places.specs.Found.{found-at, head-name, no-name}
 use Rattle.table.specs.Meaning.{half, fields, item, record-meaning, meaning}
 use Rattle.table.specs.declared.Fields.{Fields}
@@ -48,16 +52,15 @@ abbrev pub clashTest : ℕ → ℕ → Bool
 clashTest a b =
     eqb (a / 64) (b / 64) && not (eqb (a % 64) 2 && eqb (b % 64) 3 || eqb (a % 64) 3 && eqb (b % 64) 2)
 
-abbrev pub ownerIn : ℕ → Record → ℕ
-ownerIn o (UnitStart c) = o
-ownerIn o UnitEnd = o
-ownerIn o (Segment i c s) = 2
-ownerIn o (Ignorable i) = 2
-ownerIn o (Target q) = 3
-ownerIn o Text = o
-ownerIn o (Inline i) = o
+-- the number by a marker's key: an end gives no id
+unfoldable pub nameBy : ℕ → ℕ → ℕ
+nameBy o k = cond (eqb (k % 64 / 8) 0 || eqb (k % 8 / 2) 2) 0 (k / 64 * 64 + o)
 
-abbrev pub ownerOf : ℕ → Read → ℕ
-ownerOf o (Good x w) = ownerIn o x
-ownerOf o Ill = o
-ownerOf o (Broken b) = o
+-- the owner after a head: 0 for SG and IG, 1 for TG, 2 for all else
+abbrev pub ownerBy : ℕ → ℕ → ℕ
+ownerBy head o = cond (eqb head 0) 2 (cond (eqb head 1) 3 o)
+
+-- the number is that of the id which the record at an offset gives, where one stands and `head` is 0 if it begins a part
+abbrev pub NameAt : List ℕ → ℕ → ℕ → ℕ → ℕ → Type 0
+NameAt t at head o k = (rs : List encode.Record) → At t at rs → at < length t → ((head ≡ 0 → ⊥) → is-part (read (drop at t)) ≡ false)
+    → named k at ≡ found-at of-source (λ q. of-target) head-name (λ q at. []) start-name no-name (owner o) at (read (drop at t))

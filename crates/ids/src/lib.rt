@@ -15,7 +15,7 @@ ghost use Rattle.xliff.specs.Bytes.{any};
 ghost use Rattle.xliff.specs.Parse.{unit};
 ghost use Rattle.xliff.specs.Rules.{fault-6};
 ghost use Rattle.places.specs.Passes.{Passes};
-ghost use Rattle.ids.specs.Keys.{Keyed, PairKeyed, ItemKeyed, HeadKeyed, RecordKeyed, ReadKeyed, clashTest, ownerIn, ownerOf};
+ghost use Rattle.ids.specs.Keys.{Keyed, PairKeyed, ItemKeyed, HeadKeyed, RecordKeyed, ReadKeyed, clashTest, nameBy, ownerBy, NameAt};
 ghost use Rattle.ids.specs.KeyLinks.{Links, LinkedIf};
 
 fn wide(x: u16) -> u32
@@ -87,28 +87,36 @@ fn key_of(o: u32, r: Read) -> u32
     }
 }
 
-fn owner_in(o: u32, x: Record) -> u32
-    ensures { λ r. ⌜ r ≡ ownerIn o x ⌝ }
+// The number of the id that a marker gives, by its key: none where it is an end.
+fn name_by(o: u32, k: u32) -> u32
+    requires { ⌜ o ≤ 3 ⌝ }
+    ensures { λ r. ⌜ r ≡ nameBy o k ⌝ }
 {
-    match x {
-        Record::Unit(_) => o,
-        Record::UnitEnd => o,
-        Record::Segment(_, _, _) => 2,
-        Record::Ignorable(_) => 2,
-        Record::Target(_) => 3,
-        Record::Text => o,
-        Record::Inline(_) => o,
+    if (k % 64 / 8 == 0) | (k % 8 / 2 == 2) {
+        return 0;
     }
+    k / 64 * 64 + o
 }
 
-fn owner_of(o: u32, r: Read) -> u32
-    ensures { λ x. ⌜ x ≡ ownerOf o r ⌝ }
+// The number of the id that the record at an offset gives; `head` is 0 for SG and IG.
+fn name_at(t: &[u8], at: usize, head: u8, o: u32) -> u32
+    requires { ⌜ (1 ≤ o) × (o ≤ 3) ⌝ }
+    ensures { λ r. ⌜ NameAt (now (t .entry)) at head o r ⌝ }
 {
-    match r {
-        Read::Good(x, _) => owner_in(o, x),
-        Read::Ill => o,
-        Read::Broken(_) => o,
+    if head == 0 {
+        return key_of(o, walker::known_at(t, at));
     }
+    name_by(o, keys::key_at(t, at))
+}
+
+// Whose ids come next: 2 for the source after SG and IG, 3 for a target after TG.
+fn owner_by(head: u8, o: u32) -> u32
+    ensures { λ r. ⌜ r ≡ ownerBy head o ⌝ }
+{
+    if head == 0 {
+        return 2;
+    }
+    if head == 1 { 3 } else { o }
 }
 
 fn clash_with(a: u32, b: u32) -> bool
@@ -171,15 +179,15 @@ pub fn rule_6(t: &[u8]) -> Place
     let mut o: u32 = 2;
     let mut at: usize = 0;
     while at < t.len() {
-        let r = walker::known_at(t, at);
-        let k = key_of(o, r);
+        let g = walker::glance_at(t, at);
+        let k = name_at(t, at, g.head, o);
         if clash_if(&keys[..n], &links, &heads, k) {
             return Place::At(at);
         }
         keys[n] = k;
         n = link_if(&mut links, &mut heads, n, k);
-        o = owner_of(o, r);
-        at += syntax::width_of(r);
+        o = owner_by(g.head, o);
+        at += g.width;
     }
     Place::Nowhere
 }
