@@ -22,6 +22,8 @@
 
 #![warn(missing_docs)]
 
+use std::cell::RefCell;
+
 mod raw;
 mod reason;
 
@@ -159,11 +161,13 @@ pub fn rewrite(table: &[u8], side: u8, id: u16, form: u8, out: &mut [u8]) -> Ans
 /// assert_eq!(printed, b"NO 20 0\n554E59534700012D495545\n");
 /// ```
 pub fn job(job: &[u8]) -> Vec<u8> {
-    // No job prints more than this.
-    let mut out = vec![0; 1_048_576];
-    let length = unsafe { raw::xliff_desk_job(job.as_ptr(), job.len(), out.as_mut_ptr()) };
-    out.truncate(length);
-    out
+    // No job prints more than this. The array is kept for the next job: a job writes only what it
+    // prints, and only that is read.
+    thread_local!(static OUT: RefCell<Vec<u8>> = RefCell::new(vec![0; 1_048_576]));
+    OUT.with_borrow_mut(|out| {
+        let length = unsafe { raw::xliff_desk_job(job.as_ptr(), job.len(), out.as_mut_ptr()) };
+        out[..length].to_vec()
+    })
 }
 
 fn answer(call: impl FnOnce(*mut u8, *mut usize) -> bool) -> Answer {
