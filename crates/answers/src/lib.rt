@@ -15,20 +15,20 @@ pub enum Place {
     At(usize),
 }
 
-fn lower(best: Place, at: usize) -> Place
-    ensures { λ r. ⌜ r ≡ lower best at ⌝ }
+fn at_if(bad: bool, at: usize) -> Place
+    ensures { λ r. ⌜ r ≡ cond bad (Place.At at) Place.Nowhere ⌝ }
 {
-    match best {
-        Place::Nowhere => Place::At(at),
-        Place::At(a) => Place::At(if at < a { at } else { a }),
-    }
+    if bad { Place::At(at) } else { Place::Nowhere }
 }
 
-// The lower place, if the record at `at` is at fault.
+// The lower place, if the record at `at` is at fault. It is made anew: a loop that hands it on copies no bytes between its fields.
 pub fn lower_if(bad: bool, best: Place, at: usize) -> Place
     ensures { λ r. ⌜ r ≡ cond bad (lower best at) best ⌝ }
 {
-    if bad { lower(best, at) } else { best }
+    match best {
+        Place::Nowhere => at_if(bad, at),
+        Place::At(a) => Place::At(if bad & (at < a) { at } else { a }),
+    }
 }
 
 // A rule's refusal at the place, if there is one, else the rest.

@@ -1,11 +1,30 @@
+use mathlib.Core.Path.{_≡_, refl}
 use borrow.Author.Needs.{needs}
+use mathlib.Core.Bool.{Bool, true, false, _&&_, cond, true≢false}
+use Prim.Native.Nat.{ℕ}
+use lib.Dec.{ltb}
+use mathlib.Core.Path.{sym}
+use Rattle.answers.specs.declared.Place.the-variants.{At}
 use Rattle.answers.proofs.lower_if.Statement.{statement}
 use Rattle.answers.proofs.lower_if.Tie as tie
+
+lower-first : (b c : Bool) (at a : ℕ) → (b && c) ≡ true → At at ≡ cond b (At (cond c at a)) (At a)
+lower-first true true at a e = refl
+lower-first true false at a e = absurd (true≢false (sym e))
+lower-first false c at a e = absurd (true≢false (sym e))
+
+lower-second : (b c : Bool) (at a : ℕ) → (b && c) ≡ false → At a ≡ cond b (At (cond c at a)) (At a)
+lower-second true true at a e = absurd (true≢false e)
+lower-second true false at a e = refl
+lower-second false c at a e = refl
 
 pub lower-if-spec : {M : Type 1} → statement M
 lower-if-spec =
     tie.close
     (tie.spec
+    (λ c. search needs)
     (λ c κs. search needs)
-    (λ c. simp (c .before .if1 .taken, c .lower .ensures))
-    (λ c. search needs))
+    (λ c. search needs)
+    (λ c. rw (c .before .enum-told .given .1) (c .at-if .ensures))
+    (λ c. rw (c .before .before .best .given .1) (lower-first (c .before .before .before .before .args .bad) (ltb (c .before .before .before .before .args .at) (c .before .before .best .given .0 .0)) (c .before .before .before .before .args .at) (c .before .before .best .given .0 .0) (c .if1 .taken)))
+    (λ c. rw (c .before .before .best .given .1) (lower-second (c .before .before .before .before .args .bad) (ltb (c .before .before .before .before .args .at) (c .before .before .best .given .0 .0)) (c .before .before .before .before .args .at) (c .before .before .best .given .0 .0) (c .if1 .left))))
