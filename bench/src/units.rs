@@ -7,6 +7,8 @@ pub struct Unit {
     pub content: Vec<u8>,
     /// The id of a pair of the source.
     pub pair: u16,
+    /// Where part 1 is split: so many items of its source.
+    pub cut: u16,
 }
 
 pub fn all() -> Vec<Unit> {
@@ -45,7 +47,7 @@ fn marked(first_id: u16, length: usize) -> Vec<u8> {
     .concat()
 }
 
-/// Three parts with two targets: 22 records.
+/// Three parts with two targets: 24 records.
 fn typical() -> Unit {
     let content = marked(11, 32);
     let table = [
@@ -57,10 +59,10 @@ fn typical() -> Unit {
         b"UE".to_vec(),
     ]
     .concat();
-    Unit { name: "typical", table, content, pair: 11 }
+    Unit { name: "typical", table, content, pair: 11, cut: 3 }
 }
 
-/// One text of 8,000 bytes between a pair.
+/// One text of 8,000 bytes between a pair, cut in its middle.
 fn long_text() -> Unit {
     let content = marked(11, 60);
     let table = [
@@ -71,7 +73,7 @@ fn long_text() -> Unit {
         b"UE".to_vec(),
     ]
     .concat();
-    Unit { name: "long text", table, content, pair: 11 }
+    Unit { name: "long text", table, content, pair: 11, cut: 3600 }
 }
 
 /// 64 parts, each with a target; 762 records in 8,165 bytes.
@@ -89,5 +91,5 @@ fn dense() -> Unit {
         table.extend([number(b"TG", part + 1), marked(id, share)].concat());
     }
     table.extend(b"UE");
-    Unit { name: "dense", table, content: marked(1000, 14), pair: 1000 }
+    Unit { name: "dense", table, content: marked(1000, 14), pair: 1000, cut: 3 }
 }
