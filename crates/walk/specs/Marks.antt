@@ -3,7 +3,7 @@ use Prim.Native.Nat.{ℕ, _+_, _*_}
 use mathlib.Core.Bool.{Bool, _&&_, _||_, cond}
 use mathlib.Core.List.{List}
 use lib.ListN.{getD}
-use lib.Dec.{eqb, ltb}
+use lib.Dec.{eqb}
 use Rattle.xliff.specs.Bytes.{'C', 'E', 'M', 'O', 'P', 'S', 'T', 'X', any}
 use mathlib.Core.Path.{_≡_}
 use Rattle.xliff.specs.Encode.{Record}
@@ -50,10 +50,6 @@ is-other k i y = opposite k (kind y) && eqb i (id-of y)
 
 unfoldable pub has-other : ℕ → ℕ → Content → Bool
 has-other k i ys = any (is-other k i) ys
-
--- the bytes of a code point, told by the first
-abbrev pub point-width : ℕ → ℕ
-point-width b = cond (ltb b 0x80) 1 (cond (ltb b 0xE0) 2 (cond (ltb b 0xF0) 3 4))
 
 -- the answer r for bytes c, whatever content they are of
 abbrev pub Answers : List ℕ → ℕ → ℕ → Bool → Type 0

@@ -14,10 +14,6 @@ use Rattle.walk.specs.declared.Pass.{Pass}
 use Rattle.walk.specs.declared.Pass.the-variants.{Stop, On}
 use Rattle.walk.specs.declared.Place.{Place}
 
--- bytes of a text
-abbrev pub Text : List ℕ → Type 0
-Text t = (cs : List ℕ) × Allowed cs × (utf8s cs ≡ t)
-
 -- k code points of the text t passed over
 abbrev pub PassedOver : List ℕ → ℕ → Passed → Type 0
 PassedOver t k p = (cs : List ℕ) → Allowed cs → utf8s cs ≡ t → (p .bytes ≡ length (utf8s (take k cs))) × (p .left ≡ k - length cs)

@@ -2,11 +2,12 @@
 ghost use mathlib.Core.Path.{_≡_};
 ghost use mathlib.Core.Bool.{true, false, _&&_};
 ghost use Prim.Native.Nat.{_+_, _-_, _*_, _<_, _≤_};
-ghost use lib.ListN.{length};
+ghost use lib.ListN.{length, drop};
 ghost use lib.Dec.{eqb};
 ghost use Rattle.walk.specs.Kept.{Fair};
-ghost use Rattle.walk.specs.Marks.{number, widthAt, kindAt, opposite, Answers, point-width};
-ghost use Rattle.walk.specs.Place.{Text, PassedOver, passText, Begins, PassedOne, PlaceOf};
+ghost use Rattle.walk.specs.Marks.{number, widthAt, kindAt, opposite, Answers};
+ghost use Rattle.walk.specs.Points.{lead, leads, further, sought};
+ghost use Rattle.walk.specs.Place.{PassedOver, passText, Begins, PassedOne, PlaceOf};
 
 // Where an item begins: its record's offset, the bytes before it in that record's text, the items that are missing.
 pub struct Place {
@@ -102,46 +103,80 @@ pub fn has_other(c: &[u8], kind: u8, id: u16) -> bool
     false
 }
 
-// The bytes of a code point, told by its first byte.
-fn width_by(b: u8) -> usize
-    ensures { λ r. ⌜ r ≡ point-width b ⌝ }
+// 1 for the first byte of a code point, 0 for the others.
+fn lead(b: u8) -> u8
+    ensures { λ r. ⌜ (r ≡ lead b) × (r ≤ 1) ⌝ }
 {
-    if b < 0x80 {
-        return 1;
-    }
-    if b < 0xE0 {
-        return 2;
-    }
-    if b < 0xF0 {
-        return 3;
-    }
-    4
+    if (0x80 <= b) & (b <= 0xBF) { 0 } else { 1 }
 }
 
-// Bytes passed over, and code points that were missing.
+// How many code points begin in the 64 bytes from `at` on. No branch: compiled to a few wide instructions.
+fn leads_in(t: &[u8], at: usize) -> usize
+    requires { ⌜ at + 64 ≤ length (now t) ⌝ }
+    ensures { λ r. ⌜ r ≡ leads 64 (drop at (now (t .entry))) ⌝ }
+{
+    let mut n: u8 = 0;
+    let mut i: usize = 0;
+    while i < 64 {
+        n += lead(t[at + i]);
+        i += 1;
+    }
+    n as usize
+}
+
+// Bytes passed over, and code points still to pass over.
 struct Passed {
     bytes: usize,
     left: usize,
 }
 
-// The first `k` code points of a text passed over.
-fn pass_points(t: &[u8], k: usize) -> Passed
-    requires { ⌜ Text (now t) ⌝ }
-    ensures { λ r. ⌜ PassedOver (now (t .entry)) k r ⌝ }
+// Blocks of 64 bytes passed over, up to the one in which code point number `k` begins.
+fn pass_blocks(t: &[u8], k: usize) -> Passed
+    ensures { λ r. ⌜ (r .bytes ≤ length (now (t .entry))) × (sought (now (t .entry)) k ≡ further (r .bytes) (sought (drop (r .bytes) (now (t .entry))) (r .left))) ⌝ }
 {
     let mut at: usize = 0;
     let mut left = k;
-    while at < t.len() {
-        if left == 0 {
-            return Passed { bytes: at, left: 0 };
+    while 64 <= t.len() - at {
+        let n = leads_in(t, at);
+        if left < n {
+            return Passed { bytes: at, left: left };
         }
-        at += width_by(t[at]);
-        left -= 1;
+        at += 64;
+        left -= n;
     }
     Passed {
         bytes: at,
         left: left,
     }
+}
+
+// From an offset on, byte by byte, up to the first byte of the code point behind `left` others.
+fn pass_bytes(t: &[u8], from: usize, k: usize) -> Passed
+    requires { ⌜ from ≤ length (now t) ⌝ }
+    ensures { λ r. ⌜ r ≡ further from (sought (drop from (now (t .entry))) k) ⌝ }
+{
+    let mut at = from;
+    let mut left = k;
+    while at < t.len() {
+        let n = lead(t[at]) as usize;
+        if left < n {
+            return Passed { bytes: at, left: left };
+        }
+        at += 1;
+        left -= n;
+    }
+    Passed {
+        bytes: at,
+        left: left,
+    }
+}
+
+// The first `k` code points of a text passed over.
+fn pass_points(t: &[u8], k: usize) -> Passed
+    ensures { λ r. ⌜ PassedOver (now (t .entry)) k r ⌝ }
+{
+    let p = pass_blocks(t, k);
+    pass_bytes(t, p.bytes, p.left)
 }
 
 // The item stands in the record met, behind so many bytes of its text; or the record's width, and the items left.

@@ -12,22 +12,110 @@ use borrow.Author.Needs.{needs}
 use Rattle.walk.proofs.pass_one.Statement.{statement}
 use Rattle.walk.proofs.pass_one.Tie as tie
 
+-- src/lib.rt:204:9
+shared-slice-read-if1 : tie.Need-shared-slice-read-if1
+shared-slice-read-if1 c = omega (arith, begins-least (c .before .before .args .t .now) (c .before .before .pre))
+
+-- src/lib.rt:204:26
+shared-slice-read-if1-2 : tie.Need-shared-slice-read-if1-2
+shared-slice-read-if1-2 c =
+    let start = c .before .before .before in
+    omega (arith, begins-least (start .args .t .now) (start .pre))
+
+-- src/lib.rt:205:17
+number-of-requires : tie.Need-number-of-requires
+number-of-requires c κs =
+    let start = c .before .before .before .before in
+    begins-least (start .args .t .now) (start .pre)
+
+-- src/lib.rt:206:17
+add-e : tie.Need-add-e
+add-e c =
+    let start = c .before .before .before .before .before in
+    let (r, s, g, e) = start .pre in
+    let x = is-text r (start .args .t .now) s g e (c .before .if1 .taken) in
+    omega (arith, x .small, c .number-of .ensures)
+
+-- src/lib.rt:207:38
+part-pass-points-end : tie.Need-part-pass-points-end
+part-pass-points-end c =
+    let start = c .before .before .before .before .before in
+    let (r, s, g, e) = start .pre in
+    let x = is-text r (start .args .t .now) s g e (c .before .if1 .taken) in
+    omega (arith, x .fit, c .number-of .ensures)
+
+-- src/lib.rt:207:9
+pass-text-requires : tie.Need-pass-text-requires
+pass-text-requires c κs =
+    let start = c .before .before .before .before .before .before .before in
+    let if1 = c .before .before .before .if1 in
+    let (r, s, g, e) = start .pre in
+    let x = is-text r (start .args .t .now) s g e (if1 .taken) in
+    omega (arith, x .small, c .before .before .number-of .ensures)
+
+-- src/lib.rt:207:9
+returns : tie.Need-returns
+returns c =
+    let args = c .before .before .before .before .before .before .before .before .args in
+    let t = args .t .now in
+    let k₀ = args .k in
+    let if1 = c .before .before .before .before .if1 in
+    let number-of = c .before .before .before .number-of in
+    let pass-points = c .before .pass-points in
+    λ r s g e.
+    let x = is-text r t s g e (if1 .taken) in
+    let y = pass-points .ensures (x .points) (x .allowed)
+    (x .bytes
+    ∙ ap (λ (k : ℕ). take k (drop 4 t))
+    (let z : number t ≡ 4 + number-of .result - 4 = omega (arith, number-of .ensures) in z)) in
+    c .pass-text .ensures
+    ∙ passed-text (pass-points .result) (number-of .result) k₀ (x .points) (y .0) (y .1)
+    (number-of .ensures ∙ x .size)
+    ∙ ap (λ (q : Record). passOf q k₀) (sym (x .is))
+
+-- src/lib.rt:210:9
+returns-2 : tie.Need-returns-2
+returns-2 c =
+    let args = c .before .before .before .before .before .args in
+    λ r s g e.
+    sym (pass-item r (args .t .now) s (args .k) g e (c .before .if1 .left)
+    ∙ ap (λ (k : ℕ). passItem (length (record-bytes r)) k) (c .if2 .taken))
+
+-- src/lib.rt:212:14
+width-of-requires : tie.Need-width-of-requires
+width-of-requires c κs =
+    let start = c .before .before .before .before .before in
+    begins-least (start .args .t .now) (start .pre)
+
+-- src/lib.rt:200:1
+returns-3 : tie.Need-returns-3
+returns-3 c =
+    let args = c .before .before .before .before .before .before .args in
+    let k = args .k in
+    λ r s g e.
+    sym (pass-item r (args .t .now) s k g e (c .before .before .if1 .left)
+    ∙ pass-some (length (record-bytes r)) k (omega arith)
+    ∙ ap (λ (w : ℕ). On w (k - 1)) (sym (c .width-of .ensures ∙ ap widthAt e ∙ inline-width r s g)))
+
 pub pass-one-spec : {M : Type 1} → statement M
 pass-one-spec =
     tie.close
     (tie.spec
-    (λ c. omega (arith, begins-least (c .before .before .args .t .now) ((c .before .before .pre))))
-    (λ c. omega (arith, begins-least (c .before .before .before .args .t .now) ((c .before .before .before .pre))))
-    (λ c κs. begins-least (c .before .before .before .before .args .t .now) ((c .before .before .before .before .pre)))
+    shared-slice-read-if1
+    shared-slice-read-if1-2
+    number-of-requires
+    -- by search: cast-n 205:17
     (λ c. search needs)
-    (λ c. let (r, s, g, e) = (c .before .before .before .before .before .pre) in let x = is-text r (c .before .before .before .before .before .args .t .now) s g e ((c .before .if1 .taken)) in omega (arith, x .small, c .number-of .ensures))
+    add-e
+    -- by search: sub-pass-points 207:38, part-pass-points-start 207:38
+    (λ c. search needs) (λ c. search needs)
+    part-pass-points-end
+    -- by search: pass-points-requires 207:26
+    (λ c κs. search needs)
+    pass-text-requires
+    returns
+    returns-2
+    width-of-requires
+    -- by search: sub-t20 212:27
     (λ c. search needs)
-    (λ c. search needs)
-    (λ c. let (r, s, g, e) = (c .before .before .before .before .before .pre) in let x = is-text r (c .before .before .before .before .before .args .t .now) s g e ((c .before .if1 .taken)) in omega (arith, x .fit, c .number-of .ensures))
-    (λ c κs. let (r, s, g, e) = (c .before .before .before .before .before .before .pre) in let x = is-text r (c .before .before .before .before .before .before .args .t .now) s g e ((c .before .before .if1 .taken)) in (x .points, x .allowed, x .bytes ∙ ap (λ (k : ℕ). take k (drop 4 (c .before .before .before .before .before .before .args .t .now))) (let z : number (c .before .before .before .before .before .before .args .t .now) ≡ 4 + c .before .number-of .result - 4 = omega (arith, c .before .number-of .ensures) in z)))
-    (λ c κs. let (r, s, g, e) = (c .before .before .before .before .before .before .before .pre) in let x = is-text r (c .before .before .before .before .before .before .before .args .t .now) s g e ((c .before .before .before .if1 .taken)) in omega (arith, x .small, c .before .before .number-of .ensures))
-    (λ c. λ r s g e. let x = is-text r (c .before .before .before .before .before .before .before .before .args .t .now) s g e ((c .before .before .before .before .if1 .taken)) in let y = c .before .pass-points .ensures (x .points) (x .allowed) (x .bytes ∙ ap (λ (k : ℕ). take k (drop 4 (c .before .before .before .before .before .before .before .before .args .t .now))) (let z : number (c .before .before .before .before .before .before .before .before .args .t .now) ≡ 4 + c .before .before .before .number-of .result - 4 = omega (arith, c .before .before .before .number-of .ensures) in z)) in c .pass-text .ensures ∙ passed-text (c .before .pass-points .result) (c .before .before .before .number-of .result) (c .before .before .before .before .before .before .before .before .args .k) (x .points) (y .0) (y .1) (c .before .before .before .number-of .ensures ∙ x .size) ∙ ap (λ (q : Record). passOf q (c .before .before .before .before .before .before .before .before .args .k)) (sym (x .is)))
-    (λ c. λ r s g e. sym (pass-item r (c .before .before .before .before .before .args .t .now) s (c .before .before .before .before .before .args .k) g e ((c .before .if1 .left)) ∙ ap (λ (k : ℕ). passItem (length (record-bytes r)) k) ((c .if2 .taken))))
-    (λ c κs. begins-least (c .before .before .before .before .before .args .t .now) ((c .before .before .before .before .before .pre)))
-    (λ c. search needs)
-    (λ c. λ r s g e. sym (pass-item r (c .before .before .before .before .before .before .args .t .now) s (c .before .before .before .before .before .before .args .k) g e ((c .before .before .if1 .left)) ∙ pass-some (length (record-bytes r)) (c .before .before .before .before .before .before .args .k) (omega arith) ∙ ap (λ (w : ℕ). On w (c .before .before .before .before .before .before .args .k - 1)) (sym (c .width-of .ensures ∙ ap widthAt e ∙ inline-width r s g)))))
+    returns-3)
