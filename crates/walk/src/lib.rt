@@ -139,7 +139,10 @@ fn pass_blocks(t: &[u8], k: usize) -> Passed
     while 64 <= t.len() - at {
         let n = leads_in(t, at);
         if left < n {
-            return Passed { bytes: at, left: left };
+            return Passed {
+                bytes: at,
+                left: left,
+            };
         }
         at += 64;
         left -= n;
@@ -160,7 +163,10 @@ fn pass_bytes(t: &[u8], from: usize, k: usize) -> Passed
     while at < t.len() {
         let n = lead(t[at]) as usize;
         if left < n {
-            return Passed { bytes: at, left: left };
+            return Passed {
+                bytes: at,
+                left: left,
+            };
         }
         at += 1;
         left -= n;

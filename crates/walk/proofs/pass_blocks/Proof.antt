@@ -26,10 +26,11 @@ loop-again : tie.Need-loop-again Inv-loop μ-loop
 loop-again c =
     let args = c .before .before .before .before .before .args in
     let loop = c .before .before .before .loop in
-    let count = c .before .leads-in .ensures in
-    (omega arith,
-    sought-on (args .t .now) (loop .at) (loop .left) 64 _ (omega arith) (omega (arith, count)) (loop .inv .1)
-    ∙ ap (λ (n : ℕ). further (loop .at + 64) (sought (drop (loop .at + 64) (args .t .now)) (loop .left - n))) (sym count))
+    let count = c .before .leads-in .ensures in (
+      omega arith,
+      sought-on (args .t .now) (loop .at) (loop .left) 64 _ (omega arith) (omega (arith, count)) (loop .inv .1)
+          ∙ ap (λ (n : ℕ). further (loop .at + 64) (sought (drop (loop .at + 64) (args .t .now)) (loop .left - n))) (sym count),
+    )
 
 -- fewer than 64 bytes are left
 returns-2 : tie.Need-returns-2 Inv-loop μ-loop

@@ -30,10 +30,11 @@ loop-again c =
     let args = c .before .before .before .before .before .before .args in
     let loop = c .before .before .before .before .loop in
     let one = leads-one (args .t .now) (loop .at) in
-    let byte = c .before .lead .ensures in
-    (omega arith,
-    sought-on (args .t .now) (loop .at) (loop .left) 1 _ (omega arith) (omega (arith, one, byte)) (loop .inv .1)
-    ∙ ap (λ (n : ℕ). further (loop .at + 1) (sought (drop (loop .at + 1) (args .t .now)) (loop .left - n))) (one ∙ sym (byte .0)))
+    let byte = c .before .lead .ensures in (
+      omega arith,
+      sought-on (args .t .now) (loop .at) (loop .left) 1 _ (omega arith) (omega (arith, one, byte)) (loop .inv .1)
+          ∙ ap (λ (n : ℕ). further (loop .at + 1) (sought (drop (loop .at + 1) (args .t .now)) (loop .left - n))) (one ∙ sym (byte .0)),
+    )
 
 -- the text ended
 returns-2 : tie.Need-returns-2 Inv-loop μ-loop
