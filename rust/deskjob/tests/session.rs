@@ -42,7 +42,7 @@ the table:
 /// README.md shows the example job and what it gives.
 #[test]
 fn the_readme_is_true() {
-    let readme = include_str!("../../README.md");
+    let readme = include_str!("../../../README.md");
     let job = include_str!("../examples/door.txt");
     let shown = commands::run(job).unwrap();
     let (answers, _) = shown.split_once("\nthe table:").unwrap();
@@ -93,7 +93,7 @@ fn mistakes_have_line_and_column() {
 /// Tables of the vectors go to notation and back.
 #[test]
 fn notation_goes_there_and_back() {
-    let vectors = concat!(env!("CARGO_MANIFEST_DIR"), "/../vectors/jobs.txt");
+    let vectors = concat!(env!("CARGO_MANIFEST_DIR"), "/../../vectors/jobs.txt");
     let vectors = std::fs::read_to_string(vectors).unwrap();
     let mut tables = 0;
     for line in vectors.lines() {

@@ -1,6 +1,11 @@
 //! The proved desk beside two of plain Rust: the second implementation, which is written for
 //! clarity, and a tuned one. Same inputs, one run, batches in alternation, the best of many; what
 //! counts is the ratios.
+//!
+//! From the repository's top folder, with the settings that the tuned one is written for:
+//!
+//!     rt staticlib desk_library
+//!     cargo run --profile measured --manifest-path rust/Cargo.toml -p bench
 
 mod units;
 

@@ -6,7 +6,7 @@ use second::operations::Operation;
 
 #[test]
 fn desk_prints_what_the_vectors_expect() {
-    let path = concat!(env!("CARGO_MANIFEST_DIR"), "/../vectors/jobs.txt");
+    let path = concat!(env!("CARGO_MANIFEST_DIR"), "/../../vectors/jobs.txt");
     let file = std::fs::read_to_string(path).expect("the file of vectors");
     let mut passed = 0;
     for (number, line) in file.lines().enumerate() {
