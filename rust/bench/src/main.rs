@@ -81,7 +81,7 @@ fn measure_unit(unit: &Unit) {
         unit,
         "five requests",
         || xliff_desk::job(&job).len() > 5,
-        || second::desk::desk(&job, &plain::Operation::ALL).len() > 5,
+        || second::desk::desk(&job).len() > 5,
         || tuned::run_job(&job).len() > 5,
     );
 }

@@ -3,7 +3,6 @@
 
 use second::desk::read_request;
 use second::generate::{job, Random};
-use second::operations::Operation;
 use second::MOST_BYTES;
 use xliff_desk::{Answer, Reason, Refusal};
 
@@ -70,7 +69,7 @@ fn rooms(table: &[u8], request: &[u8]) -> Vec<usize> {
 fn calls_with_outputs_of_any_length() {
     let mut accepted = 0;
     for number in 0..JOBS {
-        let (_, job) = job(SEED, number, &Operation::ALL);
+        let (_, job) = job(SEED, number);
         let end = second::desk::table_length(&job);
         let (table, requests) = job.split_at(end);
         let Some((_, size)) = read_request(requests, 0) else { continue };
@@ -84,8 +83,8 @@ fn calls_with_outputs_of_any_length() {
 
 #[test]
 fn checks_agree() {
-    for number in 0..JOBS {
-        let (_, job) = job(SEED + 1, number, &[]);
+    for number in 0..2 * JOBS {
+        let (_, job) = job(SEED + 1, number);
         let table = &job[..second::desk::table_length(&job)];
         let expected = second::rules::check(table).map(|_| table.len()).map_err(told);
         assert_eq!(xliff_desk::check(table), expected, "{table:02X?}");
@@ -95,8 +94,8 @@ fn checks_agree() {
 #[test]
 fn jobs_agree() {
     for number in 0..JOBS / 4 {
-        let (_, job) = job(SEED + 2, number, &Operation::ALL);
-        let expected = second::desk::desk(&job, &Operation::ALL);
+        let (_, job) = job(SEED + 2, number);
+        let expected = second::desk::desk(&job);
         assert!(xliff_desk::job(&job) == expected, "job {number} of seed {}", SEED + 2);
     }
 }

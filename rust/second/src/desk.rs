@@ -16,16 +16,6 @@ pub enum Request<'a> {
 }
 
 impl Request<'_> {
-    pub fn operation(&self) -> Operation {
-        match self {
-            Request::Split { .. } => Operation::Split,
-            Request::Join { .. } => Operation::Join,
-            Request::SetTarget { .. } => Operation::SetTarget,
-            Request::RemoveTarget { .. } => Operation::RemoveTarget,
-            Request::Rewrite { .. } => Operation::Rewrite,
-        }
-    }
-
     pub fn run(&self, table: &[u8], room: usize) -> Outcome {
         match *self {
             Request::Split { part, source_cut, target_cut, new_id } => {
@@ -91,9 +81,8 @@ pub fn job_of(input: &[u8]) -> &[u8] {
     &input[..input.len().min(MOST_JOB_BYTES)]
 }
 
-/// What a desk with these operations prints. A request of another operation is unreadable,
-/// as one with an unknown mark.
-pub fn desk(input: &[u8], operations: &[Operation]) -> Vec<u8> {
+/// What the desk program prints for its input.
+pub fn desk(input: &[u8]) -> Vec<u8> {
     let job = job_of(input);
     let mut offset = table_length(job);
     let mut table = job[..offset].to_vec();
@@ -103,10 +92,8 @@ pub fn desk(input: &[u8], operations: &[Operation]) -> Vec<u8> {
     }
     let mut printed = String::new();
     while offset < job.len() {
-        let readable =
-            read_request(job, offset).filter(|(r, _)| operations.contains(&r.operation()));
         // "is unreadable: it prints `NO 2` with its offset in the job and ends the requests."
-        let Some((request, length)) = readable else {
+        let Some((request, length)) = read_request(job, offset) else {
             printed += &refused_line(Refusal { number: 2, place: offset });
             break;
         };

@@ -1,7 +1,7 @@
 //! The printed job of document 01 and its bench examples (a) to (k).
 
 use second::desk::desk;
-use second::operations::{join, split, Operation};
+use second::operations::{join, split};
 use second::rules::check;
 use second::{Refusal, MOST_BYTES};
 
@@ -19,10 +19,11 @@ fn the_printed_job() {
     let job = [A_B, b"SP\0\x01\0\x02\0\0\0\x02"].concat();
     let printed = "OK 29\n554E59534700012D4954580002412E534700022D495458000220425545\n";
     assert_eq!(A_B.len(), 19);
-    assert_eq!(desk(&job, &Operation::ALL), printed.as_bytes());
-    // Without the operation the request is unreadable.
+    assert_eq!(desk(&job), printed.as_bytes());
+    // With another mark the request is unreadable.
+    let job = [A_B, b"XP\0\x01\0\x02\0\0\0\x02"].concat();
     let unreadable = "NO 2 19\n554E59534700012D4954580004412E20425545\n";
-    assert_eq!(desk(&job, &[]), unreadable.as_bytes());
+    assert_eq!(desk(&job), unreadable.as_bytes());
 }
 
 #[test]

@@ -2,7 +2,6 @@
 
 use second::desk::desk;
 use second::generate::{drafted, job, valid_table, Kind, Random};
-use second::operations::Operation;
 use second::record::Inline;
 use second::rules::check;
 use second::tally::Tally;
@@ -55,9 +54,9 @@ fn every_answer_is_reached() {
     let mut tally = Tally::default();
     let mut kinds = [0; 8];
     for number in 0..4000 {
-        let (kind, job) = job(SEED, number, &Operation::ALL);
+        let (kind, job) = job(SEED, number);
         kinds[Kind::ALL.iter().position(|k| *k == kind).unwrap()] += 1;
-        tally.count(&desk(&job, &Operation::ALL));
+        tally.count(&desk(&job));
     }
     println!("{kinds:?}\n{}", tally.report());
     for number in 1..=21 {

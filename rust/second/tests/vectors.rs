@@ -2,7 +2,6 @@
 
 use second::desk::{desk, from_hexadecimal};
 use second::notation::job_in_notation;
-use second::operations::Operation;
 
 #[test]
 fn desk_prints_what_the_vectors_expect() {
@@ -14,7 +13,7 @@ fn desk_prints_what_the_vectors_expect() {
         let (job, expected) = line.split_once(' ').expect("two words a line");
         let job = from_hexadecimal(job).expect("hexadecimal");
         let expected = from_hexadecimal(expected).expect("hexadecimal");
-        let printed = desk(&job, &Operation::ALL);
+        let printed = desk(&job);
         assert!(
             printed == expected,
             "line {}:\n{}expected\n{}printed\n{}",

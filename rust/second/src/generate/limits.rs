@@ -4,11 +4,10 @@ use super::damage::bytes;
 use super::random::Random;
 use super::requests::request_list;
 use super::unit::valid_table;
-use crate::operations::Operation;
 use crate::rules::check;
 
 /// A job at a limit; where its table is valid, requests often follow.
-pub fn at_limit(random: &mut Random, operations: &[Operation]) -> Vec<u8> {
+pub fn at_limit(random: &mut Random) -> Vec<u8> {
     let table = match random.below(12) {
         0..=2 => many_parts(random),
         3..=5 => many_records(random),
@@ -20,7 +19,7 @@ pub fn at_limit(random: &mut Random, operations: &[Operation]) -> Vec<u8> {
         return table;
     }
     let count = 1 + random.below(3);
-    request_list(random, table, operations, count)
+    request_list(random, table, count)
 }
 
 /// 63 to 66 parts; the last of them sometimes cut or with a bad field.

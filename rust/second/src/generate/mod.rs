@@ -13,7 +13,6 @@ mod source;
 mod target;
 mod unit;
 
-use crate::operations::Operation;
 use crate::rules::check;
 
 pub use cuts::every_cut;
@@ -57,33 +56,26 @@ impl Kind {
         }
     }
 
-    /// How many jobs of a hundred, in the sequence of `ALL`. A desk without operations gets
-    /// more tables and fewer requests.
-    fn shares(operations: &[Operation]) -> [usize; 8] {
-        if operations.is_empty() {
-            [19, 45, 14, 8, 5, 2, 2, 5]
-        } else {
-            [8, 21, 7, 5, 6, 26, 23, 4]
-        }
-    }
+    /// How many jobs of a hundred, in the sequence of `ALL`.
+    const SHARES: [usize; 8] = [8, 21, 7, 5, 6, 26, 23, 4];
 }
 
-/// The job of this seed and number, for a desk with these operations.
-pub fn job(seed: u64, number: u64, operations: &[Operation]) -> (Kind, Vec<u8>) {
+/// The job of this seed and number.
+pub fn job(seed: u64, number: u64) -> (Kind, Vec<u8>) {
     let random = &mut Random::of_job(seed, number);
     let mut left = random.below(100);
     let mut kind = Kind::Valid;
-    for (candidate, share) in Kind::ALL.into_iter().zip(Kind::shares(operations)) {
+    for (candidate, share) in Kind::ALL.into_iter().zip(Kind::SHARES) {
         kind = candidate;
         if left < share {
             break;
         }
         left -= share;
     }
-    (kind, job_of_kind(random, kind, operations))
+    (kind, job_of_kind(random, kind))
 }
 
-fn job_of_kind(random: &mut Random, kind: Kind, operations: &[Operation]) -> Vec<u8> {
+fn job_of_kind(random: &mut Random, kind: Kind) -> Vec<u8> {
     match kind {
         Kind::Valid => valid_table(random),
         Kind::OneRuleBroken => {
@@ -95,23 +87,23 @@ fn job_of_kind(random: &mut Random, kind: Kind, operations: &[Operation]) -> Vec
             mutations::table_changed(random, changes)
         }
         Kind::Damaged => damage::damaged(random),
-        Kind::Limit => limits::at_limit(random, operations),
-        Kind::Request => requests_after_valid(random, operations, 1),
+        Kind::Limit => limits::at_limit(random),
+        Kind::Request => requests_after_valid(random, 1),
         Kind::RequestList => {
             let count = 2 + random.below(7);
-            requests_after_valid(random, operations, count)
+            requests_after_valid(random, count)
         }
         Kind::UnreadableRequest => {
             let count = random.below(3);
-            let mut job = requests_after_valid(random, operations, count);
+            let mut job = requests_after_valid(random, count);
             let unit = check(&valid_table(random)).expect("a valid table");
-            job.extend(requests::unreadable(random, &unit, operations));
+            job.extend(requests::unreadable(random, &unit));
             job
         }
     }
 }
 
-fn requests_after_valid(random: &mut Random, operations: &[Operation], count: usize) -> Vec<u8> {
+fn requests_after_valid(random: &mut Random, count: usize) -> Vec<u8> {
     let table = valid_table(random);
-    requests::request_list(random, table, operations, count)
+    requests::request_list(random, table, count)
 }

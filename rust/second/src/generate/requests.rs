@@ -12,17 +12,12 @@ use crate::table::{Part, Placed, Unit};
 use crate::MOST_BYTES;
 
 /// The table and this many requests, each made for the table that the ones before leave.
-pub fn request_list(
-    random: &mut Random,
-    table: Vec<u8>,
-    operations: &[Operation],
-    count: usize,
-) -> Vec<u8> {
+pub fn request_list(random: &mut Random, table: Vec<u8>, count: usize) -> Vec<u8> {
     let mut job = table.clone();
     let mut current = table;
     for _ in 0..count {
         let Ok(unit) = check(&current) else { break };
-        let request = request(random, &unit, operations);
+        let request = request(random, &unit);
         if let Some((read, _)) = read_request(&request, 0) {
             if let Ok(result) = read.run(&current, MOST_BYTES) {
                 current = result;
@@ -33,11 +28,11 @@ pub fn request_list(
     job
 }
 
-/// A request, nearly always of an operation that the desk has.
-fn request(random: &mut Random, unit: &Unit, operations: &[Operation]) -> Vec<u8> {
-    let known =
-        if operations.is_empty() || random.chance(3) { &Operation::ALL } else { operations };
-    match *random.pick(known) {
+/// A request of any operation.
+fn request(random: &mut Random, unit: &Unit) -> Vec<u8> {
+    // A number that is not used: the jobs of a seed stay what they always were.
+    random.draw();
+    match random.pick(&Operation::ALL) {
         Operation::Split => split_request(random, unit),
         Operation::Join => join_request(random, unit),
         Operation::SetTarget => set_target_request(random, unit),
@@ -47,8 +42,8 @@ fn request(random: &mut Random, unit: &Unit, operations: &[Operation]) -> Vec<u8
 }
 
 /// An unknown mark, or a request cut short.
-pub fn unreadable(random: &mut Random, unit: &Unit, operations: &[Operation]) -> Vec<u8> {
-    let mut request = request(random, unit, operations);
+pub fn unreadable(random: &mut Random, unit: &Unit) -> Vec<u8> {
+    let mut request = request(random, unit);
     match random.below(3) {
         0 => {
             let marks: [&[u8; 2]; 7] = [b"UN", b"UE", b"sp", b"XX", b"PS", b"SG", b"\0\0"];

@@ -20,7 +20,7 @@ pub use split::split;
 
 pub type Outcome = Result<Vec<u8>, Refusal>;
 
-/// The five operations, as a set of those that a desk has.
+/// The five operations.
 #[derive(Clone, Copy, Debug, PartialEq, Eq)]
 pub enum Operation {
     Split,

@@ -2,35 +2,23 @@
 
 use std::path::PathBuf;
 
-use second::operations::Operation;
-
-pub const USAGE: &str = "differential DESK_PROGRAM [--jobs N] [--seed S] \
-    [--operations SP,JN,ST,RT,RW] [--vectors FILE]..";
+pub const USAGE: &str = "differential DESK_PROGRAM [--jobs N] [--seed S] [--vectors FILE]..";
 
 pub struct Arguments {
     pub program: PathBuf,
     pub jobs: usize,
     pub seed: u64,
-    /// The operations that the desk program has.
-    pub operations: Vec<Operation>,
     pub vectors: Vec<PathBuf>,
 }
 
 pub fn read(mut words: impl Iterator<Item = String>) -> Result<Arguments, String> {
     let program = PathBuf::from(words.next().ok_or("no desk program named")?);
-    let mut arguments = Arguments {
-        program,
-        jobs: 10_000,
-        seed: 20_260_101,
-        operations: Vec::new(),
-        vectors: Vec::new(),
-    };
+    let mut arguments = Arguments { program, jobs: 10_000, seed: 20_260_101, vectors: Vec::new() };
     while let Some(option) = words.next() {
         let value = words.next().ok_or(format!("{option} without a value"))?;
         match option.as_str() {
             "--jobs" => arguments.jobs = number(&value)?,
             "--seed" => arguments.seed = number(&value)?,
-            "--operations" => arguments.operations = operations(&value)?,
             "--vectors" => arguments.vectors.push(PathBuf::from(value)),
             _ => return Err(format!("unknown option {option}")),
         }
@@ -46,12 +34,4 @@ pub fn read(mut words: impl Iterator<Item = String>) -> Result<Arguments, String
 
 fn number<T: std::str::FromStr>(word: &str) -> Result<T, String> {
     word.parse().map_err(|_| format!("{word} is no number"))
-}
-
-/// Marks with commas between; an empty word is none.
-fn operations(word: &str) -> Result<Vec<Operation>, String> {
-    let marks = word.split(',').filter(|mark| !mark.is_empty());
-    marks
-        .map(|mark| Operation::of_mark(mark.as_bytes()).ok_or(format!("{mark} marks no operation")))
-        .collect()
 }

@@ -12,7 +12,6 @@ use arguments::Arguments;
 use compare::{compare, Case};
 use second::desk::desk;
 use second::generate::{every_cut, job, Kind};
-use second::operations::Operation;
 use second::tally::Tally;
 
 fn main() -> ExitCode {
@@ -23,9 +22,8 @@ fn main() -> ExitCode {
             return ExitCode::from(2);
         }
     };
-    let (vectors, passed_over) = match vectors::read_all(&arguments.vectors, &arguments.operations)
-    {
-        Ok(read) => read,
+    let vectors = match vectors::read_all(&arguments.vectors) {
+        Ok(vectors) => vectors,
         Err(error) => {
             eprintln!("{error}");
             return ExitCode::from(2);
@@ -35,7 +33,7 @@ fn main() -> ExitCode {
     let outcome = compare_generated(&arguments, &results)
         .and_then(|()| compare_cuts(&arguments, &results))
         .and_then(|()| compare_vectors(&arguments, vectors, &results));
-    results.print(&arguments, passed_over, outcome)
+    results.print(&arguments, outcome)
 }
 
 /// What agreed so far.
@@ -48,11 +46,11 @@ struct Results {
 }
 
 fn compare_generated(arguments: &Arguments, results: &Results) -> Result<(), String> {
-    let Arguments { seed, operations, .. } = arguments;
+    let seed = arguments.seed;
     let case = |number: usize| {
-        let (kind, job) = job(*seed, number as u64, operations);
+        let (kind, job) = job(seed, number as u64);
         let name = format!("job {number} of seed {seed} ({})", kind.name());
-        Case { name, kind: Some(kind), expected: desk(&job, operations), job }
+        Case { name, kind: Some(kind), expected: desk(&job), job }
     };
     compare(&arguments.program, arguments.jobs, case, |case| {
         let place = Kind::ALL.iter().position(|kind| Some(*kind) == case.kind);
@@ -61,14 +59,13 @@ fn compare_generated(arguments: &Arguments, results: &Results) -> Result<(), Str
     })
 }
 
-/// Small units cut at every position, if the desk can split.
+/// Small units cut at every position.
 fn compare_cuts(arguments: &Arguments, results: &Results) -> Result<(), String> {
-    let operations = &arguments.operations;
-    let jobs = if operations.contains(&Operation::Split) { every_cut() } else { Vec::new() };
+    let jobs = every_cut();
     let case = |number: usize| {
         let job = jobs[number].clone();
         let name = format!("cut {number} of the small units");
-        Case { name, kind: None, expected: desk(&job, operations), job }
+        Case { name, kind: None, expected: desk(&job), job }
     };
     compare(&arguments.program, jobs.len(), case, |case| {
         *results.cuts.lock().unwrap() += 1;
@@ -89,12 +86,7 @@ fn compare_vectors(
 }
 
 impl Results {
-    fn print(
-        &self,
-        arguments: &Arguments,
-        passed_over: usize,
-        outcome: Result<(), String>,
-    ) -> ExitCode {
+    fn print(&self, arguments: &Arguments, outcome: Result<(), String>) -> ExitCode {
         let kinds = *self.kinds.lock().unwrap();
         let vectors = *self.vectors.lock().unwrap();
         let cuts = *self.cuts.lock().unwrap();
@@ -112,7 +104,7 @@ impl Results {
         println!("answers, of all printed lines (of a job at most the first 100):");
         print!("{}", self.tally.lock().unwrap().report());
         if !arguments.vectors.is_empty() {
-            println!("vectors: {vectors} passed, {passed_over} passed over (operation not there)");
+            println!("vectors: {vectors} passed");
         }
         println!("{passed} passed, 0 failed");
         ExitCode::SUCCESS

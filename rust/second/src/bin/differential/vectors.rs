@@ -2,28 +2,23 @@
 
 use std::path::{Path, PathBuf};
 
-use second::desk::{from_hexadecimal, job_of, read_request, table_length};
-use second::operations::Operation;
-use second::rules::check;
+use second::desk::from_hexadecimal;
 
 use crate::compare::Case;
 
-/// The vectors of all files that a desk with these operations can be asked for, and how many
-/// are passed over.
-pub fn read_all(paths: &[PathBuf], operations: &[Operation]) -> Result<(Vec<Case>, usize), String> {
-    let (mut cases, mut passed_over) = (Vec::new(), 0);
+/// The vectors of all files.
+pub fn read_all(paths: &[PathBuf]) -> Result<Vec<Case>, String> {
+    let mut cases = Vec::new();
     for path in paths {
-        let (more, over) = read(path, operations)?;
-        cases.extend(more);
-        passed_over += over;
+        cases.extend(read(path)?);
     }
-    Ok((cases, passed_over))
+    Ok(cases)
 }
 
-fn read(path: &Path, operations: &[Operation]) -> Result<(Vec<Case>, usize), String> {
+fn read(path: &Path) -> Result<Vec<Case>, String> {
     let shown = path.display();
     let file = std::fs::read_to_string(path).map_err(|error| format!("{shown}: {error}"))?;
-    let (mut cases, mut passed_over) = (Vec::new(), 0);
+    let mut cases = Vec::new();
     for (number, line) in file.lines().enumerate() {
         let words = line.split_once(' ');
         let read = words.and_then(|(job, expected)| {
@@ -31,30 +26,10 @@ fn read(path: &Path, operations: &[Operation]) -> Result<(Vec<Case>, usize), Str
         });
         let name = format!("{shown}, line {}", number + 1);
         let (job, expected) = read.ok_or(format!("{name}: not two words in hexadecimal"))?;
-        if names_missing_operation(&job, operations) {
-            passed_over += 1;
-        } else {
-            cases.push(Case { name, kind: None, job, expected });
-        }
+        cases.push(Case { name, kind: None, job, expected });
     }
-    if cases.is_empty() && passed_over == 0 {
+    if cases.is_empty() {
         return Err(format!("{shown} is empty"));
     }
-    Ok((cases, passed_over))
-}
-
-/// Whether the table is accepted and a readable request is of an operation not in the set.
-fn names_missing_operation(input: &[u8], operations: &[Operation]) -> bool {
-    let job = job_of(input);
-    let mut offset = table_length(job);
-    if check(&job[..offset]).is_err() {
-        return false;
-    }
-    while let Some((request, length)) = read_request(job, offset) {
-        if !operations.contains(&request.operation()) {
-            return true;
-        }
-        offset += length;
-    }
-    false
+    Ok(cases)
 }
