@@ -4,7 +4,6 @@
 
 pub mod desk;
 pub mod generate;
-pub mod notation;
 pub mod operations;
 pub mod record;
 pub mod rules;

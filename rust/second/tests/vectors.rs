@@ -1,7 +1,6 @@
 //! Every line of `vectors/jobs.txt`: a third opinion.
 
 use second::desk::{desk, from_hexadecimal};
-use second::notation::job_in_notation;
 
 #[test]
 fn desk_prints_what_the_vectors_expect() {
@@ -14,11 +13,13 @@ fn desk_prints_what_the_vectors_expect() {
         let job = from_hexadecimal(job).expect("hexadecimal");
         let expected = from_hexadecimal(expected).expect("hexadecimal");
         let printed = desk(&job);
+        let shown =
+            || notation::job(&job).iter().map(|l| format!("{}\n", l.text)).collect::<String>();
         assert!(
             printed == expected,
             "line {}:\n{}expected\n{}printed\n{}",
             number + 1,
-            job_in_notation(&job),
+            shown(),
             String::from_utf8_lossy(&expected),
             String::from_utf8_lossy(&printed)
         );

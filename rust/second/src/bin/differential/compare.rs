@@ -6,9 +6,8 @@ use std::process::{Command, Stdio};
 use std::sync::atomic::{AtomicBool, AtomicUsize, Ordering};
 use std::sync::Mutex;
 
-use second::desk::hexadecimal;
+use second::desk::{hexadecimal, job_of};
 use second::generate::Kind;
-use second::notation::job_in_notation;
 
 const THREADS: usize = 2;
 
@@ -66,9 +65,20 @@ fn difference(program: &Path, case: &Case) -> Option<String> {
         "DIFFERENCE in {}\njob in hexadecimal:\n{}\njob in notation:\n{}expected:\n{}printed by the program:\n{printed}",
         case.name,
         hexadecimal(&case.job),
-        job_in_notation(&case.job),
+        in_notation(&case.job),
         String::from_utf8_lossy(&case.expected),
     ))
+}
+
+/// A line for each record and request with its offset.
+fn in_notation(input: &[u8]) -> String {
+    let job = job_of(input);
+    let mut lines = notation::job(job);
+    if job.len() < input.len() {
+        let text = format!("({} bytes not read)", input.len() - job.len());
+        lines.push(notation::Line { offset: job.len(), text });
+    }
+    lines.iter().map(|line| format!("{:>5}  {}\n", line.offset, line.text)).collect()
 }
 
 /// What the program prints for the job. It may stop reading early, so a failed write is none
