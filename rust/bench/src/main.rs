@@ -14,6 +14,7 @@ use std::time::Instant;
 
 use second::operations as plain;
 use units::Unit;
+use xliff_desk::{Form, Side, State};
 
 const ROUNDS: usize = 200;
 const ROOM: usize = 8192;
@@ -58,7 +59,7 @@ fn measure_unit(unit: &Unit) {
     row(
         unit,
         "set target",
-        || ok(xliff_desk::set_target(table, 1, b'T', content, out)),
+        || ok(xliff_desk::set_target(table, 1, State::Translated, content, out)),
         || plain::set_target(table, 1, b'T', content, ROOM).is_ok(),
         || accepted(tuned::set_target(table, 1, b'T', content, tuned_out)),
     );
@@ -72,7 +73,7 @@ fn measure_unit(unit: &Unit) {
     row(
         unit,
         "rewrite",
-        || ok(xliff_desk::rewrite(table, b'S', *pair, b'S', out)),
+        || ok(xliff_desk::rewrite(table, Side::Source, *pair, Form::StartAndEnd, out)),
         || plain::rewrite(table, b'S', *pair, b'S', ROOM).is_ok(),
         || accepted(tuned::rewrite(table, b'S', *pair, b'S', tuned_out)),
     );

@@ -24,9 +24,11 @@
 
 use std::cell::RefCell;
 
+mod letters;
 mod raw;
 mod reason;
 
+pub use letters::{Form, Side, State};
 pub use reason::{Reason, Refusal};
 
 /// "either accepted with a length, or refused with a number and a place".
@@ -92,16 +94,25 @@ pub fn join(table: &[u8], part: u16, out: &mut [u8]) -> Answer {
     })
 }
 
-/// Sets a part's target: the state's letter (`-` for an ignorable), and the content as records.
+/// Sets a part's target: the state ([`State::None`] for an ignorable), and the content as records.
 ///
 /// ```
+/// use xliff_desk::State;
+///
 /// let table = b"UNYSG\0\x01-ITX\0\x02upUE";
 /// let mut out = [0; 64];
-/// let length = xliff_desk::set_target(table, 1, b'T', b"TX\0\x03auf", &mut out)?;
+/// let length = xliff_desk::set_target(table, 1, State::Translated, b"TX\0\x03auf", &mut out)?;
 /// assert_eq!(&out[..length], b"UNYSG\0\x01-TTX\0\x02upTG\0\x01TX\0\x03aufUE");
 /// # Ok::<(), xliff_desk::Refusal>(())
 /// ```
-pub fn set_target(table: &[u8], part: u16, state: u8, content: &[u8], out: &mut [u8]) -> Answer {
+pub fn set_target(
+    table: &[u8],
+    part: u16,
+    state: impl Into<State>,
+    content: &[u8],
+    out: &mut [u8],
+) -> Answer {
+    let state = state.into().letter();
     answer(|number, value| unsafe {
         raw::xliff_desk_set_target(
             table.as_ptr(),
@@ -134,18 +145,26 @@ pub fn remove_target(table: &[u8], part: u16, out: &mut [u8]) -> Answer {
     })
 }
 
-/// Rewrites the pair or annotation of an id on a side (`S` source, `T` target) to a form: `P` for
-/// pc or mrk, `S` for start and end marks. Only marks change.
+/// Rewrites the pair or annotation of an id on a side to a form. Only marks change.
 ///
 /// ```
+/// use xliff_desk::{Form, Side};
+///
 /// // MO 7 Y and MC 7 become SM and EM
 /// let table = b"UNYSG\0\x01-IMO\0\x07YTX\0\x02upMC\0\x07UE";
 /// let mut out = [0; 64];
-/// let length = xliff_desk::rewrite(table, b'S', 7, b'S', &mut out)?;
+/// let length = xliff_desk::rewrite(table, Side::Source, 7, Form::StartAndEnd, &mut out)?;
 /// assert_eq!(&out[..length], b"UNYSG\0\x01-ISM\0\x07YTX\0\x02upEM\0\x07UE");
 /// # Ok::<(), xliff_desk::Refusal>(())
 /// ```
-pub fn rewrite(table: &[u8], side: u8, id: u16, form: u8, out: &mut [u8]) -> Answer {
+pub fn rewrite(
+    table: &[u8],
+    side: impl Into<Side>,
+    id: u16,
+    form: impl Into<Form>,
+    out: &mut [u8],
+) -> Answer {
+    let (side, form) = (side.into().letter(), form.into().letter());
     answer(|number, value| unsafe {
         let (to, room) = (out.as_mut_ptr(), out.len());
         let (from, length) = (table.as_ptr(), table.len());

@@ -2,56 +2,39 @@
 
 use std::fmt;
 
-/// Why a table or a request is refused; [`Reason::text`] has each in words.
-#[derive(Clone, Copy, Debug, PartialEq, Eq)]
+/// Why a table or a request is refused, by its number in document 01; [`Reason::text`] has each in
+/// words. Later orders add reasons.
+#[derive(Clone, Copy, Debug, PartialEq, Eq, Hash)]
+#[non_exhaustive]
+#[repr(u8)]
+#[allow(missing_docs)] // the words of each stand in `text`
 pub enum Reason {
-    /// Number 1.
-    TableTooLong,
-    /// Number 2.
-    BadRecord,
-    /// Number 3.
-    BadText,
-    /// Number 4.
-    TooManyRecords,
-    /// Number 5.
-    BadOrder,
-    /// Number 6.
-    IdMetEarlier,
-    /// Number 7.
-    HalfWithoutPartner,
-    /// Number 8.
-    PartnersDiffer,
-    /// Number 9.
-    Overlap,
-    /// Number 10.
-    UnlikeTheSource,
-    /// Number 11.
-    NoSuchPart,
-    /// Number 12.
-    PartClosed,
-    /// Number 13.
-    BadCut,
-    /// Number 14.
-    IdTaken,
-    /// Number 15.
-    TooLarge,
-    /// Number 16.
-    OrdersNotInSequence,
-    /// Number 17.
-    JoinBreaksPartners,
-    /// Number 18.
-    CodeLost,
-    /// Number 19.
-    FixedCodesChanged,
-    /// Number 20.
-    NothingToChange,
-    /// Number 21.
-    NotOnePair,
+    TableTooLong = 1,
+    BadRecord = 2,
+    BadText = 3,
+    TooManyRecords = 4,
+    BadOrder = 5,
+    IdMetEarlier = 6,
+    HalfWithoutPartner = 7,
+    PartnersDiffer = 8,
+    Overlap = 9,
+    UnlikeTheSource = 10,
+    NoSuchPart = 11,
+    PartClosed = 12,
+    BadCut = 13,
+    IdTaken = 14,
+    TooLarge = 15,
+    OrdersNotInSequence = 16,
+    JoinBreaksPartners = 17,
+    CodeLost = 18,
+    FixedCodesChanged = 19,
+    NothingToChange = 20,
+    NotOnePair = 21,
 }
 
 impl Reason {
     /// In the sequence of their numbers, from 1.
-    pub const ALL: [Reason; 21] = [
+    pub const ALL: &'static [Reason] = &[
         Reason::TableTooLong,
         Reason::BadRecord,
         Reason::BadText,
@@ -77,12 +60,12 @@ impl Reason {
 
     /// The reason that has a number of document 01, if there is one.
     pub fn of_number(number: u8) -> Option<Reason> {
-        Reason::ALL.get(usize::from(number).checked_sub(1)?).copied()
+        Reason::ALL.iter().copied().find(|reason| reason.number() == number)
     }
 
     /// Its number in document 01.
     pub fn number(self) -> u8 {
-        self as u8 + 1
+        self as u8
     }
 
     /// Its words.
@@ -137,7 +120,7 @@ impl Reason {
 }
 
 /// "refused with a number and a place".
-#[derive(Clone, Copy, Debug, PartialEq, Eq)]
+#[derive(Clone, Copy, Debug, PartialEq, Eq, Hash)]
 pub struct Refusal {
     /// Why.
     pub reason: Reason,
