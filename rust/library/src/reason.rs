@@ -32,35 +32,68 @@ pub enum Reason {
     NotOnePair = 21,
 }
 
-impl Reason {
-    /// In the sequence of their numbers, from 1.
-    pub const ALL: &'static [Reason] = &[
-        Reason::TableTooLong,
+/// Each with its words, in the sequence of their numbers.
+const REASONS: &[(Reason, &str)] = &[
+    (Reason::TableTooLong, "the table has more than 8,192 bytes"),
+    (
         Reason::BadRecord,
+        "unknown mark, cut record, bad field or letter, or a record out of sequence",
+    ),
+    (
         Reason::BadText,
-        Reason::TooManyRecords,
-        Reason::BadOrder,
-        Reason::IdMetEarlier,
-        Reason::HalfWithoutPartner,
-        Reason::PartnersDiffer,
-        Reason::Overlap,
+        "text that is empty, not UTF-8, not allowed in XML or directly after a text; \
+         or a CP that should be text",
+    ),
+    (Reason::TooManyRecords, "more than 64 parts or 1,024 records"),
+    (Reason::BadOrder, "a target order not in 1 to the number of parts, or used earlier"),
+    (Reason::IdMetEarlier, "an id met earlier"),
+    (Reason::HalfWithoutPartner, "a half of a pair or annotation without its partner"),
+    (Reason::PartnersDiffer, "partners differ in their fields, or canReorder does not fit"),
+    (Reason::Overlap, "a pair with canOverlap N encloses an isolated code or half of another pair"),
+    (
         Reason::UnlikeTheSource,
-        Reason::NoSuchPart,
-        Reason::PartClosed,
-        Reason::BadCut,
-        Reason::IdTaken,
-        Reason::TooLarge,
-        Reason::OrdersNotInSequence,
-        Reason::JoinBreaksPartners,
-        Reason::CodeLost,
+        "a target code is unlike the source's of its id, or copyOf names no code to copy",
+    ),
+    (Reason::NoSuchPart, "no such part"),
+    (Reason::PartClosed, "canResegment resolves to N"),
+    (Reason::BadCut, "source cut not in 1 to items - 1, or target cut above the target's items"),
+    (Reason::IdTaken, "the new id is already that of a part or inline record"),
+    (Reason::TooLarge, "the output is too short for the result, or the result beyond a limit"),
+    (Reason::OrdersNotInSequence, "the second order is not the first plus 1"),
+    (Reason::JoinBreaksPartners, "joined, a half of a pair or annotation would have no partner"),
+    (Reason::CodeLost, "a code with canDelete N of the old content is not in the new content"),
+    (
         Reason::FixedCodesChanged,
+        "the codes with canReorder F or N are not the old content's, in its sequence",
+    ),
+    (
         Reason::NothingToChange,
+        "no target, no complete pair or annotation of that id, or already so",
+    ),
+    (
         Reason::NotOnePair,
-    ];
+        "not in one content, not balanced between, or the end's canReorder does not fit pc",
+    ),
+];
+
+// The build fails if their numbers do not rise.
+const _: () = {
+    let mut row = 1;
+    while row < REASONS.len() {
+        assert!((REASONS[row - 1].0 as u8) < REASONS[row].0 as u8);
+        row += 1;
+    }
+};
+
+impl Reason {
+    /// All reasons, in the sequence of their numbers.
+    pub fn all() -> impl Iterator<Item = Reason> {
+        REASONS.iter().map(|(reason, _)| *reason)
+    }
 
     /// The reason that has a number of document 01, if there is one.
     pub fn of_number(number: u8) -> Option<Reason> {
-        Reason::ALL.iter().copied().find(|reason| reason.number() == number)
+        Reason::all().find(|reason| reason.number() == number)
     }
 
     /// Its number in document 01.
@@ -70,52 +103,8 @@ impl Reason {
 
     /// Its words.
     pub fn text(self) -> &'static str {
-        match self {
-            Reason::TableTooLong => "the table has more than 8,192 bytes",
-            Reason::BadRecord => {
-                "unknown mark, cut record, bad field or letter, or a record out of sequence"
-            }
-            Reason::BadText => {
-                "text that is empty, not UTF-8, not allowed in XML or directly after a text; \
-                 or a CP that should be text"
-            }
-            Reason::TooManyRecords => "more than 64 parts or 1,024 records",
-            Reason::BadOrder => "a target order not in 1 to the number of parts, or used earlier",
-            Reason::IdMetEarlier => "an id met earlier",
-            Reason::HalfWithoutPartner => "a half of a pair or annotation without its partner",
-            Reason::PartnersDiffer => "partners differ in their fields, or canReorder does not fit",
-            Reason::Overlap => {
-                "a pair with canOverlap N encloses an isolated code or half of another pair"
-            }
-            Reason::UnlikeTheSource => {
-                "a target code is unlike the source's of its id, or copyOf names no code to copy"
-            }
-            Reason::NoSuchPart => "no such part",
-            Reason::PartClosed => "canResegment resolves to N",
-            Reason::BadCut => {
-                "source cut not in 1 to items - 1, or target cut above the target's items"
-            }
-            Reason::IdTaken => "the new id is already that of a part or inline record",
-            Reason::TooLarge => {
-                "the output is too short for the result, or the result beyond a limit"
-            }
-            Reason::OrdersNotInSequence => "the second order is not the first plus 1",
-            Reason::JoinBreaksPartners => {
-                "joined, a half of a pair or annotation would have no partner"
-            }
-            Reason::CodeLost => {
-                "a code with canDelete N of the old content is not in the new content"
-            }
-            Reason::FixedCodesChanged => {
-                "the codes with canReorder F or N are not the old content's, in its sequence"
-            }
-            Reason::NothingToChange => {
-                "no target, no complete pair or annotation of that id, or already so"
-            }
-            Reason::NotOnePair => {
-                "not in one content, not balanced between, or the end's canReorder does not fit pc"
-            }
-        }
+        let row = REASONS.iter().find(|(reason, _)| *reason == self);
+        row.expect("each reason has its words").1
     }
 }
 

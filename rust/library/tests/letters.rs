@@ -44,7 +44,7 @@ fn other_letters_are_refused_by_the_operation() {
 #[test]
 fn reasons_have_the_numbers_of_document_01() {
     let all: Vec<Reason> = (0..=255).filter_map(Reason::of_number).collect();
-    assert_eq!(all, Reason::ALL);
+    assert_eq!(all, Reason::all().collect::<Vec<_>>());
     let numbers: Vec<u8> = all.iter().map(|reason| reason.number()).collect();
     assert_eq!(numbers, (1..=21).collect::<Vec<u8>>());
     assert_eq!((Reason::Overlap as u8, Reason::OrdersNotInSequence as u8), (9, 16));
