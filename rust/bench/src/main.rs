@@ -28,12 +28,14 @@ fn main() {
         assert!(xliff_desk::check(&unit.table).is_ok(), "{} is not valid", unit.name);
         let records = second::rules::check(&unit.table).expect("valid").records().len();
         println!("# {}: {} bytes, {records} records", unit.name, unit.table.len());
-        measure_unit(&unit);
+        measure_parts(&unit);
+        measure_targets(&unit);
+        measure_job(&unit);
     }
 }
 
-fn measure_unit(unit: &Unit) {
-    let Unit { table, content, pair, cut, .. } = unit;
+fn measure_parts(unit: &Unit) {
+    let Unit { table, cut, .. } = unit;
     let (out, tuned_out) = (&mut vec![0; ROOM], &mut vec![0; ROOM]);
     row(
         unit,
@@ -56,6 +58,11 @@ fn measure_unit(unit: &Unit) {
         || plain::join(table, 1, ROOM).is_ok(),
         || accepted(tuned::join(table, 1, tuned_out)),
     );
+}
+
+fn measure_targets(unit: &Unit) {
+    let Unit { table, content, pair, .. } = unit;
+    let (out, tuned_out) = (&mut vec![0; ROOM], &mut vec![0; ROOM]);
     row(
         unit,
         "set target",
@@ -77,6 +84,9 @@ fn measure_unit(unit: &Unit) {
         || plain::rewrite(table, b'S', *pair, b'S', ROOM).is_ok(),
         || accepted(tuned::rewrite(table, b'S', *pair, b'S', tuned_out)),
     );
+}
+
+fn measure_job(unit: &Unit) {
     let job = five_requests(unit);
     row(
         unit,

@@ -43,10 +43,32 @@ fn code(mark: &[u8; 2], id: u8, letters: &[u8; 4]) -> Vec<u8> {
     [mark.as_slice(), &[0, id, 0, 0, 0, 0], letters].concat()
 }
 
+fn segment(id: u8) -> Vec<u8> {
+    vec![b'S', b'G', 0, id, b'-', b'T']
+}
+
+fn target(order: u8) -> Vec<u8> {
+    vec![b'T', b'G', 0, order]
+}
+
+/// A unit of one part without target.
+fn alone(content: &[u8]) -> Vec<u8> {
+    [b"UNY".to_vec(), segment(1), content.to_vec(), b"UE".to_vec()].concat()
+}
+
+/// A unit of three parts with targets. The one in the middle is cut; orders above its own rise.
+fn among(source: &[u8], translated: &[u8]) -> Vec<u8> {
+    [
+        b"UNY".to_vec(),
+        [segment(1), text("A"), target(3), text("B")].concat(),
+        [segment(2), source.to_vec(), target(2), translated.to_vec()].concat(),
+        [b"IG\0\0".to_vec(), text(" "), target(1), text("_")].concat(),
+        b"UE".to_vec(),
+    ]
+    .concat()
+}
+
 fn small_units() -> Vec<Vec<u8>> {
-    let (start, end) = (b"UNY".to_vec(), b"UE".to_vec());
-    let segment = |id: u8| vec![b'S', b'G', 0, id, b'-', b'T'];
-    let target = |order: u8| vec![b'T', b'G', 0, order];
     let letters = b"YYYY";
     let pair =
         |content: Vec<u8>| [code(b"PO", 5, letters), content, code(b"PC", 5, letters)].concat();
@@ -64,19 +86,6 @@ fn small_units() -> Vec<Vec<u8>> {
         b"EM\0\x06".to_vec(),
     ]
     .concat();
-    let alone =
-        |content: &[u8]| [start.clone(), segment(1), content.to_vec(), end.clone()].concat();
-    // The part in the middle is cut; orders above its own rise.
-    let among = |source: &[u8], translated: &[u8]| {
-        [
-            start.clone(),
-            [segment(1), text("A"), target(3), text("B")].concat(),
-            [segment(2), source.to_vec(), target(2), translated.to_vec()].concat(),
-            [b"IG\0\0".to_vec(), text(" "), target(1), text("_")].concat(),
-            end.clone(),
-        ]
-        .concat()
-    };
     vec![
         alone(&mixed),
         alone(&nested),
