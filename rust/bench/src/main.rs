@@ -1,0 +1,162 @@
+//! The proved desk beside two of plain Rust: the second implementation, which is written for
+//! clarity, and a tuned one. Same inputs, one run, batches in alternation, the best of many; what
+//! counts is the ratios.
+//!
+//! From the repository's top folder, with the settings that the tuned one is written for:
+//!
+//!     rt staticlib desk_library
+//!     cargo run --profile measured --manifest-path rust/Cargo.toml -p bench
+
+mod units;
+
+use std::hint::black_box;
+use std::time::Instant;
+
+use second::operations as plain;
+use units::Unit;
+use xliff_desk::{Form, Side, State};
+
+const ROUNDS: usize = 200;
+const ROOM: usize = 8192;
+
+fn main() {
+    println!(
+        "{:<10} {:<14} {:>10} {:>10} {:>10} {:>9} {:>9}",
+        "unit", "operation", "proved us", "plain us", "tuned us", "to plain", "to tuned"
+    );
+    for unit in units::all() {
+        assert!(xliff_desk::check(&unit.table).is_ok(), "{} is not valid", unit.name);
+        let records = second::rules::check(&unit.table).expect("valid").records().len();
+        println!("# {}: {} bytes, {records} records", unit.name, unit.table.len());
+        measure_parts(&unit);
+        measure_targets(&unit);
+        measure_job(&unit);
+    }
+}
+
+fn measure_parts(unit: &Unit) {
+    let Unit { table, cut, .. } = unit;
+    let (out, tuned_out) = (&mut vec![0; ROOM], &mut vec![0; ROOM]);
+    row(
+        unit,
+        "check",
+        || ok(xliff_desk::check(table)),
+        || second::rules::check(table).is_ok(),
+        || accepted(tuned::check(table)),
+    );
+    row(
+        unit,
+        "split",
+        || ok(xliff_desk::split(table, 1, *cut, 0, 900, out)),
+        || plain::split(table, 1, *cut, 0, 900, ROOM).is_ok(),
+        || accepted(tuned::split(table, 1, *cut, 0, 900, tuned_out)),
+    );
+    row(
+        unit,
+        "join",
+        || ok(xliff_desk::join(table, 1, out)),
+        || plain::join(table, 1, ROOM).is_ok(),
+        || accepted(tuned::join(table, 1, tuned_out)),
+    );
+}
+
+fn measure_targets(unit: &Unit) {
+    let Unit { table, content, pair, .. } = unit;
+    let (out, tuned_out) = (&mut vec![0; ROOM], &mut vec![0; ROOM]);
+    row(
+        unit,
+        "set target",
+        || ok(xliff_desk::set_target(table, 1, State::Translated, content, out)),
+        || plain::set_target(table, 1, b'T', content, ROOM).is_ok(),
+        || accepted(tuned::set_target(table, 1, b'T', content, tuned_out)),
+    );
+    row(
+        unit,
+        "remove target",
+        || ok(xliff_desk::remove_target(table, 1, out)),
+        || plain::remove_target(table, 1, ROOM).is_ok(),
+        || accepted(tuned::remove_target(table, 1, tuned_out)),
+    );
+    row(
+        unit,
+        "rewrite",
+        || ok(xliff_desk::rewrite(table, Side::Source, *pair, Form::StartAndEnd, out)),
+        || plain::rewrite(table, b'S', *pair, b'S', ROOM).is_ok(),
+        || accepted(tuned::rewrite(table, b'S', *pair, b'S', tuned_out)),
+    );
+}
+
+fn measure_job(unit: &Unit) {
+    let job = five_requests(unit);
+    row(
+        unit,
+        "five requests",
+        || xliff_desk::job(&job).len() > 5,
+        || second::desk::desk(&job).len() > 5,
+        || tuned::run_job(&job).len() > 5,
+    );
+}
+
+/// A job with one request of each operation.
+fn five_requests(unit: &Unit) -> Vec<u8> {
+    let (pair, cut) = (unit.pair.to_be_bytes(), unit.cut.to_be_bytes());
+    [
+        unit.table.as_slice(),
+        &[b"SP\0\x01".as_slice(), &cut, b"\0\0\x03\x84"].concat(),
+        b"JN\0\x01",
+        &[b"ST\0\x01T", (unit.content.len() as u16).to_be_bytes().as_slice(), &unit.content]
+            .concat(),
+        b"RT\0\x01",
+        &[b"RWS".as_slice(), &pair, b"S"].concat(),
+    ]
+    .concat()
+}
+
+fn ok(answer: xliff_desk::Answer) -> bool {
+    answer.is_ok()
+}
+
+fn accepted(answer: tuned::Answer) -> bool {
+    matches!(answer, tuned::Answer::Accepted(_))
+}
+
+/// All three answer alike; then each is timed.
+fn row(
+    unit: &Unit,
+    name: &str,
+    mut proved: impl FnMut() -> bool,
+    mut plain: impl FnMut() -> bool,
+    mut tuned: impl FnMut() -> bool,
+) {
+    let accepted = proved();
+    assert_eq!((accepted, accepted), (plain(), tuned()), "{} {name}", unit.name);
+    let mut best = [f64::MAX; 3];
+    for _ in 0..ROUNDS {
+        let times = [time(&mut proved), time(&mut plain), time(&mut tuned)];
+        for (best, time) in best.iter_mut().zip(times) {
+            *best = best.min(time);
+        }
+    }
+    let [proved, plain, tuned] = best;
+    let refused = if accepted { "" } else { " (refused)" };
+    println!(
+        "{:<10} {:<14} {proved:>10.2} {plain:>10.2} {tuned:>10.2} {:>9.2} {:>9.2}{refused}",
+        unit.name,
+        name,
+        proved / plain,
+        proved / tuned
+    );
+}
+
+/// Microseconds for one call, over a batch of at least half a millisecond.
+fn time(call: &mut impl FnMut() -> bool) -> f64 {
+    let start = Instant::now();
+    let mut calls = 0u32;
+    while start.elapsed().as_micros() < 500 {
+        for _ in 0..4 {
+            black_box(call());
+        }
+        calls += 4;
+    }
+    start.elapsed().as_secs_f64() * 1e6 / f64::from(calls)
+}

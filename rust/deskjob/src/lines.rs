@@ -1,0 +1,101 @@
+//! The line protocol of vectors/README.md: a line `OP ARGS` asks, a line answers. Each operation
+//! is a function of its words; all answers are the proved desk's.
+
+use notation::{from_hexadecimal, hexadecimal, Request};
+use xliff_desk::Answer;
+
+use crate::requests::ask;
+
+/// The answer to a line, or why the line is not of the protocol.
+pub fn answer(line: &str) -> Result<String, String> {
+    if line.contains(" = ") {
+        return Err("an answer stands on the line".into());
+    }
+    let words: Vec<&str> = line.split(' ').collect();
+    let (operation, words) = (words[0], &words[1..]);
+    match operation {
+        "check" => check(words),
+        "job" => job(words),
+        "call" => call(words),
+        _ => Err(format!("\"{operation}\" is no operation of the line protocol")),
+    }
+}
+
+/// `check T`
+fn check(words: &[&str]) -> Result<String, String> {
+    let [table] = exactly(words)?;
+    Ok(match xliff_desk::check(&bytes(table)?) {
+        Ok(length) => format!("OK {length}"),
+        Err(refusal) => refused(refusal),
+    })
+}
+
+/// `job J`
+fn job(words: &[&str]) -> Result<String, String> {
+    let [job] = exactly(words)?;
+    Ok(format!("TEXT {}", in_digits(&xliff_desk::job(&bytes(job)?))))
+}
+
+/// `call CAP T REQ`
+fn call(words: &[&str]) -> Result<String, String> {
+    let [room, table, request] = exactly(words)?;
+    let (mut out, table, request) = (lent(room)?, bytes(table)?, bytes(request)?);
+    let Some(request) = one_request(&request) else { return Ok("BAD".into()) };
+    Ok(with_output(ask(&request, &table, &mut out), &out))
+}
+
+/// The request that these bytes are, none behind it.
+fn one_request(bytes: &[u8]) -> Option<Request> {
+    let (request, length) = Request::first(bytes)?;
+    (length == bytes.len()).then_some(request)
+}
+
+/// `OK n HEX` or `NO number place`.
+fn with_output(answer: Answer, out: &[u8]) -> String {
+    match answer {
+        Ok(length) => format!("OK {length} {}", in_digits(&out[..length])),
+        Err(refusal) => refused(refusal),
+    }
+}
+
+fn refused(refusal: xliff_desk::Refusal) -> String {
+    format!("NO {} {}", refusal.reason.number(), refusal.place)
+}
+
+/// The words of an operation that takes so many.
+fn exactly<'a, const COUNT: usize>(words: &[&'a str]) -> Result<[&'a str; COUNT], String> {
+    words.try_into().map_err(|_| format!("{} words behind the operation, not {COUNT}", words.len()))
+}
+
+/// "Bytes are upper hexadecimal, `-` for none."
+fn bytes(word: &str) -> Result<Vec<u8>, String> {
+    let upper = !word.is_empty() && !word.bytes().any(|byte| byte.is_ascii_lowercase());
+    let read = match word {
+        "-" => Some(Vec::new()),
+        _ => from_hexadecimal(word).filter(|_| upper),
+    };
+    read.ok_or(format!("\"{word}\" is neither upper hexadecimal nor -"))
+}
+
+fn in_digits(bytes: &[u8]) -> String {
+    if bytes.is_empty() {
+        "-".into()
+    } else {
+        hexadecimal(bytes)
+    }
+}
+
+fn number(word: &str) -> Result<usize, String> {
+    let digits = word.bytes().all(|byte| byte.is_ascii_digit());
+    let read = word.parse().ok().filter(|_| digits);
+    read.ok_or(format!("\"{word}\" is no decimal number"))
+}
+
+/// An output of so many bytes.
+fn lent(room: &str) -> Result<Vec<u8>, String> {
+    let length = number(room)?;
+    let mut out = Vec::new();
+    out.try_reserve_exact(length).map_err(|_| format!("no room for an output of {room} bytes"))?;
+    out.resize(length, 0);
+    Ok(out)
+}

@@ -1,0 +1,101 @@
+//! The line protocol.
+
+use deskjob::commands::{self, End};
+use deskjob::lines::answer;
+
+/// `UN Y`, `SG` 1 - I, `TX` "A. B", `UE`.
+const A_B: &str = "554E59534700012D4954580004412E20425545";
+
+/// Every line of the vectors, answered as `deskjob lines` answers it.
+#[test]
+fn the_vectors_are_answered() {
+    let path = concat!(env!("CARGO_MANIFEST_DIR"), "/../../vectors/after-00.txt");
+    let file = std::fs::read_to_string(path).unwrap();
+    let (mut passed, mut failed) = (0, 0);
+    for line in file.lines() {
+        let (asked, expected) = line.split_once(" = ").expect("a line with its answer");
+        if answer(asked).as_deref() == Ok(expected) {
+            passed += 1;
+        } else {
+            println!("{line}\nis answered {:?}", answer(asked));
+            failed += 1;
+        }
+    }
+    assert_eq!(failed, 0, "{failed} lines are answered otherwise, {passed} as expected");
+    assert!(passed >= 75, "only {passed} lines");
+}
+
+/// The printed job of document 01, as a job and as a call.
+#[test]
+fn the_printed_job() {
+    let split = "554E59534700012D4954580002412E534700022D495458000220425545";
+    let request = "53500001000200000002";
+    let call = |room: usize| answer(&format!("call {room} {A_B} {request}"));
+    assert_eq!(call(29), Ok(format!("OK 29 {split}")));
+    assert_eq!(call(28), Ok("NO 15 0".into()));
+    assert_eq!(call(0), Ok("NO 15 0".into()));
+    assert_eq!(answer(&format!("check {A_B}")), Ok("OK 19".into()));
+    assert_eq!(answer("check 554E595545"), Ok("NO 2 3".into()));
+    assert_eq!(answer("check -"), Ok("NO 2 0".into()));
+    let printed: String =
+        format!("OK 29\n{split}\n").bytes().map(|byte| format!("{byte:02X}")).collect();
+    assert_eq!(answer(&format!("job {A_B}{request}")), Ok(format!("TEXT {printed}")));
+}
+
+/// Unknown marks, requests cut short, bytes behind a request; of a refused table too.
+#[test]
+fn unreadable_requests_are_bad() {
+    for table in [A_B, "554E595545", "-"] {
+        for request in ["-", "4A", "4A4E00", "4A4E000100", "58580001", "5354000154000254"] {
+            let asked = format!("call 100 {table} {request}");
+            assert_eq!(answer(&asked), Ok("BAD".into()), "{asked}");
+        }
+    }
+}
+
+#[test]
+fn lines_that_are_not_of_the_protocol() {
+    let lines = [
+        "",
+        "# check",
+        "xmlread 10 -",
+        "list=- check -",
+        "Check -",
+        "check",
+        "check ",
+        "check - -",
+        "check  -",
+        " check -",
+        "check 5",
+        "check 4g",
+        "check 4e",
+        "check 0x4E",
+        "job",
+        "call 10 -",
+        "call 10 - - -",
+        "call x - -",
+        "call +1 - -",
+        "call - - -",
+        "call 99999999999999999999 - -",
+        "call 9999999999999999999 - -",
+        "check - = NO 2 0",
+        "check - =",
+    ];
+    for line in lines {
+        assert!(answer(line).is_err(), "{line} is answered {:?}", answer(line));
+    }
+}
+
+/// The lines before it are answered, those behind it are not.
+#[test]
+fn the_first_bad_line_is_named() {
+    let shown = commands::lines(b"check -\ncheck zz\ncheck -\n");
+    assert_eq!(shown.text, "NO 2 0\n");
+    let End::Failed(why) = shown.end else { panic!("{:?}", shown.end) };
+    assert!(why.starts_with("line 2: "), "{why}");
+    assert!(matches!(commands::lines(b"check -\n\n").end, End::Failed(_)));
+    assert!(matches!(commands::lines(b"check \xFF\n").end, End::Failed(_)));
+    // the last line feed may be missing
+    assert_eq!(commands::lines(b"check -"), commands::lines(b"check -\n"));
+    assert_eq!(commands::lines(b"").end, End::Accepted);
+}

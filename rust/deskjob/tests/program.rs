@@ -1,0 +1,88 @@
+//! The program itself: exit statuses, and where it prints what.
+
+use std::io::Write;
+use std::process::{Command, Output, Stdio};
+
+const ACCEPTED: &str = "UN Y\nSG 1 - I\nUE\n";
+const REFUSED: &str = "UN Y\nUE\n";
+
+fn start(words: &[&str]) -> std::process::Child {
+    let mut program = Command::new(env!("CARGO_BIN_EXE_deskjob"));
+    program.args(words).stdin(Stdio::piped()).stdout(Stdio::piped()).stderr(Stdio::piped());
+    program.spawn().unwrap()
+}
+
+fn deskjob(words: &[&str], input: &str) -> Output {
+    let mut child = start(words);
+    // A usage error ends it before it reads.
+    let _ = child.stdin.take().unwrap().write_all(input.as_bytes());
+    child.wait_with_output().unwrap()
+}
+
+/// The exit status; with 2 it says why on standard error alone, else prints to standard output.
+fn status(words: &[&str], input: &str) -> i32 {
+    let Output { status, stdout, stderr } = deskjob(words, input);
+    let status = status.code().expect("an exit status");
+    assert_eq!((stdout.is_empty(), stderr.is_empty()), (status == 2, status != 2), "{words:?}");
+    status
+}
+
+#[test]
+fn accepted_is_0_and_refused_is_1() {
+    assert_eq!(status(&["check", "-"], ACCEPTED), 0);
+    assert_eq!(status(&["check", "-"], REFUSED), 1);
+    assert_eq!(status(&["run", "-"], ACCEPTED), 0);
+    assert_eq!(status(&["run", "-"], REFUSED), 1);
+    assert_eq!(status(&["run", "-"], &[ACCEPTED, "RT 1\n"].concat()), 1);
+    assert_eq!(status(&["show", "5545"], ""), 0);
+    assert_eq!(status(&["lines"], "check 554E59534700012D495545\n"), 0);
+    // a refusal is an answer like others
+    assert_eq!(status(&["lines"], "check -\n"), 0);
+}
+
+#[test]
+fn what_cannot_be_read_is_2() {
+    assert_eq!(status(&[], ""), 2);
+    assert_eq!(status(&["walk", "-"], ACCEPTED), 2);
+    assert_eq!(status(&["run"], ACCEPTED), 2);
+    assert_eq!(status(&["run", "-", "-"], ACCEPTED), 2);
+    assert_eq!(status(&["run", "/there/is/no/such/file"], ""), 2);
+    assert_eq!(status(&["run", "-"], "XX"), 2);
+    assert_eq!(status(&["check", "-"], "XX"), 2);
+    assert_eq!(status(&["show", "5"], ""), 2);
+    assert_eq!(status(&["lines"], "chock -\n"), 2);
+    assert_eq!(status(&["lines", "-"], ""), 2);
+}
+
+/// The answers before a bad line are printed, and the line is named.
+#[test]
+fn a_bad_line_ends_lines() {
+    let Output { status, stdout, stderr } = deskjob(&["lines"], "check -\njob\n");
+    assert_eq!(status.code(), Some(2));
+    assert_eq!(stdout, b"NO 2 0\n");
+    assert!(String::from_utf8(stderr).unwrap().contains("line 2: "));
+}
+
+#[test]
+fn help_goes_to_standard_output() {
+    for word in ["--help", "-h", "help"] {
+        let Output { status, stdout, stderr } = deskjob(&[word], "");
+        assert_eq!((status.code(), stderr.is_empty()), (Some(0), true));
+        let help = String::from_utf8(stdout).unwrap();
+        for said in ["deskjob run", "deskjob check", "deskjob show", "deskjob lines", "status"] {
+            assert!(help.contains(said), "{said} is missing in: {help}");
+        }
+    }
+}
+
+/// As `deskjob run JOB | head -1`, whose reader may be gone before anything is written.
+#[test]
+fn a_reader_that_is_gone_is_no_failure() {
+    for (input, expected) in [(ACCEPTED, 0), (REFUSED, 1)] {
+        let mut child = start(&["run", "-"]);
+        drop(child.stdout.take());
+        child.stdin.take().unwrap().write_all(input.as_bytes()).unwrap();
+        let Output { status, stderr, .. } = child.wait_with_output().unwrap();
+        assert_eq!((status.code(), stderr.as_slice()), (Some(expected), b"".as_slice()));
+    }
+}

@@ -1,0 +1,199 @@
+//! The proved operations of the XLIFF unit desk, called from Rust. The rules are those of
+//! document 01; nothing here repeats one.
+//!
+//! Each operation takes a table's bytes and writes its result at the head of `out`. Accepted:
+//! the result's length, and the bytes of `out` behind it are as they were. Refused: a
+//! [`Refusal`], and all of `out` is as it was. Any bytes of any length get an answer.
+//!
+//! ```
+//! // UN Y, SG 1 - I, TX "A. B", UE
+//! let table = b"UNYSG\0\x01-ITX\0\x04A. BUE";
+//! let mut out = [0; 8192];
+//! let length = xliff_desk::split(table, 1, 2, 0, 2, &mut out)?;
+//! assert_eq!(&out[..length], b"UNYSG\0\x01-ITX\0\x02A.SG\0\x02-ITX\0\x02 BUE");
+//!
+//! // A cut behind the last item is refused, in words.
+//! let refusal = xliff_desk::split(table, 1, 4, 0, 2, &mut out).unwrap_err();
+//! assert_eq!(refusal.reason, xliff_desk::Reason::BadCut);
+//! assert_eq!((refusal.reason.number(), refusal.place), (13, 0));
+//! println!("{refusal}");
+//! # Ok::<(), xliff_desk::Refusal>(())
+//! ```
+
+#![warn(missing_docs)]
+
+use std::cell::RefCell;
+
+mod letters;
+mod raw;
+mod reason;
+
+pub use letters::{Form, Side, State};
+pub use reason::{Reason, Refusal};
+
+/// "either accepted with a length, or refused with a number and a place".
+pub type Answer = Result<usize, Refusal>;
+
+/// Checks a table by the rules 1 to 10; gives an accepted table's length. The place of a refusal
+/// is the offset of the blamed record.
+///
+/// ```
+/// use xliff_desk::Reason;
+///
+/// assert_eq!(xliff_desk::check(b"UNYSG\0\x01-IUE"), Ok(11));
+/// // no parts: the end stands where a part must come
+/// let refusal = xliff_desk::check(b"UNYUE").unwrap_err();
+/// assert_eq!((refusal.reason, refusal.place), (Reason::BadRecord, 3));
+/// ```
+pub fn check(table: &[u8]) -> Answer {
+    answer(|number, value| unsafe {
+        raw::xliff_desk_check(table.as_ptr(), table.len(), number, value)
+    })
+}
+
+/// Splits a part (counted from 1) behind so many items of its source and of its target. The
+/// second half gets `new_id` (0: none). The example is at the head of this crate.
+pub fn split(
+    table: &[u8],
+    part: u16,
+    source_cut: u16,
+    target_cut: u16,
+    new_id: u16,
+    out: &mut [u8],
+) -> Answer {
+    answer(|number, value| unsafe {
+        raw::xliff_desk_split(
+            table.as_ptr(),
+            table.len(),
+            part,
+            source_cut,
+            target_cut,
+            new_id,
+            out.as_mut_ptr(),
+            out.len(),
+            number,
+            value,
+        )
+    })
+}
+
+/// Joins a part with the next.
+///
+/// ```
+/// // "A." and " B" become one text, in one segment
+/// let table = b"UNYSG\0\x01-ITX\0\x02A.SG\0\x02-ITX\0\x02 BUE";
+/// let mut out = [0; 64];
+/// let length = xliff_desk::join(table, 1, &mut out)?;
+/// assert_eq!(&out[..length], b"UNYSG\0\x01-ITX\0\x04A. BUE");
+/// # Ok::<(), xliff_desk::Refusal>(())
+/// ```
+pub fn join(table: &[u8], part: u16, out: &mut [u8]) -> Answer {
+    answer(|number, value| unsafe {
+        let (to, room) = (out.as_mut_ptr(), out.len());
+        raw::xliff_desk_join(table.as_ptr(), table.len(), part, to, room, number, value)
+    })
+}
+
+/// Sets a part's target: the state ([`State::None`] for an ignorable), and the content as records.
+///
+/// ```
+/// use xliff_desk::State;
+///
+/// let table = b"UNYSG\0\x01-ITX\0\x02upUE";
+/// let mut out = [0; 64];
+/// let length = xliff_desk::set_target(table, 1, State::Translated, b"TX\0\x03auf", &mut out)?;
+/// assert_eq!(&out[..length], b"UNYSG\0\x01-TTX\0\x02upTG\0\x01TX\0\x03aufUE");
+/// # Ok::<(), xliff_desk::Refusal>(())
+/// ```
+pub fn set_target(
+    table: &[u8],
+    part: u16,
+    state: impl Into<State>,
+    content: &[u8],
+    out: &mut [u8],
+) -> Answer {
+    let state = state.into().letter();
+    answer(|number, value| unsafe {
+        raw::xliff_desk_set_target(
+            table.as_ptr(),
+            table.len(),
+            part,
+            state,
+            content.as_ptr(),
+            content.len(),
+            out.as_mut_ptr(),
+            out.len(),
+            number,
+            value,
+        )
+    })
+}
+
+/// Removes a part's target; a segment's state becomes I.
+///
+/// ```
+/// let table = b"UNYSG\0\x01-TTX\0\x02upTG\0\x01TX\0\x03aufUE";
+/// let mut out = [0; 64];
+/// let length = xliff_desk::remove_target(table, 1, &mut out)?;
+/// assert_eq!(&out[..length], b"UNYSG\0\x01-ITX\0\x02upUE");
+/// # Ok::<(), xliff_desk::Refusal>(())
+/// ```
+pub fn remove_target(table: &[u8], part: u16, out: &mut [u8]) -> Answer {
+    answer(|number, value| unsafe {
+        let (to, room) = (out.as_mut_ptr(), out.len());
+        raw::xliff_desk_remove_target(table.as_ptr(), table.len(), part, to, room, number, value)
+    })
+}
+
+/// Rewrites the pair or annotation of an id on a side to a form. Only marks change.
+///
+/// ```
+/// use xliff_desk::{Form, Side};
+///
+/// // MO 7 Y and MC 7 become SM and EM
+/// let table = b"UNYSG\0\x01-IMO\0\x07YTX\0\x02upMC\0\x07UE";
+/// let mut out = [0; 64];
+/// let length = xliff_desk::rewrite(table, Side::Source, 7, Form::StartAndEnd, &mut out)?;
+/// assert_eq!(&out[..length], b"UNYSG\0\x01-ISM\0\x07YTX\0\x02upEM\0\x07UE");
+/// # Ok::<(), xliff_desk::Refusal>(())
+/// ```
+pub fn rewrite(
+    table: &[u8],
+    side: impl Into<Side>,
+    id: u16,
+    form: impl Into<Form>,
+    out: &mut [u8],
+) -> Answer {
+    let (side, form) = (side.into().letter(), form.into().letter());
+    answer(|number, value| unsafe {
+        let (to, room) = (out.as_mut_ptr(), out.len());
+        let (from, length) = (table.as_ptr(), table.len());
+        raw::xliff_desk_rewrite(from, length, side, id, form, to, room, number, value)
+    })
+}
+
+/// What the desk program prints for a job (a table, then requests): a line for each request, and
+/// last the table in hexadecimal.
+///
+/// ```
+/// let printed = xliff_desk::job(b"UNYSG\0\x01-IUERT\0\x01");
+/// assert_eq!(printed, b"NO 20 0\n554E59534700012D495545\n");
+/// ```
+pub fn job(job: &[u8]) -> Vec<u8> {
+    // No job prints more than this. The array is kept for the next job: a job writes only what it
+    // prints, and only that is read.
+    thread_local!(static OUT: RefCell<Vec<u8>> = RefCell::new(vec![0; 1_048_576]));
+    OUT.with_borrow_mut(|out| {
+        let length = unsafe { raw::xliff_desk_job(job.as_ptr(), job.len(), out.as_mut_ptr()) };
+        out[..length].to_vec()
+    })
+}
+
+fn answer(call: impl FnOnce(*mut u8, *mut usize) -> bool) -> Answer {
+    let (mut number, mut value) = (0, 0);
+    if call(&mut number, &mut value) {
+        return Ok(value);
+    }
+    let reason = Reason::of_number(number).expect("the proved desk refuses by 1 to 21");
+    Err(Refusal { reason, place: value })
+}

@@ -1,0 +1,109 @@
+//! Seeded jobs for the comparison: valid, nearly valid and damaged tables, limits, and requests.
+
+mod changes;
+mod cuts;
+mod damage;
+mod inline;
+mod limits;
+mod mutations;
+mod random;
+mod requests;
+mod set_target;
+mod source;
+mod target;
+mod unit;
+
+use crate::rules::check;
+
+pub use cuts::every_cut;
+pub use random::Random;
+pub use unit::{drafted, valid_table};
+
+#[derive(Clone, Copy, Debug, PartialEq, Eq)]
+pub enum Kind {
+    Valid,
+    OneRuleBroken,
+    SeveralRulesBroken,
+    Damaged,
+    Limit,
+    Request,
+    RequestList,
+    UnreadableRequest,
+}
+
+impl Kind {
+    pub const ALL: [Kind; 8] = [
+        Kind::Valid,
+        Kind::OneRuleBroken,
+        Kind::SeveralRulesBroken,
+        Kind::Damaged,
+        Kind::Limit,
+        Kind::Request,
+        Kind::RequestList,
+        Kind::UnreadableRequest,
+    ];
+
+    pub fn name(self) -> &'static str {
+        match self {
+            Kind::Valid => "valid units",
+            Kind::OneRuleBroken => "units made to break one rule",
+            Kind::SeveralRulesBroken => "units changed at several places",
+            Kind::Damaged => "damaged bytes",
+            Kind::Limit => "limits",
+            Kind::Request => "one request",
+            Kind::RequestList => "lists of requests",
+            Kind::UnreadableRequest => "unreadable requests",
+        }
+    }
+
+    /// How many jobs of a hundred, in the sequence of `ALL`.
+    const SHARES: [usize; 8] = [8, 21, 7, 5, 6, 26, 23, 4];
+}
+
+/// The job of this seed and number.
+pub fn job(seed: u64, number: u64) -> (Kind, Vec<u8>) {
+    let random = &mut Random::of_job(seed, number);
+    let mut left = random.below(100);
+    let mut kind = Kind::Valid;
+    for (candidate, share) in Kind::ALL.into_iter().zip(Kind::SHARES) {
+        kind = candidate;
+        if left < share {
+            break;
+        }
+        left -= share;
+    }
+    (kind, job_of_kind(random, kind))
+}
+
+fn job_of_kind(random: &mut Random, kind: Kind) -> Vec<u8> {
+    match kind {
+        Kind::Valid => valid_table(random),
+        Kind::OneRuleBroken => {
+            let number = *random.pick(&[2, 3, 5, 6, 7, 8, 9, 10]);
+            mutations::table_refused_by(random, number)
+        }
+        Kind::SeveralRulesBroken => {
+            let changes = 2 + random.below(5);
+            mutations::table_changed(random, changes)
+        }
+        Kind::Damaged => damage::damaged(random),
+        Kind::Limit => limits::at_limit(random),
+        Kind::Request => requests_after_valid(random, 1),
+        Kind::RequestList => {
+            let count = 2 + random.below(7);
+            requests_after_valid(random, count)
+        }
+        Kind::UnreadableRequest => {
+            let count = random.below(3);
+            let mut job = requests_after_valid(random, count);
+            let unit = check(&valid_table(random)).expect("a valid table");
+            job.extend(requests::unreadable(random, &unit));
+            job
+        }
+    }
+}
+
+fn requests_after_valid(random: &mut Random, count: usize) -> Vec<u8> {
+    let table = valid_table(random);
+    requests::request_list(random, table, count)
+}

@@ -1,0 +1,31 @@
+//! The second implementation of the XLIFF unit desk, written from document 01 alone
+//! (`01-scope.md`, with the open points read as `readings.md` says), so that the
+//! proved desk program can be compared with it.
+
+pub mod desk;
+pub mod generate;
+pub mod operations;
+pub mod record;
+pub mod rules;
+pub mod table;
+pub mod tally;
+
+/// "refused with a number and a place".
+#[derive(Clone, Copy, Debug, PartialEq, Eq)]
+pub struct Refusal {
+    pub number: u16,
+    pub place: usize,
+}
+
+impl Refusal {
+    /// "in every other refusal it is 0 unless said".
+    pub fn without_place(number: u16) -> Refusal {
+        Refusal { number, place: 0 }
+    }
+}
+
+/// The limits of document 01, "Table" and "Desk program".
+pub const MOST_BYTES: usize = 8192;
+pub const MOST_RECORDS: usize = 1024;
+pub const MOST_PARTS: usize = 64;
+pub const MOST_JOB_BYTES: usize = 65535;
