@@ -8,7 +8,7 @@ use lib.Dec.{eqb}
 use Rattle.xliff.specs.Bytes.{'F', 'N', among, equal}
 use Rattle.xliff.specs.Item.{Content}
 use Rattle.xliff.specs.Encode.{Record}
-use Rattle.xliff.specs.SetTarget.{fixed-list}
+use Rattle.xliff.specs.SetTarget.{fixed-list, fixed-differ}
 use Rattle.walk.specs.Kept.{items, Holds}
 use Rattle.walk.proofs.WalkLaws.{Rest}
 use Rattle.codes.specs.Codes.{codeAt}
@@ -33,4 +33,4 @@ NextFixed c from at = (from ≤ at) × (at ≤ length c) × ((rs : List Record) 
 
 -- 19, for an old content c and a new content d
 abbrev pub Differ : List ℕ → List ℕ → Bool → Type 0
-Differ c d r = (xs ys : Content) → Holds c xs → Holds d ys → r ≡ not (equal (fixed-list xs) (fixed-list ys))
+Differ c d r = (xs ys : Content) → Holds c xs → Holds d ys → r ≡ fixed-differ xs ys

@@ -6,9 +6,9 @@ use native.Mathlib.Omega.{arith}
 use lib.ListN.{length, take, drop, length-append, length-take}
 use Rattle.xliff.specs.Bytes.{two, gather}
 use Rattle.xliff.specs.Item.{Content}
-use Rattle.xliff.specs.Unit.{Head, segment, ignorable, Target, no-target, target, Part}
+use Rattle.xliff.specs.Unit.{Head, segment, ignorable, Target, no-target, target, Part, with-id}
 use Rattle.xliff.specs.Encode.{record-bytes, head-bytes, target-records, part-records, spell, content-bytes}
-use Rattle.xliff.specs.Split.{first-items, second-items, first-target, second-target, with-id, first-half, second-half}
+use Rattle.xliff.specs.Split.{first-items, second-items, first-target, second-target, first-half, second-half}
 use Rattle.xliff.proofs.lists.Tests.{two-value}
 use Rattle.walk.specs.Marks.{number}
 use Rattle.walk.specs.Kept.{Holds}
@@ -99,12 +99,13 @@ next-over t g p o l m n z e f =
 
 pub id-over : (hd : Head) (h o l m : List ℕ) (n : ℕ) → h ≡ head-bytes hd → l ≡ lead h o → m ≡ overlay l 2 (numberBytes n) → m ≡ lead (head-bytes (with-id n hd)) o
 unfolding head-bytes with-id two
-id-over (segment i c s) h o l m n z e f = number-over 83 71 (i / 256) (i % 256) (c ∷ s ∷ []) o l m n (e ∙ ap (λ (x : List ℕ). lead x o) z) f
+id-over (segment f) h o l m n z d e =
+    number-over 83 71 (f .id / 256) (f .id % 256) (f .canResegment ∷ f .state ∷ []) o l m n (d ∙ ap (λ (x : List ℕ). lead x o) z) e
 id-over (ignorable i) h o l m n z e f = number-over 73 71 (i / 256) (i % 256) [] o l m n (e ∙ ap (λ (x : List ℕ). lead x o) z) f
 
 pub id-long : (hd : Head) (n : ℕ) → (length (head-bytes (with-id n hd)) ≡ length (head-bytes hd)) × (4 ≤ length (head-bytes hd))
 unfolding head-bytes with-id two
-id-long (segment i c s) n = (refl, omega arith)
+id-long (segment f) n = (refl, omega arith)
 id-long (ignorable i) n = (refl, omega arith)
 
 pub second-bytes : (k j id : ℕ) (p : Part)

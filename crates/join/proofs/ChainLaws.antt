@@ -55,7 +55,7 @@ module _ (t : List ℕ) (n room : ℕ) (e : table-refusal t ≡ none) where
 
   module _ (b : List Part) (p q : Part) (a : List Part) (h : focus (unit t .parts) n ≡ here b p (q ∷ a)) where
     closed : Bool
-    closed = is-closed (unit t .canResegment) p || is-closed (unit t .canResegment) q
+    closed = is-closed (unit t .opening .canResegment) p || is-closed (unit t .opening .canResegment) q
 
     seven : Option Refusal
     seven = applies 17 (is-fault (fault-7 (v .parts)))
@@ -74,24 +74,24 @@ module _ (t : List ℕ) (n room : ℕ) (e : table-refusal t ≡ none) where
     closed-12 : closed ≡ true → join t n room ≡ refuse (record { number = 12; place = 0 })
     closed-12 x = chain ∙ applied 12 closed _ (encode v) x
 
-    pub first-closed : is-closed (unit t .canResegment) p ≡ true → join t n room ≡ refuse (record { number = 12; place = 0 })
+    pub first-closed : is-closed (unit t .opening .canResegment) p ≡ true → join t n room ≡ refuse (record { number = 12; place = 0 })
     unfolding closed
-    first-closed x = closed-12 (ap (λ (c : Bool). c || is-closed (unit t .canResegment) q) x)
+    first-closed x = closed-12 (ap (λ (c : Bool). c || is-closed (unit t .opening .canResegment) q) x)
 
-    pub second-closed : is-closed (unit t .canResegment) p ≡ false → is-closed (unit t .canResegment) q ≡ true → join t n room ≡ refuse (record { number = 12; place = 0 })
+    pub second-closed : is-closed (unit t .opening .canResegment) p ≡ false → is-closed (unit t .opening .canResegment) q ≡ true → join t n room ≡ refuse (record { number = 12; place = 0 })
     unfolding closed
     second-closed x y = closed-12 (ap₂ _||_ x y)
 
-    after-12 : is-closed (unit t .canResegment) p ≡ false → is-closed (unit t .canResegment) q ≡ false
+    after-12 : is-closed (unit t .opening .canResegment) p ≡ false → is-closed (unit t .opening .canResegment) q ≡ false
         → join t n room ≡ unless (applies 16 (bad-orders (p .target) (q .target)) then (seven then large)) (encode v)
     unfolding closed
     after-12 x y = chain ∙ ap (λ (o : Option Refusal). unless o (encode v)) (passed 12 closed _ (ap₂ _||_ x y))
 
-    pub refused-16 : is-closed (unit t .canResegment) p ≡ false → is-closed (unit t .canResegment) q ≡ false → bad-orders (p .target) (q .target) ≡ true
+    pub refused-16 : is-closed (unit t .opening .canResegment) p ≡ false → is-closed (unit t .opening .canResegment) q ≡ false → bad-orders (p .target) (q .target) ≡ true
         → join t n room ≡ refuse (record { number = 16; place = 0 })
     refused-16 x y z = after-12 x y ∙ applied 16 (bad-orders (p .target) (q .target)) _ (encode v) z
 
-    pub ends : is-closed (unit t .canResegment) p ≡ false → is-closed (unit t .canResegment) q ≡ false → bad-orders (p .target) (q .target) ≡ false
+    pub ends : is-closed (unit t .opening .canResegment) p ≡ false → is-closed (unit t .opening .canResegment) q ≡ false → bad-orders (p .target) (q .target) ≡ false
         → join t n room ≡ ending room (joined-unit (unit t) b p q a)
     unfolding ending seven large
     ends x y z =

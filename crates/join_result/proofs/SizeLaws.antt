@@ -133,7 +133,7 @@ module _ (m : Record → ℕ)
         parts-most p q,
       )
 
-  unit-pieces : (u : XliffUnit) → sum m (unit-records u) ≡ m (opening (u .canResegment)) + sum of-part (u .parts) + m closing
+  unit-pieces : (u : XliffUnit) → sum m (unit-records u) ≡ m (opening (u .opening)) + sum of-part (u .parts) + m closing
   unfolding unit-records
   unit-pieces u = omega (arith, sum-append m (gather part-records (u .parts)) (closing ∷ []), sum-gather m part-records (u .parts))
 
@@ -155,9 +155,9 @@ count-sum (r ∷ rs) = omega (arith, count-sum rs)
 head-sizes : (g h : Head) → length (head-bytes (join-heads g h)) ≤ length (head-bytes g) + length (head-bytes h)
 unfolding head-bytes join-heads two
 head-sizes (ignorable i) (ignorable j) = omega arith
-head-sizes (ignorable i) (segment j d t) = omega arith
-head-sizes (segment i c s) (ignorable j) = omega arith
-head-sizes (segment i c s) (segment j d t) = omega arith
+head-sizes (ignorable i) (segment g) = omega arith
+head-sizes (segment f) (ignorable j) = omega arith
+head-sizes (segment f) (segment g) = omega arith
 
 text-sizes : (cs ds : List ℕ) → length (record-bytes (text-run (cs ++ ds))) ≤ length (record-bytes (text-run cs)) + length (record-bytes (text-run ds))
 unfolding record-bytes two

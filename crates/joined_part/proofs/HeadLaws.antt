@@ -18,15 +18,15 @@ use Rattle.joined_part.specs.Heads.{segmentWith, joinedHead}
 
 pub head-long : (a : Head) → 4 ≤ length (head-bytes a)
 unfolding head-bytes two
-head-long (segment i c s) = omega arith
+head-long (segment f) = omega arith
 head-long (ignorable i) = omega arith
 
 pub head-same : (a b : Head) → joinedHead (head-bytes a) (head-bytes b) ≡ head-bytes (join-heads a b)
 unfolding joinedHead segmentWith head-bytes join-heads two
 head-same (ignorable i) (ignorable j) = refl
-head-same (ignorable i) (segment j d t) = refl
-head-same (segment i c s) (ignorable j) = refl
-head-same (segment i c s) (segment j d t) = refl
+head-same (ignorable i) (segment g) = refl
+head-same (segment f) (ignorable j) = refl
+head-same (segment f) (segment g) = refl
 
 pub segment-long : (h : List ℕ) (c s : ℕ) → 4 ≤ length h → length (segmentWith h c s) ≡ 6
 unfolding segmentWith

@@ -73,17 +73,17 @@ span-end at p place s =
 
 -- all bytes, by the parts before and behind
 table-is : (t : List ℕ) → Passes t → (b : List Part) (p : Part) (a : List Part) → unit t .parts ≡ b ++ (p ∷ a)
-    → t ≡ record-bytes (opening (unit t .canResegment)) ++ spell (gather part-records b) ++ spell (part-records p ++ (gather part-records a ++ (closing ∷ [])))
+    → t ≡ record-bytes (opening (unit t .opening)) ++ spell (gather part-records b) ++ spell (part-records p ++ (gather part-records a ++ (closing ∷ [])))
 unfolding unit-records spell gather
 table-is t h b p a e =
     sym (h .bytes)
-    ∙ ap (λ (ps : List Part). record-bytes (opening (unit t .canResegment)) ++ spell (gather part-records ps ++ (closing ∷ []))) e
-    ∙ ap (λ (rs : List Record). record-bytes (opening (unit t .canResegment)) ++ spell rs)
+    ∙ ap (λ (ps : List Part). record-bytes (opening (unit t .opening)) ++ spell (gather part-records ps ++ (closing ∷ []))) e
+    ∙ ap (λ (rs : List Record). record-bytes (opening (unit t .opening)) ++ spell rs)
     (ap (λ (rs : List Record). rs ++ (closing ∷ [])) (gather-append part-records b (p ∷ a))
     ∙ append-assoc (gather part-records b) (part-records p ++ gather part-records a) (closing ∷ [])
     ∙ ap (λ (rs : List Record). gather part-records b ++ rs) (append-assoc (part-records p) (gather part-records a) (closing ∷ [])))
-    ∙ ap (λ (s : List ℕ). record-bytes (opening (unit t .canResegment)) ++ s) (spell-append (gather part-records b) (part-records p ++ (gather part-records a ++ (closing ∷ []))))
-    ∙ sym (append-assoc (record-bytes (opening (unit t .canResegment))) (spell (gather part-records b)) (spell (part-records p ++ (gather part-records a ++ (closing ∷ [])))))
+    ∙ ap (λ (s : List ℕ). record-bytes (opening (unit t .opening)) ++ s) (spell-append (gather part-records b) (part-records p ++ (gather part-records a ++ (closing ∷ []))))
+    ∙ sym (append-assoc (record-bytes (opening (unit t .opening))) (spell (gather part-records b)) (spell (part-records p ++ (gather part-records a ++ (closing ∷ [])))))
 
 -- the bytes of a part, piece by piece
 rest-is : (a : List Part) → spell (gather part-records a ++ (closing ∷ [])) ≡ spell (gather part-records a) ++ record-bytes closing
@@ -136,10 +136,10 @@ module _ (t : List ℕ) (h : Passes t) (b : List Part) (p : Part) (a : List Part
   from-target : drop (place .target) t ≡ spell (target-records (p .target)) ++ Last
   from-target = drop-past t (place .source) (place .target) (content-bytes (p .source)) _ from-source (span .target)
 
-  front : take (place .head) t ≡ record-bytes (opening (unit t .canResegment)) ++ spell (gather part-records b)
+  front : take (place .head) t ≡ record-bytes (opening (unit t .opening)) ++ spell (gather part-records b)
   unfolding record-bytes
   front =
-      let x = record-bytes (opening (unit t .canResegment)) ++ spell (gather part-records b) in
+      let x = record-bytes (opening (unit t .opening)) ++ spell (gather part-records b) in
       ap (take (place .head)) (table-is t h b p a all)
       ∙ take-at x (spell (part-records p ++ (gather part-records a ++ (closing ∷ [])))) (place .head) (omega (arith, offset))
 
@@ -177,7 +177,7 @@ reached-start t h n l =
       count = omega arith;
       least = l;
       offset = refl;
-      there = at-next t 0 (opening (unit t .canResegment)) (gather part-records (unit t .parts) ++ (closing ∷ [])) (at-start t h) .then;
+      there = at-next t 0 (opening (unit t .opening)) (gather part-records (unit t .parts) ++ (closing ∷ [])) (at-start t h) .then;
     }
 
 module _ (t : List ℕ) (h : Passes t) (n at left : ℕ) (s : Reached t n at left) where

@@ -67,7 +67,7 @@ TargetStands t place (target q xs) =
 pub record PartStands (t : List ℕ) (b : List Part) (p : Part) (a : List Part) (place : PartPlace) : Type 0 where
   pub all : unit t .parts ≡ b ++ (p ∷ a)
   pub offset : place .head ≡ 3 + length (spell (gather part-records b))
-  pub before : take (place .head) t ≡ record-bytes (opening (unit t .canResegment)) ++ spell (gather part-records b)
+  pub before : take (place .head) t ≡ record-bytes (opening (unit t .opening)) ++ spell (gather part-records b)
   pub head : Slice t (place .head) (place .source) (head-bytes (p .head))
   pub source : Slice t (place .source) (place .target) (content-bytes (p .source))
   pub target : TargetStands t place (p .target)

@@ -50,7 +50,7 @@ closed-same u cs (Broken b) = refl
 pub long-enough : (t : List ℕ) (place : PartPlace) → Standing t place → 2 < length t
 long-enough t place (b, p, a, s) = omega (arith, s .offset, s .head .ordered, s .head .within)
 
-unit-letter : (t : List ℕ) (b : List Part) (p : Part) (a : List Part) (place : PartPlace) → PartStands t b p a place → getD t 2 0 ≡ unit t .canResegment
+unit-letter : (t : List ℕ) (b : List Part) (p : Part) (a : List Part) (place : PartPlace) → PartStands t b p a place → getD t 2 0 ≡ unit t .opening .canResegment
 unfolding record-bytes
 unit-letter t b p a place s =
     sym (getD-take (place .head) t 2 0 (omega (arith, s .offset))) ∙ ap (λ (l : List ℕ). getD l 2 0) (s .before)

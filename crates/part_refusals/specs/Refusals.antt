@@ -30,7 +30,7 @@ closedBy u Ill = false
 closedBy u (Broken b) = false
 
 abbrev pub ClosedIs : List ℕ → PartPlace → Bool → Type 0
-ClosedIs t place r = (b : List Part) (p : Part) (a : List Part) → PartStands t b p a place → r ≡ is-closed (unit t .canResegment) p
+ClosedIs t place r = (b : List Part) (p : Part) (a : List Part) → PartStands t b p a place → r ≡ is-closed (unit t .opening .canResegment) p
 
 abbrev pub BadOrdersAre : PartPlace → PartPlace → Bool → Type 0
 BadOrdersAre x y r =

@@ -45,7 +45,7 @@ unmarked-width t e = rw (unmarked t 83 e, unmarked t 73 e, unmarked t 84 e)
 
 pub record-width : (r : Record) (s : List ℕ) → InPart r → widthIn (record-bytes r ++ s) ≡ length (record-bytes r)
 unfolding widthIn record-bytes head-bytes two
-record-width (part-head (segment i c t)) s (head-in g) = refl
+record-width (part-head (segment f)) s (head-in g) = refl
 record-width (part-head (ignorable i)) s (head-in g) = refl
 record-width (target-head q) s (target-in l) = refl
 record-width (inline x) s (item-in g) = unmarked-width (record-bytes (inline x) ++ s) (item-letter x s g) ∙ item-width s x g
@@ -53,7 +53,7 @@ record-width (text-run cs) s (text-in a l) = text-width s cs
 
 pub head-least : (h : Head) → 4 ≤ length (record-bytes (part-head h))
 unfolding record-bytes head-bytes two
-head-least (segment i c t) = omega arith
+head-least (segment f) = omega arith
 head-least (ignorable i) = omega arith
 
 pub record-least : (r : Record) → InPart r → 4 ≤ length (record-bytes r)
@@ -79,7 +79,7 @@ item-bare x g =
 
 pub target-marked : (r : Record) → InPart r → marked (record-bytes r) 84 71 ≡ true → ATarget r
 unfolding record-bytes head-bytes
-target-marked (part-head (segment i c t)) (head-in g) h = absurd (true≢false (sym h))
+target-marked (part-head (segment f)) (head-in g) h = absurd (true≢false (sym h))
 target-marked (part-head (ignorable i)) (head-in g) h = absurd (true≢false (sym h))
 target-marked (target-head q) (target-in l) h = record { order = q; is = refl; small = l }
 target-marked (inline x) (item-in g) h = absurd (true≢false (sym h ∙ item-bare x g))

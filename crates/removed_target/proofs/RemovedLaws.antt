@@ -6,11 +6,10 @@ use native.Mathlib.Omega.{arith}
 use lib.ListN.{length, take, drop, length-append, length-drop}
 use lib.Seq.{length-take-le}
 use Rattle.xliff.specs.Bytes.{'I', gather}
-use Rattle.xliff.specs.Unit.{Target, no-target, target, Part, XliffUnit}
+use Rattle.xliff.specs.Unit.{Target, no-target, target, Part, XliffUnit, with-state}
 use Rattle.xliff.specs.Encode.{head-bytes, content-bytes, target-records, part-records, spell, encode}
 use Rattle.xliff.specs.Parse.{unit}
 use Rattle.xliff.specs.Focus.{here, focus, with-parts}
-use Rattle.xliff.specs.SetTarget.{with-state}
 use Rattle.xliff.specs.RemoveTarget.{remove-focus, remove-unit}
 use Rattle.xliff.proofs.unit.Pieces.{spell-append, part-bytes, bytes-of, bytes-append, opened, closed, table-pieces}
 use Rattle.xliff.proofs.lists.Slices.{slice-long}

@@ -5,10 +5,9 @@ use mathlib.Core.List.{List, _++_}
 use native.Mathlib.Omega.{arith}
 use lib.ListN.{length, take, drop, length-append, length-drop}
 use Rattle.xliff.specs.Bytes.{'I'}
-use Rattle.xliff.specs.Unit.{Part}
+use Rattle.xliff.specs.Unit.{Part, with-state}
 use Rattle.xliff.specs.Encode.{head-bytes, encode}
 use Rattle.xliff.specs.Parse.{unit}
-use Rattle.xliff.specs.SetTarget.{with-state}
 use Rattle.writer.specs.Pieces.{lead}
 use Rattle.xliff.proofs.lists.Slices.{tail-is, tail-room}
 use Rattle.writer.proofs.PieceLaws.{two-back, three-back, three-room, lead-length}

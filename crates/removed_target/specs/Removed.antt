@@ -3,11 +3,10 @@ use Prim.Native.Nat.{ℕ}
 use mathlib.Core.Path.{_≡_}
 use mathlib.Core.List.{List, _++_}
 use lib.ListN.{length}
-use Rattle.xliff.specs.Unit.{Head, Part, XliffUnit}
+use Rattle.xliff.specs.Unit.{Head, Part, XliffUnit, with-state}
 use Rattle.xliff.specs.Encode.{head-bytes, content-bytes, encode}
 use Rattle.xliff.specs.Parse.{unit}
 use Rattle.xliff.specs.Focus.{here, with-parts}
-use Rattle.xliff.specs.SetTarget.{with-state}
 use Rattle.xliff.specs.RemoveTarget.{remove-focus}
 use Rattle.writer.specs.Pieces.{lead}
 use Rattle.xliff.proofs.unit.Pieces.{bytes-of, opened}

@@ -17,7 +17,7 @@ use Rattle.xliff.proofs.unit.Valid.{part-heads, GoodParts, unit-runs, heads-uni
 use Rattle.places.specs.Passes.{Passes}
 
 pub record GoodUnit (v : XliffUnit) : Type 0 where
-  pub letter : GoodRecord (opening (v .canResegment))
+  pub letter : GoodRecord (opening (v .opening))
   pub first : Part
   pub others : List Part
   pub parts : v .parts ≡ first ∷ others

@@ -126,4 +126,4 @@ module _ (i : ℕ) (w : Form) where
 
   pub unit-rewritten : (u : XliffUnit) (side : ℕ) → unit-records (rewrite-unit u side i w) ≡ rewritten f (eqb side 'S') false (unit-records u)
   unfolding unit-records rewrite-unit with-parts rewritten on-record inside-after
-  unit-rewritten u side = ap {B = List Record} (λ l. opening (u .canResegment) ∷ l) (sym (all-parts side false (u .parts)))
+  unit-rewritten u side = ap {B = List Record} (λ l. opening (u .opening) ∷ l) (sym (all-parts side false (u .parts)))

@@ -127,7 +127,7 @@ module _ (i : ℕ) (p : Bool) where
           least : (x : encode.Record) → GoodRecord x → 2 ≤ length (record-bytes x)
           least (opening c) g = omega arith
           least closing g = omega arith
-          least (part-head (segment i c s)) g = omega arith
+          least (part-head (segment f)) g = omega arith
           least (part-head (ignorable i)) g = omega arith
           least (target-head q) g = omega arith
           least (text-run cs) g = omega arith

@@ -6,11 +6,11 @@ use native.Mathlib.Omega.{arith}
 use lib.ListN.{length, drop, length-append, length-drop}
 use Rattle.xliff.specs.Bytes.{two, gather}
 use Rattle.xliff.specs.Item.{Content}
-use Rattle.xliff.specs.Unit.{target, Part, XliffUnit}
+use Rattle.xliff.specs.Unit.{target, Part, XliffUnit, with-state}
 use Rattle.xliff.specs.Encode.{record-bytes, head-bytes, content-bytes, target-records, part-records, spell, encode}
 use Rattle.xliff.specs.Parse.{unit}
 use Rattle.xliff.specs.Focus.{here, focus, with-parts}
-use Rattle.xliff.specs.SetTarget.{with-state, new-order, set-focus, set-unit}
+use Rattle.xliff.specs.SetTarget.{new-order, set-focus, set-unit}
 use Rattle.xliff.proofs.unit.Pieces.{spell-append, part-bytes, bytes-of, bytes-append, opened, closed, table-pieces}
 use Rattle.part_at.specs.declared.PartPlace.{PartPlace}
 use Rattle.part_at.specs.Stands.{PartStands}

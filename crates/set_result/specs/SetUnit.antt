@@ -4,11 +4,10 @@ use mathlib.Core.Path.{_≡_}
 use mathlib.Core.List.{List, _∷_, _++_}
 use lib.ListN.{length}
 use Rattle.xliff.specs.Item.{Content}
-use Rattle.xliff.specs.Unit.{target, Part, XliffUnit}
+use Rattle.xliff.specs.Unit.{target, Part, XliffUnit, with-state}
 use Rattle.xliff.specs.Encode.{target-head, record-bytes, content-bytes, encode}
 use Rattle.xliff.specs.Parse.{unit}
 use Rattle.xliff.specs.Focus.{with-parts}
-use Rattle.xliff.specs.SetTarget.{with-state}
 use Rattle.part_at.specs.declared.PartPlace.{PartPlace}
 use Rattle.part_at.specs.Stands.{PartStands, Standing}
 use Rattle.removed_target.specs.Removed.{Written}

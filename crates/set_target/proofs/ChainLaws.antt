@@ -15,7 +15,7 @@ use Rattle.xliff.specs.Parse.{unit, content, content-fault}
 use Rattle.xliff.specs.Rules.{fault-6-to-10}
 use Rattle.xliff.specs.Check.{table-refusal, too-large}
 use Rattle.xliff.specs.Focus.{Focus, nowhere, here, focus}
-use Rattle.xliff.specs.SetTarget.{state-fits, old-content, is-lost, fixed-list, new-order, set-unit, set-refusal, set-target}
+use Rattle.xliff.specs.SetTarget.{state-fits, old-content, is-lost, fixed-differ, new-order, set-unit, set-refusal, set-target}
 use Rattle.outcomes.proofs.OutcomeLaws.{on-passed, applied, passed, then-assoc}
 use Rattle.result_rules.specs.Broken.{broken}
 use Rattle.set_result.specs.SetUnit.{unit-with}
@@ -69,7 +69,7 @@ module _ (t : List ℕ) (n st : ℕ) (s : List ℕ) (room : ℕ) (e : table-refu
     lost = any (is-lost (content s)) old
 
     abbrev moved : Bool
-    moved = not (equal (fixed-list old) (fixed-list (content s)))
+    moved = fixed-differ old (content s)
 
     codes : Option Refusal
     codes = applies 18 lost then (applies 19 moved then rest)

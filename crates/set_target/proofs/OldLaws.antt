@@ -47,12 +47,12 @@ module _ (t : List ℕ) (h : (i : ℕ) → Fits w8 (getD t i 0)) (w : table-refu
 module _ (st : ℕ) where
   short-fits : (h : Head) → length (head-bytes h) < 6 → eqb st '-' ≡ state-fits h st
   unfolding head-bytes two state-fits
-  short-fits (segment i c s) l = absurd (let y : ⊥ = omega arith in y)
+  short-fits (segment f) l = absurd (let y : ⊥ = omega arith in y)
   short-fits (ignorable i) l = refl
 
   long-fits : (h : Head) → 6 ≤ length (head-bytes h) → eqb st 'I' || (eqb st 'T' || (eqb st 'R' || eqb st 'F')) ≡ state-fits h st
   unfolding head-bytes two state-fits among
-  long-fits (segment i c s) l = ap (λ (d : Bool). eqb st 'I' || (eqb st 'T' || (eqb st 'R' || d))) (sym (or-none (eqb st 'F')))
+  long-fits (segment f) l = ap (λ (d : Bool). eqb st 'I' || (eqb st 'T' || (eqb st 'R' || d))) (sym (or-none (eqb st 'F')))
   long-fits (ignorable i) l = absurd (let y : ⊥ = omega arith in y)
 
   module _ (t : List ℕ) (b : List Part) (p : Part) (a : List Part) (place : PartPlace) (s : PartStands t b p a place) where

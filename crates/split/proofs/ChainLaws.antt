@@ -32,7 +32,7 @@ module _ (t : List ℕ) (n cut tcut id room : ℕ) (e : table-refusal t ≡ none
 
   module _ (b : List Part) (p : Part) (a : List Part) (h : focus (unit t .parts) n ≡ here b p a) where
     closed : Bool
-    closed = is-closed (unit t .canResegment) p
+    closed = is-closed (unit t .opening .canResegment) p
 
     chain : split t n cut tcut id room
         ≡ unless (applies 12 closed then (applies 13 (bad-cut p cut tcut) then (applies 14 (id-taken (unit t .parts) id) then applies 15 large))) bytes
@@ -40,39 +40,39 @@ module _ (t : List ℕ) (n cut tcut id room : ℕ) (e : table-refusal t ≡ none
     chain =
         on-focus (here b p a) h
         ∙ ap (λ (o : Option Refusal). unless o bytes)
-        (then-assoc (applies 12 (is-closed (unit t .canResegment) p)) (applies 13 (bad-cut p cut tcut) then applies 14 (id-taken (unit t .parts) id)) (applies 15 large)
-        ∙ ap (λ (o : Option Refusal). applies 12 (is-closed (unit t .canResegment) p) then o) (then-assoc (applies 13 (bad-cut p cut tcut)) (applies 14 (id-taken (unit t .parts) id)) (applies 15 large)))
+        (then-assoc (applies 12 (is-closed (unit t .opening .canResegment) p)) (applies 13 (bad-cut p cut tcut) then applies 14 (id-taken (unit t .parts) id)) (applies 15 large)
+        ∙ ap (λ (o : Option Refusal). applies 12 (is-closed (unit t .opening .canResegment) p) then o) (then-assoc (applies 13 (bad-cut p cut tcut)) (applies 14 (id-taken (unit t .parts) id)) (applies 15 large)))
 
-    pub refused-12 : is-closed (unit t .canResegment) p ≡ true → split t n cut tcut id room ≡ refuse (record { number = 12; place = 0 })
+    pub refused-12 : is-closed (unit t .opening .canResegment) p ≡ true → split t n cut tcut id room ≡ refuse (record { number = 12; place = 0 })
     unfolding closed
     refused-12 x = chain ∙ applied 12 closed _ bytes x
 
-    after-12 : is-closed (unit t .canResegment) p ≡ false
+    after-12 : is-closed (unit t .opening .canResegment) p ≡ false
         → split t n cut tcut id room ≡ unless (applies 13 (bad-cut p cut tcut) then (applies 14 (id-taken (unit t .parts) id) then applies 15 large)) bytes
     unfolding closed
     after-12 x = chain ∙ ap (λ (o : Option Refusal). unless o bytes) (passed 12 closed _ x)
 
-    pub refused-13 : is-closed (unit t .canResegment) p ≡ false → bad-cut p cut tcut ≡ true → split t n cut tcut id room ≡ refuse (record { number = 13; place = 0 })
+    pub refused-13 : is-closed (unit t .opening .canResegment) p ≡ false → bad-cut p cut tcut ≡ true → split t n cut tcut id room ≡ refuse (record { number = 13; place = 0 })
     refused-13 x y = after-12 x ∙ applied 13 (bad-cut p cut tcut) _ bytes y
 
-    after-13 : is-closed (unit t .canResegment) p ≡ false → bad-cut p cut tcut ≡ false
+    after-13 : is-closed (unit t .opening .canResegment) p ≡ false → bad-cut p cut tcut ≡ false
         → split t n cut tcut id room ≡ unless (applies 14 (id-taken (unit t .parts) id) then applies 15 large) bytes
     after-13 x y = after-12 x ∙ ap (λ (o : Option Refusal). unless o bytes) (passed 13 (bad-cut p cut tcut) _ y)
 
-    pub refused-14 : is-closed (unit t .canResegment) p ≡ false → bad-cut p cut tcut ≡ false → id-taken (unit t .parts) id ≡ true
+    pub refused-14 : is-closed (unit t .opening .canResegment) p ≡ false → bad-cut p cut tcut ≡ false → id-taken (unit t .parts) id ≡ true
         → split t n cut tcut id room ≡ refuse (record { number = 14; place = 0 })
     refused-14 x y z = after-13 x y ∙ applied 14 (id-taken (unit t .parts) id) _ bytes z
 
-    after-14 : is-closed (unit t .canResegment) p ≡ false → bad-cut p cut tcut ≡ false → id-taken (unit t .parts) id ≡ false
+    after-14 : is-closed (unit t .opening .canResegment) p ≡ false → bad-cut p cut tcut ≡ false → id-taken (unit t .parts) id ≡ false
         → split t n cut tcut id room ≡ unless (applies 15 large) bytes
     after-14 x y z = after-13 x y ∙ ap (λ (o : Option Refusal). unless o bytes) (passed 14 (id-taken (unit t .parts) id) _ z)
 
-    pub refused-15 : is-closed (unit t .canResegment) p ≡ false → bad-cut p cut tcut ≡ false → id-taken (unit t .parts) id ≡ false
+    pub refused-15 : is-closed (unit t .opening .canResegment) p ≡ false → bad-cut p cut tcut ≡ false → id-taken (unit t .parts) id ≡ false
         → too-large room (split-unit (unit t) n cut tcut id) ≡ true → split t n cut tcut id room ≡ refuse (record { number = 15; place = 0 })
     unfolding applies unless large
     refused-15 x y z w = after-14 x y z ∙ ap (λ (c : Bool). unless (applies 15 c) bytes) w
 
-    pub done : is-closed (unit t .canResegment) p ≡ false → bad-cut p cut tcut ≡ false → id-taken (unit t .parts) id ≡ false
+    pub done : is-closed (unit t .opening .canResegment) p ≡ false → bad-cut p cut tcut ≡ false → id-taken (unit t .parts) id ≡ false
         → too-large room (split-unit (unit t) n cut tcut id) ≡ false → split t n cut tcut id room ≡ result (encode (split-unit (unit t) n cut tcut id))
     unfolding applies unless large bytes
     done x y z w = after-14 x y z ∙ ap (λ (c : Bool). unless (applies 15 c) bytes) w

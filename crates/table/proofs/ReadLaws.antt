@@ -15,7 +15,7 @@ use Rattle.xliff.specs.Item as spec
 use Rattle.xliff.specs.Item.{mark}
 use Rattle.xliff.specs.Encode as encode
 use Rattle.xliff.specs.Encode.{text-run, inline, ill-text, broken, code-bytes, field-bytes, head-bytes, record-bytes}
-use Rattle.xliff.specs.Parse.{Mark, UN, UE, SG, IG, TG, TX, CP, PH, PO, PC, SC, EC, IS, IE, MO, SM, MC, EM, unknown, is, mark-of, mark-at, whole, whole-part, code-at, good-id, good-code, code, mark-start, mark-end, text-record, read-as, read}
+use Rattle.xliff.specs.Parse.{Mark, UN, UE, SG, IG, TG, TX, CP, PH, PO, PC, SC, EC, IS, IE, MO, SM, MC, EM, unknown, is, mark-of, mark-at, whole, whole-part, code-at, good-id, good-code, code, mark-start, mark-end, text-record, read-as, read, opening-at, good-opening, segment-at, good-segment}
 use Rattle.xliff.proofs.text.Utf8.{text-of-some}
 use Rattle.table.specs.Number.{numberAt}
 use Rattle.table.specs.Letters.{yesNo, reorderLetter, overlapLetter, fieldsOk}
@@ -135,11 +135,11 @@ take-length (suc n) (b ∷ s) e = ap suc (take-length n s (omega arith))
 
 module _ (t : List ℕ) (known : Bool) where
   unit-tied : Tied t known (unitOf t) (read-as UN t)
-  unfolding unitOf read-as record-bytes
+  unfolding unitOf read-as opening-at good-opening record-bytes
   unit-tied = whole-tied t known 3 _ _ _ _ (two-letters (getD t 2 0) 'Y' 'N') refl refl
 
   segment-tied : Tied t known (segmentOf t) (read-as SG t)
-  unfolding segmentOf read-as record-bytes head-bytes two two-at
+  unfolding segmentOf read-as segment-at good-segment record-bytes head-bytes two two-at
   segment-tied =
       part-tied t known 6 _ _ _ _ (ap₂ _&&_ (three-letters (getD t 4 0) 'Y' 'N' '-') (four-letters (getD t 5 0) 'I' 'T' 'R' 'F')) refl refl
 

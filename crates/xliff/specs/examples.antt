@@ -1,4 +1,5 @@
 -- Examples by computation.
+pub mod Notation
 pub mod Bench
 pub mod Delicate
 pub mod Limits

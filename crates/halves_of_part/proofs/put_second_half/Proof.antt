@@ -1,4 +1,4 @@
-use Rattle.xliff.specs.Split.{with-id}
+use Rattle.xliff.specs.Unit.{with-id}
 use Rattle.writer.proofs.PieceLaws.{three-back, three-room}
 use Rattle.halves_of_part.proofs.PartLaws.{second-bytes, second-long, id-over, id-long}
 use Rattle.xliff.proofs.lists.Slices.{tail-room}

@@ -8,7 +8,7 @@ use mathlib.Core.Option.{none}
 use lib.ListN.{length, length-append, length-map}
 use Rattle.xliff.proofs.lists.Tests.{and-false, and-true}
 use Rattle.xliff.specs.Bytes.{Bytes, gather}
-use Rattle.xliff.specs.Answer.{Refusal, applies, _then_, Outcome, result, refuse, is-accepted, next-table}
+use Rattle.xliff.specs.Answer.{Refusal, applies, _then_, Outcome, result, refuse, answer, is-accepted, next-table}
 use Rattle.xliff.specs.Item.{Item, Content, flattened, non-removable}
 use Rattle.xliff.specs.Unit.{Part, XliffUnit, is-closed, source-sequence, target-sequence}
 use Rattle.xliff.specs.Parse.{unit, content, content-fault}
@@ -20,7 +20,7 @@ use Rattle.xliff.specs.Join.{join-focus, join-unit, bad-orders, join-ref
 use Rattle.xliff.specs.SetTarget.{state-fits, set-focus, set-unit, set-refusal, set-target}
 use Rattle.xliff.specs.RemoveTarget.{remove-focus, remove-unit, remove-target}
 use Rattle.xliff.specs.Rewrite.{form-of, rewrite-item, rewrite-part, rewrite-unit, rewrite}
-use Rattle.xliff.specs.Calls.{Call, SP, JN, ST, RT, RW, outcome, left, one-if, is-split, is-join, is-setting, is-removal, Given}
+use Rattle.xliff.specs.Calls.{Call, SP, JN, ST, RT, RW, outcome, left, one-if, Kind, a-split, a-join, a-setting, a-removal, kind, kind-number, of-kind, Given}
 use Rattle.xliff.specs.BothEnds.{closed-part, flat-source, flat-target, part-count, closed-parts, times, Demand-3}
 use Rattle.xliff.proofs.operations.Sources.{focus-here, split-source, join-source, set-source, remove-source, rewrite-source, split-count, join-count}
 use Rattle.xliff.proofs.operations.SplitTarget.{split-target}
@@ -42,13 +42,13 @@ use Rattle.xliff.proofs.both_ends.Lists.{done, OneCall, demand-3}
 -- what an accepted call of a kind leaves, in the units
 record Keeps (t : List ℕ) (c : Call) (v : XliffUnit) : Type 0 where
   pub fits : FitParts (v .parts)
-  pub letter : v .canResegment ≡ unit t .canResegment
+  pub letter : v .opening .canResegment ≡ unit t .opening .canResegment
   pub source : flattened (source-sequence (v .parts)) ≡ flattened (source-sequence (unit t .parts))
-  pub closed : closed-of (unit t .canResegment) (v .parts) ≡ closed-of (unit t .canResegment) (unit t .parts)
-  pub count : length (v .parts) + one-if (is-join c) ≡ length (unit t .parts) + one-if (is-split c)
-  pub codes : is-removal c ≡ false → (x : Item) → non-removable x ≡ true → 1 ≤ copies x (flattened (target-sequence (unit t .parts)))
+  pub closed : closed-of (unit t .opening .canResegment) (v .parts) ≡ closed-of (unit t .opening .canResegment) (unit t .parts)
+  pub count : length (v .parts) + one-if (of-kind a-join c) ≡ length (unit t .parts) + one-if (of-kind a-split c)
+  pub codes : of-kind a-removal c ≡ false → (x : Item) → non-removable x ≡ true → 1 ≤ copies x (flattened (target-sequence (unit t .parts)))
       → 1 ≤ copies x (flattened (target-sequence (v .parts)))
-  pub goals : is-removal c ≡ false → is-setting c ≡ false → flattened (target-sequence (v .parts)) ≡ flattened (target-sequence (unit t .parts))
+  pub goals : of-kind a-removal c ≡ false → of-kind a-setting c ≡ false → flattened (target-sequence (v .parts)) ≡ flattened (target-sequence (unit t .parts))
 
 -- a kind that was done no times is another kind
 not-done : (b : Bool) → one-if b ≡ 0 → b ≡ false
@@ -62,9 +62,9 @@ module _ (t : List ℕ) (c : Call) (r : List ℕ) (v : XliffUnit) (e : outcome t
   unfolding left next-table
   leaves = ap (λ (o : Outcome). next-table o t) e
 
-  was-done : (p : Call → Bool) → done p t c ≡ one-if (p c)
-  unfolding is-accepted
-  was-done p = ap (λ (o : Outcome). one-if (p c && is-accepted o)) e ∙ ap one-if (and-true (p c))
+  was-done : (j : Kind) → done j t c ≡ one-if (of-kind j c)
+  unfolding is-accepted answer
+  was-done j = ap (λ (o : Outcome). one-if (of-kind j c && is-accepted (answer o))) e ∙ ap one-if (and-true (of-kind j c))
 
   same-unit : unit r ≡ v
   same-unit = accepted-unit t v r a
@@ -73,7 +73,7 @@ module _ (t : List ℕ) (c : Call) (r : List ℕ) (v : XliffUnit) (e : outcome t
   unfolding flat-target
   goal-now = ap (λ (u : XliffUnit). flattened (target-sequence (u .parts))) same-unit
 
-  kept : is-removal c ≡ false → (x : Item) → non-removable x ≡ true → times x (flat-target t) ≡ 1 → times x (flat-target r) ≡ 1
+  kept : of-kind a-removal c ≡ false → (x : Item) → non-removable x ≡ true → times x (flat-target t) ≡ 1 → times x (flat-target r) ≡ 1
   unfolding flat-target
   kept z x n h =
       let least = k .codes z x n (let w = times-copies x (flattened (target-sequence (unit t .parts))) in omega arith) in
@@ -87,22 +87,22 @@ module _ (t : List ℕ) (c : Call) (r : List ℕ) (v : XliffUnit) (e : outcome t
         bytes = subst Bytes (sym leaves) (accepted-bytes t v r a (k .fits));
         valid = subst Valid (sym leaves) (accepted-valid t v r a);
         same-source = ap flat-source leaves ∙ ap (λ (u : XliffUnit). flattened (source-sequence (u .parts))) same-unit ∙ k .source;
-        same-closed = ap closed-parts leaves ∙ ap (λ (u : XliffUnit). gather (closed-part (u .canResegment)) (u .parts)) same-unit
+        same-closed = ap closed-parts leaves ∙ ap (λ (u : XliffUnit). gather (closed-part (u .opening .canResegment)) (u .parts)) same-unit
             ∙ ap (λ (l : ℕ). gather (closed-part l) (v .parts)) (k .letter) ∙ k .closed;
         same-count =
             let x = ap part-count leaves in
             let y = ap (λ (u : XliffUnit). length (u .parts)) same-unit in
-            let j = was-done is-join in
-            let s = was-done is-split in
+            let j = was-done a-join in
+            let s = was-done a-split in
             let n = k .count in
             omega arith;
-        kept-codes = λ z x n h. ap (λ (l : List ℕ). times x (flat-target l)) leaves ∙ kept (not-done _ (sym (was-done is-removal) ∙ z)) x n h;
-        same-target = λ z w. ap flat-target leaves ∙ goal-now ∙ k .goals (not-done _ (sym (was-done is-removal) ∙ z)) (not-done _ (sym (was-done is-setting) ∙ w));
+        kept-codes = λ z x n h. ap (λ (l : List ℕ). times x (flat-target l)) leaves ∙ kept (not-done _ (sym (was-done a-removal) ∙ z)) x n h;
+        same-target = λ z w. ap flat-target leaves ∙ goal-now ∙ k .goals (not-done _ (sym (was-done a-removal) ∙ z)) (not-done _ (sym (was-done a-setting) ∙ w));
       }
 
 -- a refused call
 refused-call : (t : List ℕ) (c : Call) (x : Refusal) → Bytes t → Valid t → outcome t c ≡ refuse x → OneCall t c
-unfolding left next-table is-accepted one-if
+unfolding left next-table is-accepted answer one-if
 refused-call t c x b v e =
     let stays : left t c ≡ t = ap (λ (o : Outcome). next-table o t) e in
     record {
@@ -110,18 +110,18 @@ refused-call t c x b v e =
       valid = subst Valid (sym stays) v;
       same-source = ap flat-source stays;
       same-closed = ap closed-parts stays;
-      same-count = let z = ap part-count stays in let j = not-done-now is-join in let s = not-done-now is-split in omega arith;
+      same-count = let z = ap part-count stays in let j = not-done-now a-join in let s = not-done-now a-split in omega arith;
       kept-codes = λ z y n h. ap (λ (l : List ℕ). times y (flat-target l)) stays ∙ h;
       same-target = λ z w. ap flat-target stays;
     }
   where
-    not-done-now : (p : Call → Bool) → done p t c ≡ 0
-    not-done-now p = ap (λ (o : Outcome). one-if (p c && is-accepted o)) e ∙ ap one-if (and-false (p c))
+    not-done-now : (j : Kind) → done j t c ≡ 0
+    not-done-now j = ap (λ (o : Outcome). one-if (of-kind j c && is-accepted (answer o))) e ∙ ap one-if (and-false (of-kind j c))
 
 -- SPLIT
 split-keeps : (t : List ℕ) (n cut tcut new room : ℕ) (r : List ℕ) → new < 65536 → Bytes t → Valid t → split t n cut tcut new room ≡ result r
     → Sent (unit t) → Keeps t (SP n cut tcut new room) (split-unit (unit t) n cut tcut new)
-unfolding split split-unit with-parts split-refusal is-join is-split is-removal is-setting one-if
+unfolding split split-unit with-parts split-refusal kind kind-number of-kind one-if
 split-keeps t n cut tcut new room r l b v e h =
     let (valid, own, same) = operation-result t _ _ r e in
     let first = then-left (split-refusal (unit t) cut tcut new (focus (unit t .parts) n)) _ own in
@@ -141,19 +141,19 @@ split-keeps t n cut tcut new room r l b v e h =
     u = unit t
 
     by : (f : Focus) → focus (u .parts) n ≡ f → split-refusal u cut tcut new f ≡ none
-        → (closed-of (u .canResegment) (split-focus cut tcut new (u .parts) (focus (u .parts) n)) ≡ closed-of (u .canResegment) (u .parts))
+        → (closed-of (u .opening .canResegment) (split-focus cut tcut new (u .parts) (focus (u .parts) n)) ≡ closed-of (u .opening .canResegment) (u .parts))
         × (length (split-focus cut tcut new (u .parts) (focus (u .parts) n)) ≡ suc (length (u .parts)))
     by nowhere k o = absurd (true≢false (applies-none 11 true o))
     by (here f p a) k o =
         let at : u .parts ≡ f ++ (p ∷ a) = focus-here (u .parts) n f p a k in (
-          ap (λ (z : Focus). closed-of (u .canResegment) (split-focus cut tcut new (u .parts) z)) k
-              ∙ split-closed (u .canResegment) cut tcut new (u .parts) f p a at (applies-none 12 _ (then-left _ _ o)),
+          ap (λ (z : Focus). closed-of (u .opening .canResegment) (split-focus cut tcut new (u .parts) z)) k
+              ∙ split-closed (u .opening .canResegment) cut tcut new (u .parts) f p a at (applies-none 12 _ (then-left _ _ o)),
           ap (λ (z : Focus). length (split-focus cut tcut new (u .parts) z)) k ∙ split-count cut tcut new (u .parts) f p a at,
         )
 
 -- JOIN
 join-keeps : (t : List ℕ) (n room : ℕ) (r : List ℕ) → Bytes t → Valid t → join t n room ≡ result r → Sent (unit t) → Keeps t (JN n room) (join-unit (unit t) n)
-unfolding join join-unit with-parts join-refusal is-join is-split is-removal is-setting one-if
+unfolding join join-unit with-parts join-refusal kind kind-number of-kind one-if
 join-keeps t n room r b v e h =
     let (valid, own, same) = operation-result t _ _ r e in
     let first = then-left (join-refusal (unit t) n (focus (unit t .parts) n)) _ own in
@@ -172,15 +172,15 @@ join-keeps t n room r b v e h =
     u = unit t
 
     by : (f : Focus) → focus (u .parts) n ≡ f → join-refusal u n f ≡ none
-        → (closed-of (u .canResegment) (join-focus (u .parts) (focus (u .parts) n)) ≡ closed-of (u .canResegment) (u .parts))
+        → (closed-of (u .opening .canResegment) (join-focus (u .parts) (focus (u .parts) n)) ≡ closed-of (u .opening .canResegment) (u .parts))
         × (suc (length (join-focus (u .parts) (focus (u .parts) n))) ≡ length (u .parts))
         × (flattened (target-sequence (join-focus (u .parts) (focus (u .parts) n))) ≡ flattened (target-sequence (u .parts)))
     by nowhere k o = absurd (true≢false (applies-none 11 true o))
     by (here f p []) k o = absurd (true≢false (applies-none 11 true o))
     by (here f p (q ∷ a)) k o =
         let at : u .parts ≡ f ++ (p ∷ q ∷ a) = focus-here (u .parts) n f p (q ∷ a) k in
-        let o2 = then-right (applies 12 (is-closed (u .canResegment) p || is-closed (u .canResegment) q)) _ o in (
-          ap (λ (z : Focus). closed-of (u .canResegment) (join-focus (u .parts) z)) k ∙ join-closed (u .canResegment) (u .parts) f p q a at (applies-none 12 _ (then-left _ _ o)),
+        let o2 = then-right (applies 12 (is-closed (u .opening .canResegment) p || is-closed (u .opening .canResegment) q)) _ o in (
+          ap (λ (z : Focus). closed-of (u .opening .canResegment) (join-focus (u .parts) z)) k ∙ join-closed (u .opening .canResegment) (u .parts) f p q a at (applies-none 12 _ (then-left _ _ o)),
           ap (λ (z : Focus). suc (length (join-focus (u .parts) z))) k ∙ join-count (u .parts) f p q a at,
           ap (λ (z : Focus). flattened (target-sequence (join-focus (u .parts) z))) k
               ∙ ap flattened (join-target (u .parts) f p q a at (h .rule-5) (applies-none 16 (bad-orders (p .target) (q .target)) (then-left _ _ o2))),
@@ -204,7 +204,7 @@ remove-length ps n = by (focus ps n) refl
 
 set-keeps : (t : List ℕ) (n st : ℕ) (s : List ℕ) (room : ℕ) (r : List ℕ) → Bytes s → Bytes t → Valid t → set-target t n st s room ≡ result r
     → Sent (unit t) → Sent (set-unit (unit t) n st (content s)) → Keeps t (ST n st s room) (set-unit (unit t) n st (content s))
-unfolding set-target set-unit with-parts set-refusal is-join is-split is-removal is-setting one-if
+unfolding set-target set-unit with-parts set-refusal kind kind-number of-kind one-if
 set-keeps t n st s room r bs b v e h now =
     let (valid, own, same) = operation-result t _ _ r e in
     let first = then-left (set-refusal st s (focus (unit t .parts) n)) _ own in
@@ -213,7 +213,7 @@ set-keeps t n st s room r bs b v e h now =
       fits = set-fits (unit t .parts) n st (content s) (content-fits s bs cf) (table-fits t b v);
       letter = refl;
       source = ap flattened (set-source (unit t .parts) n st (content s));
-      closed = set-closed (unit t .canResegment) (unit t .parts) n st (content s);
+      closed = set-closed (unit t .opening .canResegment) (unit t .parts) n st (content s);
       count = omega arith;
       codes = λ z x nr k. codes x nr k;
       goals = λ z w. absurd (true≢false w);
@@ -241,13 +241,13 @@ set-keeps t n st s room r bs b v e h now =
 
 -- REMOVE TARGET
 remove-keeps : (t : List ℕ) (n room : ℕ) → Bytes t → Valid t → Keeps t (RT n room) (remove-unit (unit t) n)
-unfolding remove-unit with-parts is-join is-split is-removal is-setting one-if
+unfolding remove-unit with-parts kind kind-number of-kind one-if
 remove-keeps t n room b v =
     record {
       fits = remove-fits (unit t .parts) n (table-fits t b v);
       letter = refl;
       source = ap flattened (remove-source (unit t .parts) n);
-      closed = remove-closed (unit t .canResegment) (unit t .parts) n;
+      closed = remove-closed (unit t .opening .canResegment) (unit t .parts) n;
       count = let z = remove-length (unit t .parts) n in omega arith;
       codes = λ z. absurd (true≢false z);
       goals = λ z. absurd (true≢false z);
@@ -255,14 +255,14 @@ remove-keeps t n room b v =
 
 -- REWRITE
 rewrite-keeps : (t : List ℕ) (side i w room : ℕ) → Bytes t → Valid t → Keeps t (RW side i w room) (rewrite-unit (unit t) side i (form-of w))
-unfolding rewrite-unit with-parts is-join is-split is-removal is-setting one-if
+unfolding rewrite-unit with-parts kind kind-number of-kind one-if
 rewrite-keeps t side i w room b v =
     let goal = rewrite-target-sequence side i (form-of w) (unit t .parts) in
     record {
       fits = rewrite-fits side i (form-of w) (unit t .parts) (table-fits t b v);
       letter = refl;
       source = rewrite-source side i (form-of w) (unit t .parts);
-      closed = rewrite-closed (unit t .canResegment) side i (form-of w) (unit t .parts);
+      closed = rewrite-closed (unit t .opening .canResegment) side i (form-of w) (unit t .parts);
       count = let z = length-map (unit t .parts) (rewrite-part side (rewrite-item i (form-of w))) in omega arith;
       codes = λ z x nr k. subst (λ (ys : Content). 1 ≤ copies x ys) (sym goal) k;
       goals = λ z w. goal;

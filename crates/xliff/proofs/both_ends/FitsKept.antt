@@ -8,13 +8,13 @@ use lib.Dec.{eqb}
 use lib.ListN.{take, drop}
 use Rattle.xliff.specs.Bytes.{'S', Bytes, any}
 use Rattle.xliff.specs.Item.{Item, Content, Form, form-S, text, character, standalone, isolated, pair, annotation-start, annotation-end, in-form, other-half}
-use Rattle.xliff.specs.Unit.{Head, segment, ignorable, Target, no-target, target, Part, head-id}
+use Rattle.xliff.specs.Unit.{Head, segment, ignorable, Target, no-target, target, Part, head-id, with-id}
 use Rattle.xliff.specs.Encode.{field-bytes, content-bytes, content-records, unit-records, encode}
 use Rattle.xliff.specs.Parse.{unit, content, content-fault, table-fault}
 use Rattle.xliff.specs.Rules.{half-of-id}
 use Rattle.xliff.specs.Check.{Valid, table-refusal}
 use Rattle.xliff.specs.Focus.{Focus, nowhere, here, focus, order-target, order-part, order-parts}
-use Rattle.xliff.specs.Split.{cut-item, first-items, second-items, first-target, second-target, with-id, first-half, second-half, split-order, split-focus}
+use Rattle.xliff.specs.Split.{cut-item, first-items, second-items, first-target, second-target, first-half, second-half, split-order, split-focus}
 use Rattle.xliff.specs.Join.{join-heads, join-targets, join-parts, join-order, join-focus}
 use Rattle.xliff.specs.SetTarget.{set-focus}
 use Rattle.xliff.specs.RemoveTarget.{remove-focus}
@@ -78,7 +78,7 @@ halves-fit n (target q xs) f = (first-fits n xs f, second-fits n xs f)
 
 new-id : (i : ℕ) (h : Head) → head-id (with-id i h) ≡ i
 unfolding head-id with-id
-new-id i (segment j c s) = refl
+new-id i (segment f) = refl
 new-id i (ignorable j) = refl
 
 pub split-fits : (cut tcut new : ℕ) (ps : List Part) (n : ℕ) → new < 65536 → FitParts ps → FitParts (split-focus cut tcut new ps (focus ps n))
@@ -99,9 +99,9 @@ split-fits cut tcut new ps n l f = by (focus ps n) refl
 head-one : (g h : Head) → head-id g < 65536 → head-id h < 65536 → head-id (join-heads g h) < 65536
 unfolding join-heads head-id
 head-one (ignorable i) (ignorable j) p q = p
-head-one (ignorable i) (segment j d t) p q = q
-head-one (segment i c s) (ignorable j) p q = p
-head-one (segment i c s) (segment j d t) p q = p
+head-one (ignorable i) (segment g) p q = q
+head-one (segment f) (ignorable j) p q = p
+head-one (segment f) (segment g) p q = p
 
 goal-one : (g h : Target) → FitTarget g → FitTarget h → FitTarget (join-targets g h)
 unfolding join-targets

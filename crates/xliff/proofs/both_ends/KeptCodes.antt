@@ -7,12 +7,12 @@ use mathlib.Core.List.{List, [], _∷_, _++_, List·Memᴰ}
 use mathlib.Core.Option.{none}
 use Rattle.xliff.specs.Bytes.{Bytes, any}
 use Rattle.xliff.specs.Item.{Item, Content, same, flat, flattened, is-code, non-removable}
-use Rattle.xliff.specs.Unit.{Target, no-target, target, Part, XliffUnit, target-sequence}
+use Rattle.xliff.specs.Unit.{Target, no-target, target, Part, XliffUnit, target-sequence, with-state}
 use Rattle.xliff.specs.Parse.{unit}
 use Rattle.xliff.specs.Rules.{fault-5, fault-6, fault-6-to-10}
 use Rattle.xliff.specs.Check.{Valid}
 use Rattle.xliff.specs.Focus.{here}
-use Rattle.xliff.specs.SetTarget.{with-state, old-content, same-flat, is-lost, new-order, set-focus}
+use Rattle.xliff.specs.SetTarget.{old-content, same-flat, is-lost, new-order, set-focus}
 use Rattle.xliff.specs.BothEnds.{flat-target, times}
 use Rattle.xliff.proofs.lists.Sum.{bit, sum, sum-append}
 use Rattle.xliff.proofs.lists.Tests.{and-left, or-left, or-right, not-false}

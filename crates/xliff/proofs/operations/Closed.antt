@@ -6,11 +6,11 @@ use mathlib.Core.List.{List, [], _∷_, _++_, map}
 use lib.Dec.{eqb}
 use Rattle.xliff.specs.Bytes.{'-', 'N', 'S', gather}
 use Rattle.xliff.specs.Item.{Content, Form}
-use Rattle.xliff.specs.Unit.{Head, segment, ignorable, Target, no-target, target, Part, head-id, resolved, is-closed}
+use Rattle.xliff.specs.Unit.{Head, segment, ignorable, Target, no-target, target, Part, head-id, resolved, is-closed, with-id, with-state}
 use Rattle.xliff.specs.Focus.{Focus, nowhere, here, focus, order-part, order-parts}
-use Rattle.xliff.specs.Split.{with-id, first-half, second-half, split-order, split-focus}
+use Rattle.xliff.specs.Split.{first-half, second-half, split-order, split-focus}
 use Rattle.xliff.specs.Join.{dash, join-heads, join-parts, join-order, join-focus}
-use Rattle.xliff.specs.SetTarget.{with-state, set-focus, new-order}
+use Rattle.xliff.specs.SetTarget.{set-focus, new-order}
 use Rattle.xliff.specs.RemoveTarget.{remove-focus}
 use Rattle.xliff.specs.Rewrite.{rewrite-item, rewrite-target, rewrite-part}
 use Rattle.xliff.specs.BothEnds.{ClosedPart, closed-part}
@@ -38,7 +38,7 @@ closed-orders c f (p ∷ ps) = ap (λ (l : List ClosedPart). closed-part c p ++ 
 -- Split
 open-with-id : (c i : ℕ) (h : Head) → eqb (resolved c h) 'N' ≡ false → eqb (resolved c (with-id i h)) 'N' ≡ false
 unfolding resolved with-id
-open-with-id c i (segment j d s) e = e
+open-with-id c i (segment f) e = e
 open-with-id c i (ignorable j) e = e
 
 pub split-closed : (c cut tcut new : ℕ) (ps : List Part) (b : List Part) (p : Part) (a : List Part) → ps ≡ b ++ (p ∷ a) → is-closed c p ≡ false
@@ -63,9 +63,11 @@ resolves-dash c d e k = rw k at e
 open-join : (c : ℕ) (g h : Head) → eqb (resolved c g) 'N' ≡ false → eqb (resolved c h) 'N' ≡ false → eqb (resolved c (join-heads g h)) 'N' ≡ false
 unfolding resolved join-heads
 open-join c (ignorable i) (ignorable j) e f = e
-open-join c (ignorable i) (segment j d t) e f = open-dash c (eqb d '-') (λ k. e)
-open-join c (segment i d s) (ignorable j) e f = open-dash c (eqb d '-') (λ k. f)
-open-join c (segment i d s) (segment j d′ t) e f = open-dash c (eqb d '-' && eqb d′ '-') (λ k. resolves-dash c d e (left (eqb d '-') (eqb d′ '-') k))
+open-join c (ignorable i) (segment g) d e = open-dash c (eqb (g .canResegment) '-') (λ k. d)
+open-join c (segment f) (ignorable j) d e = open-dash c (eqb (f .canResegment) '-') (λ k. e)
+open-join c (segment f) (segment g) d e =
+    open-dash c (eqb (f .canResegment) '-' && eqb (g .canResegment) '-')
+    (λ k. resolves-dash c (f .canResegment) d (left (eqb (f .canResegment) '-') (eqb (g .canResegment) '-') k))
   where
     left : (a b : Bool) → a && b ≡ true → a ≡ true
     left true b k = refl
@@ -86,12 +88,12 @@ join-closed c ps b p q a e o =
 -- Set and remove: the head keeps its id and its canResegment
 pub state-id : (st : ℕ) (h : Head) → head-id (with-state st h) ≡ head-id h
 unfolding head-id with-state
-state-id st (segment i c s) = refl
+state-id st (segment f) = refl
 state-id st (ignorable i) = refl
 
 state-resolved : (c st : ℕ) (h : Head) → resolved c (with-state st h) ≡ resolved c h
 unfolding resolved with-state
-state-resolved c st (segment i d s) = refl
+state-resolved c st (segment f) = refl
 state-resolved c st (ignorable i) = refl
 
 closed-state : (c st : ℕ) (p : Part) (g : Target) → closed-part c (record { head = with-state st (p .head); source = p .source; target = g }) ≡ closed-part c p

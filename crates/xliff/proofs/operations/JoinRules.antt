@@ -8,7 +8,7 @@ use mathlib.Core.Option.{none}
 use lib.Dec.{eqb}
 use Rattle.xliff.specs.Bytes.{'-'}
 use Rattle.xliff.specs.Item.{Content}
-use Rattle.xliff.specs.Unit.{Head, segment, ignorable, Target, no-target, target, Part, head-id, target-items, source-sequence, target-sequence}
+use Rattle.xliff.specs.Unit.{Segment, Head, segment, ignorable, Target, no-target, target, Part, head-id, target-items, source-sequence, target-sequence}
 use Rattle.xliff.specs.Rules.{fault-6, fault-8, fault-9, fault-10, bad-8-source, bad-8-target, bad-9, bad-10-source, bad-10-target}
 use Rattle.xliff.specs.Focus.{here, order-parts}
 use Rattle.xliff.specs.Join.{dash, earliest, join-heads, join-targets, join-parts, join-order, join-focus}
@@ -18,12 +18,16 @@ use Rattle.xliff.proofs.rules.Six.{start-bit, starts, part-bit, source-
 use Rattle.xliff.proofs.rules.Starts.{source-ids-orders, target-ids-orders}
 
 -- what is measured of a head, of the head that is kept
-one-of : (f : Head → ℕ) → ((i c s d t : ℕ) → f (segment i c s) ≡ f (segment i d t)) → (g h : Head) → f (join-heads g h) ≤ f g + f h
+one-of : (n : Head → ℕ) → ((f g : Segment) → f .id ≡ g .id → n (segment f) ≡ n (segment g)) → (h i : Head) → n (join-heads h i) ≤ n h + n i
 unfolding join-heads
-one-of f e (ignorable i) (ignorable j) = omega arith
-one-of f e (ignorable i) (segment j d t) = omega (arith, e j (dash (eqb d '-')) t d t)
-one-of f e (segment i c s) (ignorable j) = omega (arith, e i (dash (eqb c '-')) s c s)
-one-of f e (segment i c s) (segment j d t) = omega (arith, e i (dash (eqb c '-' && eqb d '-')) (earliest s t) c s)
+one-of n e (ignorable i) (ignorable j) = omega arith
+one-of n e (ignorable i) (segment g) =
+    omega (arith, e (record { id = g .id; canResegment = dash (eqb (g .canResegment) '-'); state = g .state }) g refl)
+one-of n e (segment f) (ignorable j) =
+    omega (arith, e (record { id = f .id; canResegment = dash (eqb (f .canResegment) '-'); state = f .state }) f refl)
+one-of n e (segment f) (segment g) =
+    let joined : Segment = record { id = f .id; canResegment = dash (eqb (f .canResegment) '-' && eqb (g .canResegment) '-'); state = earliest (f .state) (g .state) } in
+    omega (arith, e joined f refl)
 
 -- the id that is kept is that of one of the two
 joined-bit : (i : ℕ) (p q : Part) → part-bit i (join-parts p q) ≤ part-bit i p + part-bit i q
@@ -34,7 +38,7 @@ joined-bit i p q = by (p .head) (q .head)
     id-bit h = cond {A = ℕ} (eqb (head-id h) 0) 0 (bit (eqb (head-id h) i))
 
     by : (g h : Head) → id-bit (join-heads g h) ≤ id-bit g + id-bit h
-    by g h = one-of id-bit (λ i c s d t. refl) g h
+    by g h = one-of id-bit (λ f k e. ap (λ (j : ℕ). cond {A = ℕ} (eqb j 0) 0 (bit (eqb j i))) e) g h
 
 pub items-join : (g h : Target) → target-items (join-targets g h) ≡ target-items g ++ target-items h
 unfolding target-items join-targets

@@ -41,9 +41,10 @@ earliest-good s t l a b = by (leb (rank s) (rank t))
 head-good : (g h : Head) → GoodHead g → GoodHead h → GoodHead (join-heads g h)
 unfolding join-heads
 head-good (ignorable i) (ignorable k) a b = tt
-head-good (ignorable i) (segment k d t) a b = (dash-good (eqb d '-'), b .1)
-head-good (segment i c s) (ignorable k) a b = (dash-good (eqb c '-'), a .1)
-head-good (segment i c s) (segment k d t) a b = (dash-good (eqb c '-' && eqb d '-'), earliest-good s t _ (a .1) (b .1))
+head-good (ignorable i) (segment g) a b = (dash-good (eqb (g .canResegment) '-'), b .1)
+head-good (segment f) (ignorable k) a b = (dash-good (eqb (f .canResegment) '-'), a .1)
+head-good (segment f) (segment g) a b =
+    (dash-good (eqb (f .canResegment) '-' && eqb (g .canResegment) '-'), earliest-good (f .state) (g .state) _ (a .1) (b .1))
 
 target-good : (g h : Target) → GoodTarget g → GoodTarget h → GoodTarget (join-targets g h)
 unfolding join-targets
@@ -89,7 +90,7 @@ join-accepted t n room r bt e =
     u = unit t
 
     v : Focus → XliffUnit
-    v f = record { canResegment = u .canResegment; parts = join-focus (u .parts) f }
+    v f = with-parts u (join-focus (u .parts) f)
 
     whole : (b : List Part) (p q : Part) (a : List Part) → u .parts ≡ b ++ (p ∷ q ∷ a) → focus (u .parts) n ≡ here b p (q ∷ a) → bad-orders (p .target) (q .target) ≡ false
         → fault-7 (join-focus (u .parts) (here b p (q ∷ a))) ≡ none → Sent u → Sent (v (here b p (q ∷ a)))
@@ -124,7 +125,7 @@ join-accepted t n room r bt e =
     by (here b p []) k o h = absurd (true≢false (applies-none 11 true o))
     by (here b p (q ∷ a)) k o h =
         let at : u .parts ≡ b ++ (p ∷ q ∷ a) = focus-here (u .parts) n b p (q ∷ a) k in
-        let o2 = then-right (applies 12 (is-closed (u .canResegment) p || is-closed (u .canResegment) q)) _ o in
+        let o2 = then-right (applies 12 (is-closed (u .opening .canResegment) p || is-closed (u .opening .canResegment) q)) _ o in
         let bo : bad-orders (p .target) (q .target) ≡ false = applies-none 16 (bad-orders (p .target) (q .target)) (then-left _ _ o2) in
         let seven : fault-7 (join-focus (u .parts) (focus (u .parts) n)) ≡ none
         = no-fault _ (applies-none 17 (is-fault (fault-7 (join-focus (u .parts) (focus (u .parts) n)))) (then-right (applies 16 (bad-orders (p .target) (q .target))) _ o2)) in

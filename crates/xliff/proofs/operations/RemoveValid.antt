@@ -10,13 +10,12 @@ use lib.ListN.{length, length-append}
 use Rattle.xliff.specs.Bytes.{'I', Bytes, among, gather}
 use Rattle.xliff.specs.Answer.{applies, _then_, result}
 use Rattle.xliff.specs.Item.{Content}
-use Rattle.xliff.specs.Unit.{Head, segment, ignorable, Target, no-target, target, Part, XliffUnit, target-items, source-sequence, order-list, orders}
+use Rattle.xliff.specs.Unit.{Head, segment, ignorable, Target, no-target, target, Part, XliffUnit, target-items, source-sequence, order-list, orders, with-state}
 use Rattle.xliff.specs.Parse.{unit}
 use Rattle.xliff.specs.Sequences.{located}
 use Rattle.xliff.specs.Rules.{bad-order, bad-8-source, bad-8-target, bad-10-source, bad-10-target, fault-5, fault-6, fault-7, fault-8, fault-9, fault-10, fault-6-to-10}
 use Rattle.xliff.specs.Check.{Valid, too-large}
 use Rattle.xliff.specs.Focus.{Focus, nowhere, here, focus, with-parts}
-use Rattle.xliff.specs.SetTarget.{with-state}
 use Rattle.xliff.specs.RemoveTarget.{remove-focus, remove-unit, lacks-target, remove-refusal, remove-target}
 use Rattle.xliff.proofs.lists.Sum.{sum-append}
 use Rattle.xliff.proofs.lists.Each.{each-cons, each-append, each-apart}
@@ -117,7 +116,7 @@ module _ (b : List Part) (p : Part) (a : List Part) (q : ℕ) (c : Content) (goa
 
 pub initial-good : (h : Head) → GoodHead h → GoodHead (with-state 'I' h)
 unfolding with-state among
-initial-good (segment i c s) g = (g .0, refl)
+initial-good (segment f) g = (g .0, refl)
 initial-good (ignorable i) g = tt
 
 -- An accepted removal
@@ -136,7 +135,7 @@ remove-accepted t n room r bt e =
     u = unit t
 
     v : Focus → XliffUnit
-    v f = record { canResegment = u .canResegment; parts = remove-focus (u .parts) f }
+    v f = with-parts u (remove-focus (u .parts) f)
 
     whole : (b : List Part) (p : Part) (a : List Part) (q : ℕ) (c : Content) → u .parts ≡ b ++ (p ∷ a) → p .target ≡ target q c
         → (fault-7 (b ++ (bared p ∷ a)) then fault-9 (b ++ (bared p ∷ a))) ≡ none → Sent u → Sent (v (here b p a))

@@ -11,13 +11,13 @@ use borrow.Author.Tests.{eq-eqb, ne-eqb, le-ltb}
 use Rattle.xliff.specs.Bytes.{Bytes, among, gather}
 use Rattle.xliff.specs.Answer.{refusal, applies, _then_, result}
 use Rattle.xliff.specs.Item.{Content}
-use Rattle.xliff.specs.Unit.{Head, segment, ignorable, Target, no-target, target, Part, XliffUnit, order-list, orders}
+use Rattle.xliff.specs.Unit.{Head, segment, ignorable, Target, no-target, target, Part, XliffUnit, order-list, orders, with-state}
 use Rattle.xliff.specs.Parse.{unit, content, content-fault}
 use Rattle.xliff.specs.Sequences.{located-from, located, part-size, order-at}
 use Rattle.xliff.specs.Rules.{bad-order, first-bad-order, fault-5, fault-6-to-10}
 use Rattle.xliff.specs.Check.{Valid, too-large}
 use Rattle.xliff.specs.Focus.{Focus, nowhere, here, focus, with-parts}
-use Rattle.xliff.specs.SetTarget.{state-fits, with-state, lowest-unused, new-order, set-focus, set-unit, set-refusal, set-target}
+use Rattle.xliff.specs.SetTarget.{state-fits, lowest-unused, new-order, set-focus, set-unit, set-refusal, set-target}
 use Rattle.xliff.proofs.lists.Each.{each-cons, each-append, each-apart}
 use Rattle.xliff.proofs.lists.Tests.{or-left, or-right, and-right, not-false, or-both}
 use Rattle.xliff.proofs.records.Read.{GoodHead}
@@ -50,7 +50,7 @@ rule-5-back n at used (p ∷ ps) e = by (p .target) refl e (λ used′. rule-5-b
 -- a head with a fitting state is good
 pub state-good : (st : ℕ) (h : Head) → state-fits h st ≡ true → GoodHead h → GoodHead (with-state st h)
 unfolding state-fits with-state
-state-good st (segment i c s) e g = (g .0, e)
+state-good st (segment f) e g = (g .0, e)
 state-good st (ignorable i) e g = tt
 
 -- whether orders fit depends on which of them are used
@@ -168,7 +168,7 @@ set-accepted t n st s room r bt bs e =
     u = unit t
 
     v : Focus → XliffUnit
-    v f = record { canResegment = u .canResegment; parts = set-focus (u .parts) n st (content s) f }
+    v f = with-parts u (set-focus (u .parts) n st (content s) f)
 
     by : (f : Focus) → focus (u .parts) n ≡ f → set-refusal st s f ≡ none → fault-6-to-10 (v f .parts) ≡ none → Sent u → Sent (v f)
     by nowhere k o rules h = absurd (true≢false (applies-none 11 true o))

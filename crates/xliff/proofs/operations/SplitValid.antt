@@ -11,12 +11,12 @@ use borrow.Author.Tests.{eqb-true}
 use Rattle.xliff.specs.Bytes.{Bytes, any}
 use Rattle.xliff.specs.Answer.{applies, _then_, result}
 use Rattle.xliff.specs.Item.{Item, Content, form-S, in-form, flattened, id-of, is-start, other-half}
-use Rattle.xliff.specs.Unit.{Head, segment, ignorable, Target, no-target, target, Part, XliffUnit, head-id, target-items, is-closed, source-sequence, target-sequence}
+use Rattle.xliff.specs.Unit.{Head, segment, ignorable, Target, no-target, target, Part, XliffUnit, head-id, target-items, is-closed, source-sequence, target-sequence, with-id}
 use Rattle.xliff.specs.Parse.{unit}
 use Rattle.xliff.specs.Rules.{starts-id, fault-5, fault-6, fault-7, fault-8, fault-9, fault-6-to-10}
 use Rattle.xliff.specs.Check.{Valid, too-large}
 use Rattle.xliff.specs.Focus.{Focus, nowhere, here, focus, order-parts, with-parts}
-use Rattle.xliff.specs.Split.{cut-item, first-items, second-items, first-target, second-target, split-order, with-id, first-half, second-half, split-focus, split-unit, has-id, part-has-id, id-taken, bad-cut, split-refusal, split}
+use Rattle.xliff.specs.Split.{cut-item, first-items, second-items, first-target, second-target, split-order, first-half, second-half, split-focus, split-unit, has-id, part-has-id, id-taken, bad-cut, split-refusal, split}
 use Rattle.xliff.proofs.lists.Sum.{bit, sum, sum-append}
 use Rattle.xliff.proofs.lists.Each.{each-cons, each-append, each-apart, each-take, each-drop, each-map}
 use Rattle.xliff.proofs.lists.Tests.{or-left, or-right}
@@ -54,7 +54,7 @@ new-bit i new = cond (eqb new 0) 0 (bit (eqb new i))
 
 new-head : (i new : ℕ) (h : Head) → cond (eqb (head-id (with-id new h)) 0) 0 (bit (eqb (head-id (with-id new h)) i)) ≡ new-bit i new
 unfolding head-id with-id new-bit
-new-head i new (segment j c s) = refl
+new-head i new (segment f) = refl
 new-head i new (ignorable j) = refl
 
 none-starts : (i : ℕ) (xs : Content) → any (has-id i) xs ≡ false → starts i xs ≡ 0
@@ -151,7 +151,7 @@ good-targets n (target q xs) k = (good-first n xs k, good-second n xs k)
 
 good-id : (i : ℕ) (h : Head) → GoodHead h → GoodHead (with-id i h)
 unfolding with-id
-good-id i (segment j c s) g = g
+good-id i (segment f) g = g
 good-id i (ignorable j) g = g
 
 split-good : (cut tcut new : ℕ) (b : List Part) (p : Part) (a : List Part) → GoodParts (b ++ (p ∷ a)) → GoodParts (split-focus cut tcut new (b ++ (p ∷ a)) (here b p a))
@@ -178,7 +178,7 @@ split-accepted t n cut tcut new room r bt e =
     u = unit t
 
     v : Focus → XliffUnit
-    v f = record { canResegment = u .canResegment; parts = split-focus cut tcut new (u .parts) f }
+    v f = with-parts u (split-focus cut tcut new (u .parts) f)
 
     whole : (b : List Part) (p : Part) (a : List Part) → u .parts ≡ b ++ (p ∷ a) → focus (u .parts) n ≡ here b p a → id-taken (u .parts) new ≡ false
         → Sent u → Sent (v (here b p a))
@@ -220,7 +220,7 @@ split-accepted t n cut tcut new room r bt e =
     by nowhere k o h = absurd (true≢false (applies-none 11 true o))
     by (here b p a) k o h =
         let at : u .parts ≡ b ++ (p ∷ a) = focus-here (u .parts) n b p a k in
-        let o2 = then-right (applies 13 (bad-cut p cut tcut)) _ (then-right (applies 12 (is-closed (u .canResegment) p)) _ o) in
+        let o2 = then-right (applies 13 (bad-cut p cut tcut)) _ (then-right (applies 12 (is-closed (u .opening .canResegment) p)) _ o) in
         whole b p a at k (applies-none 14 (id-taken (u .parts) new) o2) h
 
 -- An accepted split leaves a valid table

@@ -73,7 +73,7 @@ AllFit rs = Each Fits rs
 -- bytes are of records that fit
 head-fits : (h : Head) → Bytes (head-bytes h) → head-id h < 65536
 unfolding head-bytes head-id
-head-fits (segment i c s) (one-byte p (one-byte q r)) = two-fits i (bytes-left (two i) (c ∷ s ∷ []) r)
+head-fits (segment f) (one-byte p (one-byte q r)) = two-fits (f .id) (bytes-left (two (f .id)) (f .canResegment ∷ f .state ∷ []) r)
 head-fits (ignorable i) (one-byte p (one-byte q r)) = two-fits i r
 
 record-fits : (r : Record) → Bytes (record-bytes r) → Fits r
@@ -113,9 +113,11 @@ letters-ITRF = letters ('I' ∷ 'T' ∷ 'R' ∷ 'F' ∷ []) refl
 
 head-bytes-good : (h : Head) → GoodHead h → head-id h < 65536 → Bytes (head-bytes h)
 unfolding head-bytes head-id
-head-bytes-good (segment i c s) g f =
-    bytes-append ('S' ∷ 'G' ∷ []) (two i ++ (c ∷ s ∷ [])) (letters ('S' ∷ 'G' ∷ []) refl)
-    (bytes-append (two i) (c ∷ s ∷ []) (fits-two i f) (one-byte (among-byte c _ letters-YN- (g .0)) (one-byte (among-byte s _ letters-ITRF (g .1)) no-bytes)))
+head-bytes-good (segment f) g l =
+    let last = f .canResegment ∷ f .state ∷ [] in
+    bytes-append ('S' ∷ 'G' ∷ []) (two (f .id) ++ last) (letters ('S' ∷ 'G' ∷ []) refl)
+    (bytes-append (two (f .id)) last (fits-two (f .id) l)
+    (one-byte (among-byte (f .canResegment) _ letters-YN- (g .0)) (one-byte (among-byte (f .state) _ letters-ITRF (g .1)) no-bytes)))
 head-bytes-good (ignorable i) g f = bytes-append ('I' ∷ 'G' ∷ []) (two i) (letters ('I' ∷ 'G' ∷ []) refl) (fits-two i f)
 
 -- every byte of a code point is below 256
@@ -163,7 +165,8 @@ mark-bytes (annotation-end form-S i) = letters _ refl
 
 record-bytes-good : (r : Record) → GoodRecord r → Fits r → length (record-bytes r) ≤ 8192 → Bytes (record-bytes r)
 unfolding record-bytes
-record-bytes-good (opening c) g f l = bytes-append ('U' ∷ 'N' ∷ []) (c ∷ []) (letters ('U' ∷ 'N' ∷ []) refl) (one-byte (among-byte c _ letters-YN g) no-bytes)
+record-bytes-good (opening o) g f l =
+    bytes-append ('U' ∷ 'N' ∷ []) (o .canResegment ∷ []) (letters ('U' ∷ 'N' ∷ []) refl) (one-byte (among-byte (o .canResegment) _ letters-YN g) no-bytes)
 record-bytes-good closing g f l = letters ('U' ∷ 'E' ∷ []) refl
 record-bytes-good (part-head h) g f l = head-bytes-good h g f
 record-bytes-good (target-head q) g f l = bytes-append ('T' ∷ 'G' ∷ []) (two q) (letters ('T' ∷ 'G' ∷ []) refl) (fits-two q f)

@@ -10,7 +10,7 @@ use Rattle.xliff.specs.Bytes.{gather}
 use Rattle.xliff.specs.Item.{Item, Content, start, end, form-P, form-S, text, character, standalone, isolated, pair, annotation-start, annotation-end, mark}
 use Rattle.xliff.specs.Unit.{segment, ignorable, Target, no-target, target, Part, XliffUnit}
 use Rattle.xliff.specs.Encode.{Record, opening, closing, part-head, target-head, text-run, inline, ill-text, broken, head-bytes, record-bytes, text-before, item-before, content-records, target-records, part-records, unit-records, spell, encode}
-use Rattle.xliff.specs.Parse.{is-broken, read, Entry, walk, most-records, entries, records, Reading, take-record, reading, opening-letter, unit}
+use Rattle.xliff.specs.Parse.{is-broken, read, Entry, walk, most-records, entries, records, Reading, take-record, reading, opening-of, unit}
 use Rattle.xliff.proofs.lists.Each.{Each, each-cons}
 use Rattle.xliff.proofs.records.Read.{GoodRecord, read-bytes}
 
@@ -43,7 +43,7 @@ pub good-length : (r : Record) (t : List ℕ) → GoodRecord r → 0 < length (r
 unfolding record-bytes head-bytes mark
 good-length (opening c) t g = omega arith
 good-length closing t g = omega arith
-good-length (part-head (segment i c s)) t g = omega arith
+good-length (part-head (segment f)) t g = omega arith
 good-length (part-head (ignorable i)) t g = omega arith
 good-length (target-head q) t g = omega arith
 good-length (text-run cs) t g = omega arith
@@ -148,7 +148,7 @@ reading-parts (p ∷ ps) =
     ∙ reading-part p (gather part-records ps ++ (closing ∷ [])) ps (reading-parts ps)
 
 pub records-unit : (u : XliffUnit) → AllGood (unit-records u) → length (unit-records u) ≤ suc most-records → unit (encode u) ≡ u
-unfolding unit encode unit-records opening-letter reading take-record
+unfolding unit encode unit-records opening-of reading take-record
 records-unit u a h =
-    ap (λ (rs : List Record). record { canResegment = opening-letter rs; parts = reading rs .parts }) (records-spell (unit-records u) a h)
-    ∙ ap (λ (g : Reading). record { canResegment = u .canResegment; parts = g .parts }) (reading-parts (u .parts))
+    ap (λ (rs : List Record). record { opening = opening-of rs; parts = reading rs .parts }) (records-spell (unit-records u) a h)
+    ∙ ap (λ (g : Reading). record { opening = u .opening; parts = g .parts }) (reading-parts (u .parts))

@@ -14,7 +14,7 @@ use Rattle.xliff.specs.Text.{utf8s, text-of}
 use Rattle.xliff.specs.Item.{Item, Fields, start, end, Form, form-P, form-S, text, character, standalone, isolated, pair, annotation-start, annotation-end, mark}
 use Rattle.xliff.specs.Unit.{Head, segment, ignorable}
 use Rattle.xliff.specs.Encode.{Record, opening, closing, part-head, target-head, text-run, inline, ill-text, broken, code-bytes, field-bytes, head-bytes, record-bytes}
-use Rattle.xliff.specs.Parse.{Mark, UN, UE, SG, IG, TG, TX, CP, PH, PO, PC, SC, EC, IS, IE, MO, SM, MC, EM, unknown, is-broken, is, mark-of, mark-at, whole, whole-part, code-at, good-id, good-code, code, mark-start, mark-end, text-record, read-as, read}
+use Rattle.xliff.specs.Parse.{Mark, UN, UE, SG, IG, TG, TX, CP, PH, PO, PC, SC, EC, IS, IE, MO, SM, MC, EM, unknown, is-broken, is, mark-of, mark-at, whole, whole-part, opening-at, good-opening, segment-at, good-segment, code-at, good-id, good-code, code, mark-start, mark-end, text-record, read-as, read}
 use Rattle.xliff.proofs.lists.Tests.{and-left, and-right, two-value, two-bytes, four-value, four-bytes, enough-append, gets, peel, byte-at}
 use Rattle.xliff.proofs.text.Utf8.{Allowed, text-of-utf8s, text-of-some}
 
@@ -29,11 +29,11 @@ GoodItem (annotation-start w i t) = (good-id i ≡ true) × (among t ('Y' ∷ 'N
 GoodItem (annotation-end w i) = good-id i ≡ true
 
 abbrev pub GoodHead : Head → Type 0
-GoodHead (segment i c s) = (among c ('Y' ∷ 'N' ∷ '-' ∷ []) ≡ true) × (among s ('I' ∷ 'T' ∷ 'R' ∷ 'F' ∷ []) ≡ true)
+GoodHead (segment f) = (among (f .canResegment) ('Y' ∷ 'N' ∷ '-' ∷ []) ≡ true) × (among (f .state) ('I' ∷ 'T' ∷ 'R' ∷ 'F' ∷ []) ≡ true)
 GoodHead (ignorable i) = Unit {0}
 
 abbrev pub GoodRecord : Record → Type 0
-GoodRecord (opening c) = among c ('Y' ∷ 'N' ∷ []) ≡ true
+GoodRecord (opening o) = among (o .canResegment) ('Y' ∷ 'N' ∷ []) ≡ true
 GoodRecord closing = Unit {0}
 GoodRecord (part-head h) = GoodHead h
 GoodRecord (target-head q) = Unit {0}
@@ -96,10 +96,10 @@ read-item (annotation-end form-S i) t g = read-end _ _ form-S i t g
 
 -- a good record is read back from its bytes
 pub read-bytes : (r : Record) (t : List ℕ) → GoodRecord r → read (record-bytes r ++ t) ≡ r
-unfolding read mark-at mark-of is read-as record-bytes head-bytes whole whole-part enough two two-at text-record
-read-bytes (opening c) t g = rw g
+unfolding read mark-at mark-of is read-as record-bytes head-bytes whole whole-part opening-at good-opening segment-at good-segment enough two two-at text-record
+read-bytes (opening o) t g = rw g
 read-bytes closing t g = refl
-read-bytes (part-head (segment i c s)) t g = rw (two-value i, g .0, g .1)
+read-bytes (part-head (segment f)) t g = rw (two-value (f .id), g .0, g .1)
 read-bytes (part-head (ignorable i)) t g = rw (two-value i)
 read-bytes (target-head q) t g = rw (two-value q)
 read-bytes (text-run cs) t g = rw (two-value (length (utf8s cs)), enough-append (utf8s cs) t, take-append-seam (utf8s cs) t, text-of-utf8s cs g)
@@ -278,7 +278,7 @@ sound-text s h m = on-whole s 4 _ _ λ e o. by e o (text-of (take (two-at s 2) (
         }
 
 read-sound-as : (s : List ℕ) (m : Mark) → Bytes s → Spells (getD s 0 0) (getD s 1 0) m → Sound s (read-as m s)
-unfolding read-as record-bytes mark field-bytes head-bytes is-broken two gets four code-bytes
+unfolding read-as opening-at good-opening segment-at good-segment record-bytes mark field-bytes head-bytes is-broken two gets four code-bytes
 read-sound-as s UN h m = on-whole s 3 _ _ λ e o z. record { good = o; bytes = framed s 1 'U' 'N' (getD s 2 0 ∷ []) e m refl }
 read-sound-as s UE h m = λ z. record { good = tt; bytes = two-front s 84 68 m }
 read-sound-as s SG h m =

@@ -28,7 +28,7 @@ bytes-append ps qs = ap spell (gather-append part-records ps qs) ∙ spell-appen
 
 -- a table: UN, its parts, UE
 abbrev pub opened : XliffUnit → List ℕ
-opened u = record-bytes (opening (u .canResegment))
+opened u = record-bytes (opening (u .opening))
 
 abbrev pub closed : List ℕ
 closed = record-bytes closing

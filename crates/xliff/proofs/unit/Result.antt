@@ -12,7 +12,7 @@ use Rattle.xliff.specs.Bytes.{Bytes}
 use Rattle.xliff.specs.Answer.{Refusal, applies, _then_, of-result, result, unless}
 use Rattle.xliff.specs.Unit.{Part, XliffUnit}
 use Rattle.xliff.specs.Encode.{Record, opening, closing, part-head, target-head, text-run, inline, ill-text, broken, unit-records, encode}
-use Rattle.xliff.specs.Parse.{most-bytes, most-records, most-parts, Stage, unit-due, part-due, step, unit-step, part-step, may-end, entries, records, reading, take-record, opening-letter, unit, table-fault}
+use Rattle.xliff.specs.Parse.{most-bytes, most-records, most-parts, Stage, unit-due, part-due, step, unit-step, part-step, may-end, entries, records, reading, take-record, opening-of, unit, table-fault}
 use Rattle.xliff.specs.Rules.{fault-5, fault-6-to-10}
 use Rattle.xliff.specs.Check.{table-refusal, Valid, too-large, operation}
 use Rattle.xliff.proofs.lists.Each.{each-cons}
@@ -73,7 +73,7 @@ operation-result t own v r e =
 
 -- a valid table: what it says of the unit
 pub record Sent (u : XliffUnit) : Type 0 where
-  pub letter : GoodRecord (opening (u .canResegment))
+  pub letter : GoodRecord (opening (u .opening))
   pub first : Part
   pub others : List Part
   pub parts : u .parts ≡ first ∷ others
@@ -94,8 +94,8 @@ part-first (ill-text ∷ rs) (goes-on e run) = absurd (fault-on e)
 part-first (broken b ∷ rs) (goes-on e run) = absurd (fault-on e)
 
 two-heads : (rs : List Record) → Runs unit-due rs → AllGood rs
-    → GoodRecord (opening (opening-letter rs)) × ((p : Part) × (ps : List Part) × (reading rs .parts ≡ p ∷ ps))
-unfolding reading take-record step unit-step may-end opening-letter
+    → GoodRecord (opening (opening-of rs)) × ((p : Part) × (ps : List Part) × (reading rs .parts ≡ p ∷ ps))
+unfolding reading take-record step unit-step may-end opening-of
 two-heads [] (at-end e) a = absurd (false≢true e)
 two-heads (opening c ∷ rs) (goes-on e run) (each-cons g a) = (g, part-first rs (subst (λ (z : Stage). Runs z rs) (sym (on-on e)) run))
 two-heads (closing ∷ rs) (goes-on e run) a = absurd (fault-on e)

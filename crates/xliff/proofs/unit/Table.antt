@@ -13,7 +13,7 @@ use Rattle.xliff.specs.Answer.{Refusal, refusal}
 use Rattle.xliff.specs.Item.{Item, Content, text, character, standalone, isolated, pair, annotation-start, annotation-end}
 use Rattle.xliff.specs.Unit.{Head, Part}
 use Rattle.xliff.specs.Encode.{Record, opening, closing, part-head, target-head, text-run, inline, ill-text, broken, record-bytes, text-before, item-before, content-records, target-records, part-records, unit-records, spell, content-bytes, encode}
-use Rattle.xliff.specs.Parse.{is-broken, read, Entry, walk, most-records, most-parts, bad-text, bad-item, entries, records, Stage, unit-due, part-due, in-source, in-target, complete, alone, Step, on, fault, inline-step, unit-step, part-step, outer-step, step, is-part, may-end, first-bad, table-fault, content-fault, take-record, reading, opening-letter, unit, content}
+use Rattle.xliff.specs.Parse.{is-broken, read, Entry, walk, most-records, most-parts, bad-text, bad-item, entries, records, Stage, unit-due, part-due, in-source, in-target, complete, alone, Step, on, fault, inline-step, unit-step, part-step, outer-step, step, is-part, may-end, first-bad, table-fault, content-fault, take-record, reading, opening-of, unit, content}
 use Rattle.xliff.proofs.lists.Each.{each-nil, each-cons}
 use Rattle.xliff.proofs.lists.Tests.{none-some, or-left, or-right, or-true}
 use Rattle.xliff.proofs.records.Read.{read-sound}
@@ -213,7 +213,7 @@ closed-off ps = gather part-records ps ++ (closing ∷ [])
 
 -- What records in sequence are, by the stage from which they go on
 abbrev Shape : Stage → List Record → Type 0
-Shape unit-due rs = opening (opening-letter rs) ∷ closed-off (reading rs .parts) ≡ rs
+Shape unit-due rs = opening (opening-of rs) ∷ closed-off (reading rs .parts) ≡ rs
 Shape part-due rs = closed-off (reading rs .parts) ≡ rs
 Shape (in-source a) rs = content-records (reading rs .items) ++ (target-records (reading rs .target) ++ closed-off (reading rs .parts)) ≡ rs
 Shape (in-target a) rs = content-records (reading rs .items) ++ closed-off (reading rs .parts) ≡ rs
@@ -277,7 +277,7 @@ alone-shape a ill-text rs st e run h = absurd (fault-on e)
 alone-shape a (broken b) rs st e run h = absurd (fault-on e)
 
 unit-shape : (r : Record) (rs : List Record) (st : Stage) → step unit-due r ≡ on st → Shape st rs → Shape unit-due (r ∷ rs)
-unfolding step unit-step reading take-record opening-letter
+unfolding step unit-step reading take-record opening-of
 unit-shape (opening c) rs st e h = ap {B = List Record} (λ l. opening c ∷ l) (at rs (on-on e) h)
 unit-shape closing rs st e h = absurd (fault-on e)
 unit-shape (part-head p) rs st e h = absurd (fault-on e)

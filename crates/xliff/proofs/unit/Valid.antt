@@ -188,7 +188,7 @@ first-part : (h : Head) (rs : List Record) → Runs (in-source false) (part-head
 unfolding step inline-step outer-step part-step
 first-part h rs (goes-on e run) = goes-on e run
 
-pub unit-runs : (u : XliffUnit) (p : Part) (ps : List Part) → u .parts ≡ p ∷ ps → GoodRecord (opening (u .canResegment)) → GoodParts (u .parts)
+pub unit-runs : (u : XliffUnit) (p : Part) (ps : List Part) → u .parts ≡ p ∷ ps → GoodRecord (opening (u .opening)) → GoodParts (u .parts)
     → AllGood (unit-records u) × Runs unit-due (unit-records u)
 unfolding unit-records step unit-step gather part-records
 unit-runs u p ps e o g =
@@ -247,7 +247,7 @@ unfolding unit-records part-heads is-part
 heads-unit u = omega (arith, heads-append (gather part-records (u .parts)) (closing ∷ []), heads-parts (u .parts))
 
 -- A unit of good parts within the limits, as bytes, passes 2, 3 and 4
-pub good-unit-passes : (u : XliffUnit) (p : Part) (ps : List Part) → u .parts ≡ p ∷ ps → GoodRecord (opening (u .canResegment)) → GoodParts (u .parts)
+pub good-unit-passes : (u : XliffUnit) (p : Part) (ps : List Part) → u .parts ≡ p ∷ ps → GoodRecord (opening (u .opening)) → GoodParts (u .parts)
     → length (unit-records u) ≤ most-records → length (u .parts) ≤ most-parts → table-fault (encode u) ≡ none
 good-unit-passes u p ps e o g l h =
     let (a, r) = unit-runs u p ps e o g in
