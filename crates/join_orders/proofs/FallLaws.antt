@@ -4,7 +4,7 @@ use mathlib.Core.Path.{_≡_, refl, sym, ap, _∙_}
 use mathlib.Core.Bool.{Bool, true, false, _&&_, _||_, cond}
 use mathlib.Core.List.{List, [], _∷_, _++_, append-assoc}
 use native.Mathlib.Omega.{arith}
-use lib.ListN.{length}
+use lib.ListN.{length, drop}
 use lib.Dec.{eqb}
 use Rattle.xliff.specs.Bytes.{among, any, gather}
 use Rattle.xliff.specs.Unit.{Target, no-target, target, Part, XliffUnit, order-list, orders}
@@ -14,20 +14,36 @@ use Rattle.xliff.specs.Parse.{unit}
 use Rattle.xliff.specs.Join.{highest-unused, lower-above, join-order}
 use Rattle.xliff.proofs.lists.Tests.{any-append}
 use Rattle.places.proofs.Places.{Inner, no-inner, text-inner, inline-inner, content-inner}
-use Rattle.table.specs.Meaning.{meaning}
-use Rattle.table.specs.declared.Read.{Read}
-use Rattle.orders.specs.Heads.{orderOf}
+use Rattle.table.specs.Meaning.{body}
+use Rattle.table.specs.declared.Read.the-variants.{Good}
+use Rattle.glance.specs.declared.Glance.{Glance}
+use Rattle.orders.specs.declared.Order.{Order}
+use Rattle.orders.specs.declared.Order.the-variants.{Is, Not}
+use Rattle.orders.proofs.OrderLaws.{order-walked}
+use Rattle.orders.proofs.WalkLaws.{Walked}
 use Rattle.part_at.specs.declared.PartPlace.{PartPlace}
 use Rattle.part_at.specs.Stands.{TargetStands}
 use Rattle.part_at.proofs.SpanLaws.{order-at, order-same}
-use Rattle.join_orders.specs.Falls.{setsOrder, FallsAbove}
+use Rattle.join_orders.specs.Falls.{FallsAbove}
+
+abbrev sets-order : ℕ → Order → Bool
+sets-order q (Is k) = eqb q k
+sets-order q Not = false
 
 -- a record sets the order q
 abbrev pub Sets : ℕ → encode.Record → Bool
-Sets q r = setsOrder q (order-at r)
+Sets q r = sets-order q (order-at r)
 
-pub sets-same : (q : ℕ) (cs : List ℕ) (r : Read) → setsOrder q (orderOf r) ≡ Sets q (meaning cs r)
-sets-same q cs r = ap (setsOrder q) (order-same cs r)
+sets-by : (q k : ℕ) (b : Bool) → b && eqb q k ≡ sets-order q (cond b (Is k) Not)
+sets-by q k true = refl
+sets-by q k false = refl
+
+-- the same by a glance
+pub sets-walked : (q : ℕ) (t : List ℕ) (at : ℕ) (rs : List encode.Record) (g : Glance) (v : Walked t at rs g)
+    → eqb (g .head) 1 && eqb q (g .order) ≡ Sets q (v .step .first)
+sets-walked q t at rs g v =
+    sets-by q (g .order) (eqb (g .head) 1)
+    ∙ ap (sets-order q) (sym (order-walked t at rs g v) ∙ order-same (body (drop at t)) (Good (v .the) (v .size)) ∙ ap order-at (v .step .means))
 
 module _ (q : ℕ) where
   inner-sets : (rs : List encode.Record) → Inner rs → any (Sets q) rs ≡ false

@@ -1,20 +1,12 @@
 -- Orders that fall.
 use Prim.Native.Nat.{ℕ}
 use mathlib.Core.Path.{_≡_}
-use mathlib.Core.Bool.{Bool, false}
 use mathlib.Core.List.{List}
-use lib.Dec.{eqb}
 use Rattle.xliff.specs.Unit.{Part}
 use Rattle.xliff.specs.Parse.{unit}
 use Rattle.xliff.specs.Join.{lower-above, join-order}
-use Rattle.orders.specs.declared.Order.{Order}
-use Rattle.orders.specs.declared.Order.the-variants.{Is, Not}
 use Rattle.part_at.specs.declared.PartPlace.{PartPlace}
 use Rattle.part_at.specs.Stands.{PartStands}
-
-abbrev pub setsOrder : ℕ → Order → Bool
-setsOrder q (Is k) = eqb q k
-setsOrder q Not = false
 
 -- orders above o fall by 1 where the parts at x and y are joined
 abbrev pub FallsAbove : List ℕ → PartPlace → PartPlace → ℕ → Type 0

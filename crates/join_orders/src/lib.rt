@@ -1,5 +1,4 @@
 // The orders of targets where two parts are joined.
-use orders::Order;
 use part_at::PartPlace;
 ghost use mathlib.Core.Path.{_≡_};
 ghost use Prim.Native.Nat.{_-_, _<_};
@@ -8,16 +7,7 @@ ghost use Rattle.xliff.specs.Unit.{orders};
 ghost use Rattle.xliff.specs.Parse.{unit};
 ghost use Rattle.xliff.specs.Join.{highest-unused};
 ghost use Rattle.places.specs.Passes.{Passes};
-ghost use Rattle.join_orders.specs.Falls.{setsOrder, FallsAbove};
-
-fn sets_order(o: Order, q: u16) -> bool
-    ensures { λ r. ⌜ r ≡ setsOrder q o ⌝ }
-{
-    match o {
-        Order::Is(k) => q == k,
-        Order::Not => false,
-    }
-}
+ghost use Rattle.join_orders.specs.Falls.{FallsAbove};
 
 // Whether a target has the order `q`.
 pub fn is_order(t: &[u8], q: u16) -> bool
@@ -26,11 +16,11 @@ pub fn is_order(t: &[u8], q: u16) -> bool
 {
     let mut at = 0;
     while at < t.len() {
-        let r = walker::known_at(t, at);
-        if sets_order(part_at::order_of(r), q) {
+        let g = walker::glance_at(t, at);
+        if (g.head == 1) & (q == g.order) {
             return true;
         }
-        at += syntax::width_of(r);
+        at += g.width;
     }
     false
 }

@@ -68,7 +68,7 @@ fn order_in(x: Record) -> Order
 }
 
 // The order that a TG sets.
-pub fn order_of(r: Read) -> Order
+fn order_of(r: Read) -> Order
     ensures { λ x. ⌜ x ≡ orderOf r ⌝ }
 {
     match r {

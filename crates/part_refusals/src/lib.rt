@@ -1,18 +1,18 @@
 // What split and join refuse of parts: 12, 14 and 16.
 use part_at::PartPlace;
-use table::Item;
 use table::Read;
 use table::Record;
 ghost use mathlib.Core.Path.{_≡_};
-ghost use mathlib.Core.Bool.{true, false, cond};
-ghost use Prim.Native.Nat.{_+_, _-_, _<_};
+ghost use mathlib.Core.Bool.{true, false, _&&_, cond};
+ghost use Prim.Native.Nat.{_+_, _-_, _<_, _≤_};
+ghost use lib.ListN.{length};
 ghost use lib.Dec.{eqb};
 ghost use Rattle.xliff.specs.Parse.{unit};
 ghost use Rattle.xliff.specs.Split.{id-taken};
 ghost use Rattle.places.specs.Passes.{Passes};
+ghost use Rattle.table.specs.Number.{numberAt};
 ghost use Rattle.part_at.specs.Stands.{Standing};
 ghost use Rattle.part_refusals.specs.Refusals.{closedIn, closedBy, ClosedIs, BadOrdersAre};
-ghost use Rattle.part_refusals.specs.Ids.{itemId, idIn, idOf};
 
 fn letter_or(unit: u8, d: u8) -> u8
     ensures { λ r. ⌜ r ≡ cond (eqb d 45) unit d ⌝ }
@@ -53,42 +53,15 @@ pub fn is_closed(t: &[u8], place: PartPlace) -> bool
     closed_by(unit, walker::known_at(t, place.head))
 }
 
-fn item_id(i: Item) -> u16
-    ensures { λ r. ⌜ r ≡ itemId i ⌝ }
+// Whether the record at an offset has the id. `named`: it is that of a part or a marker, whose id stands behind the mark.
+fn has_id(t: &[u8], at: usize, named: bool, id: u16) -> bool
+    requires { ⌜ (named ≡ true → at + 4 ≤ length (now t)) ⌝ }
+    ensures { λ r. ⌜ r ≡ (named && eqb (numberAt (now (t .entry)) (at + 2)) id) ⌝ }
 {
-    match i {
-        Item::Character(_) => 0,
-        Item::Standalone(f) => f.id,
-        Item::Isolated(_, f) => f.id,
-        Item::Pair(_, _, f) => f.id,
-        Item::AnnotationStart(_, id, _) => id,
-        Item::AnnotationEnd(_, id) => id,
+    if named {
+        return table::number_at(t, at + 2) == id;
     }
-}
-
-fn id_in(x: Record) -> u16
-    ensures { λ r. ⌜ r ≡ idIn x ⌝ }
-{
-    match x {
-        Record::Unit(_) => 0,
-        Record::UnitEnd => 0,
-        Record::Segment(id, _, _) => id,
-        Record::Ignorable(id) => id,
-        Record::Target(_) => 0,
-        Record::Text => 0,
-        Record::Inline(i) => item_id(i),
-    }
-}
-
-// The id of a part or an inline record, else 0.
-fn id_of(r: Read) -> u16
-    ensures { λ x. ⌜ x ≡ idOf r ⌝ }
-{
-    match r {
-        Read::Good(x, _) => id_in(x),
-        Read::Ill => 0,
-        Read::Broken(_) => 0,
-    }
+    false
 }
 
 // 14: whether an id is not 0 and that of a part or an inline record.
@@ -101,11 +74,11 @@ pub fn is_taken(t: &[u8], id: u16) -> bool
     }
     let mut at = 0;
     while at < t.len() {
-        let r = walker::known_at(t, at);
-        if id_of(r) == id {
+        let g = walker::glance_at(t, at);
+        if has_id(t, at, (g.head == 0) | g.marker, id) {
             return true;
         }
-        at += syntax::width_of(r);
+        at += g.width;
     }
     false
 }

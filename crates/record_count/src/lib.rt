@@ -14,7 +14,8 @@ pub fn count_records(t: &[u8]) -> usize
     let mut at = 0;
     let mut n = 0;
     while at < t.len() {
-        at = walker::after(t, at);
+        let g = walker::glance_at(t, at);
+        at += g.width;
         n += 1;
     }
     n

@@ -13,41 +13,49 @@ use Rattle.xliff.specs.Rules.{half-of-id}
 use Rattle.xliff.specs.Rewrite.{rewrite-item}
 use Rattle.xliff.proofs.lists.Tests.{and-false, and-left}
 use Rattle.places.specs.Markers.{item-in}
-use Rattle.table.specs.Meaning.{meaning}
+use Rattle.table.specs.Meaning.{record-meaning}
+use Rattle.table.specs.declared.Record.{Record}
 use Rattle.table.specs.declared.Record.the-variants.{Unit as UnitStart, UnitEnd, Segment, Ignorable, Target, Text, Inline}
-use Rattle.table.specs.declared.Read.{Read}
-use Rattle.table.specs.declared.Read.the-variants.{Good, Ill, Broken}
-use Rattle.views.specs.Views.{viewOf}
-use Rattle.views.specs.declared.View.{View}
+use Rattle.glance.specs.Glances.{headIn}
+use Rattle.keys.specs.Keys.{key, idKey, classKey, halfKey}
+use Rattle.keys.proofs.KeyLaws.{id-key, class-key, half-key}
 use Rattle.writer.specs.Pieces.{overlay}
 use Rattle.rewrite_marks.specs.Rewritten.{inside-after, on-record, if-inside, form-by, insideOf, halfMark, formed}
 use Rattle.rewrite_marks.proofs.LengthLaws.{mark-long, fields-kept, half-mark}
 
-pub inside-is : (source inside : Bool) (cs : List ℕ) (r : Read) → insideOf source inside r ≡ inside-after source inside (meaning cs r)
+pub inside-is : (source inside : Bool) (cs : List ℕ) (x : Record) → insideOf source inside (headIn x) ≡ inside-after source inside (record-meaning cs x)
 unfolding inside-after
-inside-is source inside cs (Good (UnitStart c) w) = refl
-inside-is source inside cs (Good UnitEnd w) = refl
-inside-is source inside cs (Good (Segment i c s) w) = refl
-inside-is source inside cs (Good (Ignorable i) w) = refl
-inside-is source inside cs (Good (Target q) w) = refl
-inside-is source inside cs (Good Text w) = refl
-inside-is source inside cs (Good (Inline i) w) = refl
-inside-is source inside cs Ill = refl
-inside-is source inside cs (Broken b) = refl
+inside-is source inside cs (UnitStart c) = refl
+inside-is source inside cs UnitEnd = refl
+inside-is source inside cs (Segment i c s) = refl
+inside-is source inside cs (Ignorable i) = refl
+inside-is source inside cs (Target q) = refl
+inside-is source inside cs Text = refl
+inside-is source inside cs (Inline i) = refl
 
--- the view of an item tells whether it is a half of the id
-module _ (inside : Bool) (i : ℕ) (p : Bool) (x : Item) (v : View) (out : List ℕ) (at : ℕ) (e : v ≡ viewOf x) where
-  test-is : inside && (not (eqb (v .half) 0) && eqb (v .id) i) ≡ inside && half-of-id i x
-  unfolding viewOf half-of-id
-  test-is = ap (λ (w : View). inside && (not (eqb (w .half) 0) && eqb (w .id) i)) e
-
-  pub formed-half : (last : List ℕ) → inside && (not (eqb (v .half) 0) && eqb (v .id) i) ≡ true → last ≡ overlay out at (halfMark (v .class) (v .half) p) → last ≡ formed inside i p x out at
-  unfolding formed viewOf
-  formed-half last h l = rw (sym test-is ∙ h) (l ∙ ap (λ (w : View). overlay out at (halfMark (w .class) (w .half) p)) e)
-
-  pub formed-none : inside && (not (eqb (v .half) 0) && eqb (v .id) i) ≡ false → out ≡ formed inside i p x out at
+module _ (inside : Bool) (i : ℕ) (p : Bool) (x : Item) (out : List ℕ) (at : ℕ) where
+  pub formed-outside : inside ≡ false → out ≡ formed inside i p x out at
   unfolding formed
-  formed-none h = rw (sym test-is ∙ h)
+  formed-outside z = rw z
+
+  -- the key k of the item, and the half h in it, tell whether it is a half of the id
+  module _ (k h : ℕ) (e : k ≡ key x) (f : h ≡ halfKey k) where
+    half-is : h ≡ half x
+    half-is = f ∙ ap (λ (j : ℕ). halfKey j) e ∙ half-key x
+
+    test-is : not (eqb h 0) && eqb (idKey k) i ≡ half-of-id i x
+    unfolding half-of-id
+    test-is = ap₂ (λ (a b : ℕ). not (eqb a 0) && eqb b i) half-is (ap (λ (j : ℕ). idKey j) e ∙ id-key x)
+
+    pub formed-half : (c : ℕ) (last : List ℕ) → c ≡ classKey k → inside ≡ true → not (eqb h 0) && eqb (idKey k) i ≡ true
+        → last ≡ overlay out at (halfMark c h p) → last ≡ formed inside i p x out at
+    unfolding formed
+    formed-half c last d y z l =
+        rw (y, sym test-is ∙ z) (l ∙ ap₂ (λ (a b : ℕ). overlay out at (halfMark a b p)) (d ∙ ap (λ (j : ℕ). classKey j) e ∙ class-key x) half-is)
+
+    pub formed-none : not (eqb h 0) && eqb (idKey k) i ≡ false → out ≡ formed inside i p x out at
+    unfolding formed
+    formed-none z = rw (sym test-is ∙ z, and-false inside)
 
 -- a mark in the place of a mark
 over-mark : (done old new s : List ℕ) → length old ≡ length new → overlay (done ++ (old ++ s)) (length done) new ≡ done ++ (new ++ s)

@@ -18,9 +18,11 @@ use Rattle.xliff.proofs.records.Parse.{AllGood}
 use Rattle.places.specs.Passes.{Passes}
 use Rattle.places.specs.Markers.{item-in, item-at}
 use Rattle.places.proofs.Places.{At, at-start, at-next, at-end}
-use Rattle.table.specs.Meaning.{width, body}
+use Rattle.table.specs.Meaning.{body}
 use Rattle.table.specs.declared.Read.{Read}
-use Rattle.orders.proofs.WalkLaws.{Stepped}
+use Rattle.table.specs.declared.Read.the-variants.{Good}
+use Rattle.glance.specs.declared.Glance.{Glance}
+use Rattle.orders.proofs.WalkLaws.{Stepped, Walked}
 use Rattle.writer.specs.Pieces.{lead}
 use Rattle.rewrite_marks.specs.Rewritten.{inside-after, on-record, if-inside, rewritten, form-by, rewrittenBytes, insideOf, formed}
 use Rattle.rewrite_marks.proofs.LengthLaws.{mark-long, record-long}
@@ -77,19 +79,22 @@ module _ (i : ℕ) (p : Bool) where
           ∙ ap (λ (l : List ℕ). l ++ drop (length t) out₀)
           (sym (append-nil (m .done)) ∙ ap (λ (l : List encode.Record). m .done ++ spell (rewritten f source inside l)) (sym e) ∙ m .all)
 
-      pub written-on : (r : Read) (s : Stepped t at (m .left) r) (out′ : List ℕ) → out′ ≡ formed inside i p (item-at t at) out at
-          → Written t source out₀ (at + width r) (insideOf source inside r) out′
+      pub written-on : (g : Glance) (v : Walked t at (m .left) g) (out′ : List ℕ) → out′ ≡ formed inside i p (item-at t at) out at
+          → Written t source out₀ (at + g .width) (insideOf source inside (g .head)) out′
       unfolding item-at spell gather rewritten
-      written-on r s out′ e =
+      written-on g v out′ e =
           record {
             left = s .others;
             done = m .done ++ record-bytes (on-record (if-inside inside f) (s .first));
-            here = s .rest;
-            far = omega (arith, m .far, s .wide, record-long i (form-by p) inside (s .first), length-append (m .done) (record-bytes (on-record (if-inside inside f) (s .first))));
+            here = v .rest;
+            far = omega (arith, m .far, v .wide, s .wide, record-long i (form-by p) inside (s .first), length-append (m .done) (record-bytes (on-record (if-inside inside f) (s .first))));
             is = e ∙ moved;
             all = joined;
           }
         where
+          s : Stepped t at (m .left) (Good (v .the) (v .size))
+          s = v .step
+
           first-read : read (drop at t) ≡ s .first
           first-read = at-next t at (s .first) (s .others) (subst (At t at) (s .split) (m .here)) .reads
 
@@ -106,20 +111,22 @@ module _ (i : ℕ) (p : Bool) where
               ∙ record-formed i p inside (s .first) (m .done) (spell (s .others) ++ drop (length t) out₀)
               ∙ sym (append-assoc (m .done) (record-bytes (on-record (if-inside inside f) (s .first))) (spell (s .others) ++ drop (length t) out₀))
 
-          state : inside-after source inside (s .first) ≡ insideOf source inside r
-          state = ap (inside-after source inside) (sym (s .means)) ∙ sym (inside-is source inside (body (drop at t)) r)
+          state : inside-after source inside (s .first) ≡ insideOf source inside (g .head)
+          state =
+              ap (inside-after source inside) (sym (s .means)) ∙ sym (inside-is source inside (body (drop at t)) (v .the))
+              ∙ ap (λ (h : Glance). insideOf source inside (h .head)) (sym (v .is))
 
-          joined : (m .done ++ record-bytes (on-record (if-inside inside f) (s .first))) ++ spell (rewritten f source (insideOf source inside r) (s .others)) ≡ rewrittenBytes source i p t
+          joined : (m .done ++ record-bytes (on-record (if-inside inside f) (s .first))) ++ spell (rewritten f source (insideOf source inside (g .head)) (s .others)) ≡ rewrittenBytes source i p t
           joined =
-              append-assoc (m .done) (record-bytes (on-record (if-inside inside f) (s .first))) (spell (rewritten f source (insideOf source inside r) (s .others)))
+              append-assoc (m .done) (record-bytes (on-record (if-inside inside f) (s .first))) (spell (rewritten f source (insideOf source inside (g .head)) (s .others)))
               ∙ ap (λ (b : Bool). m .done ++ (record-bytes (on-record (if-inside inside f) (s .first)) ++ spell (rewritten f source b (s .others)))) (sym state)
               ∙ ap (λ (l : List encode.Record). m .done ++ spell (rewritten f source inside l)) (sym (s .split))
               ∙ m .all
 
       -- a record has at least its mark
-      pub two-left : (r : Read) (s : Stepped t at (m .left) r) → at + 2 ≤ length t
+      pub two-left : {r : Read} (s : Stepped t at (m .left) r) → at + 2 ≤ length t
       unfolding record-bytes head-bytes
-      two-left r s = omega (arith, s .fits, s .wide, least (s .first) (first-good (subst (λ (l : List encode.Record). AllGood l) (s .split) (m .here .good))))
+      two-left s = omega (arith, s .fits, s .wide, least (s .first) (first-good (subst (λ (l : List encode.Record). AllGood l) (s .split) (m .here .good))))
         where
           first-good : {x : encode.Record} {xs : List encode.Record} → AllGood (x ∷ xs) → GoodRecord x
           first-good (each-cons g h) = g

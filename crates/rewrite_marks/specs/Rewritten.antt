@@ -12,10 +12,6 @@ use Rattle.xliff.specs.Parse.{unit}
 use Rattle.xliff.specs.Rules.{half-of-id}
 use Rattle.xliff.specs.Rewrite.{rewrite-item}
 use Rattle.writer.specs.Pieces.{overlay}
-use Rattle.table.specs.declared.Record.{Record}
-use Rattle.table.specs.declared.Record.the-variants.{Unit as UnitStart, UnitEnd, Segment, Ignorable, Target, Text, Inline}
-use Rattle.table.specs.declared.Read.{Read}
-use Rattle.table.specs.declared.Read.the-variants.{Good, Ill, Broken}
 
 -- whether what follows a record is of a content of the side
 unfoldable pub inside-after : Bool → Bool → encode.Record → Bool
@@ -53,20 +49,9 @@ form-by p = cond p form-P form-S
 unfoldable pub rewrittenBytes : Bool → ℕ → Bool → List ℕ → List ℕ
 rewrittenBytes source i p t = spell (rewritten (rewrite-item i (form-by p)) source false (unit-records (unit t)))
 
--- the code's cases; FormLaws has that they are inside-after
-abbrev pub insideIn : Bool → Bool → Record → Bool
-insideIn source inside (UnitStart c) = inside
-insideIn source inside UnitEnd = inside
-insideIn source inside (Segment i c s) = source
-insideIn source inside (Ignorable i) = source
-insideIn source inside (Target q) = not source
-insideIn source inside Text = inside
-insideIn source inside (Inline i) = inside
-
-abbrev pub insideOf : Bool → Bool → Read → Bool
-insideOf source inside (Good x w) = insideIn source inside x
-insideOf source inside Ill = inside
-insideOf source inside (Broken b) = inside
+-- the same by the head of a glance: 0 for SG and IG, 1 for TG; FormLaws has that it is inside-after
+abbrev pub insideOf : Bool → Bool → ℕ → Bool
+insideOf source inside head = cond (eqb head 0) source (cond (eqb head 1) (not source) inside)
 
 -- the mark of a start, of an end: of a pair or of an annotation, in form P or in form S
 abbrev pub startMark : Bool → Bool → List ℕ

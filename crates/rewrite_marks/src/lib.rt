@@ -1,6 +1,4 @@
 // Rewrite, the bytes: the table copied, and the marks of the halves of one id on one side written anew.
-use table::Read;
-use table::Record;
 ghost use mathlib.Core.Path.{_≡_};
 ghost use mathlib.Core.List.{_++_};
 ghost use Prim.Native.Nat.{_+_, _<_, _≤_};
@@ -11,31 +9,16 @@ ghost use Rattle.xliff.specs.Rewrite.{form-of, rewrite-unit};
 ghost use Rattle.places.specs.Passes.{Passes};
 ghost use Rattle.places.specs.Markers.{item-at};
 ghost use Rattle.writer.specs.Pieces.{lead, overlay};
-ghost use Rattle.rewrite_marks.specs.Rewritten.{insideIn, insideOf, startMark, endMark, halfMark, formed, rewrittenBytes};
+ghost use Rattle.rewrite_marks.specs.Rewritten.{insideOf, startMark, endMark, halfMark, formed, rewrittenBytes};
 
-fn inside_in(source: bool, inside: bool, x: Record) -> bool
-    ensures { λ r. ⌜ r ≡ insideIn source inside x ⌝ }
+// Whether what follows a record is of a content of the side; `head` is 0 for SG and IG, 1 for TG.
+fn inside_of(source: bool, inside: bool, head: u8) -> bool
+    ensures { λ r. ⌜ r ≡ insideOf source inside head ⌝ }
 {
-    match x {
-        Record::Unit(_) => inside,
-        Record::UnitEnd => inside,
-        Record::Segment(_, _, _) => source,
-        Record::Ignorable(_) => source,
-        Record::Target(_) => !source,
-        Record::Text => inside,
-        Record::Inline(_) => inside,
+    if head == 0 {
+        return source;
     }
-}
-
-// Whether what follows a record is of a content of the side.
-fn inside_of(source: bool, inside: bool, r: Read) -> bool
-    ensures { λ x. ⌜ x ≡ insideOf source inside r ⌝ }
-{
-    match r {
-        Read::Good(x, _) => inside_in(source, inside, x),
-        Read::Ill => inside,
-        Read::Broken(_) => inside,
-    }
+    if head == 1 { !source } else { inside }
 }
 
 // The mark of a start, of a pair or of an annotation.
@@ -72,7 +55,7 @@ fn put_end(out: &mut [u8], at: usize, pair: bool, p: bool) -> usize
     writer::put_mark(out, at, b"EM")
 }
 
-fn put_half(out: &mut [u8], at: usize, class: u8, half: u8, p: bool) -> usize
+fn put_half(out: &mut [u8], at: usize, class: u32, half: u32, p: bool) -> usize
     requires { ⌜ at + 2 ≤ length (now out) ⌝ }
     ensures { λ r. ⌜ (r ≡ at + 2) × (now (out .exit) ≡ overlay (now (out .entry)) at (halfMark class half p)) ⌝ }
 {
@@ -83,28 +66,31 @@ fn put_half(out: &mut [u8], at: usize, class: u8, half: u8, p: bool) -> usize
 }
 
 // The mark of the item at an offset of `t`, in form P or S, if it is a half of the id in a content of the side. `out` has the bytes of `t` there.
-fn put_form(out: &mut [u8], t: &[u8], at: usize, inside: bool, id: u16, p: bool)
+fn put_form(out: &mut [u8], t: &[u8], at: usize, inside: bool, id: u32, p: bool)
     requires { ⌜ at + 2 ≤ length (now out) ⌝ }
     ensures { λ r. ⌜ now (out .exit) ≡ formed inside id p (item-at (now (t .entry)) at) (now (out .entry)) at ⌝ }
 {
-    let v = views::view_at(t, at);
-    if inside & (!(v.half == 0) & (v.id == id)) {
-        let e = put_half(out, at, v.class, v.half, p);
+    if inside {
+        let k = keys::key_at(t, at);
+        let half = keys::half_of(k);
+        if !(half == 0) & (k / 64 == id) {
+            let e = put_half(out, at, keys::class_of(k), half, p);
+        }
     }
 }
 
 // The marks of all halves of the id on the side; `out` starts with the bytes of `t`.
-fn put_forms(out: &mut [u8], t: &[u8], source: bool, id: u16, p: bool)
+fn put_forms(out: &mut [u8], t: &[u8], source: bool, id: u32, p: bool)
     requires { ⌜ Passes (now t) × (now out ≡ lead (now t) (now out)) × (length (now t) ≤ length (now out)) ⌝ }
     ensures { λ r. ⌜ now (out .exit) ≡ rewrittenBytes source id p (now (t .entry)) ++ drop (length (now (t .entry))) (now (out .entry)) ⌝ }
 {
     let mut at: usize = 0;
     let mut inside = false;
     while at < t.len() {
-        let r = walker::known_at(t, at);
+        let g = walker::glance_at(t, at);
         put_form(out, t, at, inside, id, p);
-        inside = inside_of(source, inside, r);
-        at += syntax::width_of(r);
+        inside = inside_of(source, inside, g.head);
+        at += g.width;
     }
 }
 
@@ -114,6 +100,6 @@ pub fn put_rewritten(out: &mut [u8], t: &[u8], side: u8, id: u16, form: u8) -> u
     ensures { λ r. ⌜ (r ≡ length (encode (rewrite-unit (unit (now (t .entry))) side id (form-of form)))) × (now (out .exit) ≡ lead (encode (rewrite-unit (unit (now (t .entry))) side id (form-of form))) (now (out .entry))) ⌝ }
 {
     let n = writer::put(out, t);
-    put_forms(out, t, side == b'S', id, form == b'P');
+    put_forms(out, t, side == b'S', id as u32, form == b'P');
     n
 }

@@ -10,12 +10,35 @@ use borrow.Author.Needs.{needs}
 use Rattle.join_orders.proofs.falls_above.Statement.{statement}
 use Rattle.join_orders.proofs.falls_above.Tie as tie
 
+-- src/lib.rt:49:9
+returns : tie.Need-returns
+returns c =
+    let args = c .before .before .before .before .args in
+    both-fall (args .t .now) (args .x) (args .y) (c .if1 .taken)
+
+-- src/lib.rt:52:23
+cast-highest-unused : tie.Need-cast-highest-unused
+cast-highest-unused c =
+    let start = c .before .before .before .before .before in
+    omega (arith, few-parts (start .args .t .now) (start .pre), c .count-parts .ensures)
+
+-- src/lib.rt:44:1
+returns-2 : tie.Need-returns-2
+returns-2 c =
+    let args = c .before .before .before .before .before .before .args in
+    let t = args .t .now in
+    one-falls t (args .x) (args .y) (c .highest-unused .result) (c .before .before .if1 .left)
+    (c .highest-unused .ensures
+    ∙ ap (λ (n : ℕ). join.highest-unused n (orders (unit t .parts))) (c .before .count-parts .ensures))
+
 pub falls-above-spec : {M : Type 1} → statement M
 falls-above-spec =
     tie.close
     (tie.spec
-    (λ c. both-fall (c .before .before .before .before .args .t .now) (c .before .before .before .before .args .x) (c .before .before .before .before .args .y) (c .if1 .taken))
+    returns
+    -- by search: count-parts-requires 51:9
     (λ c κs. search needs)
-    (λ c. omega (arith, few-parts (c .before .before .before .before .before .args .t .now) (c .before .before .before .before .before .pre), c .count-parts .ensures))
+    cast-highest-unused
+    -- by search: highest-unused-requires 52:5
     (λ c κs. search needs)
-    (λ c. one-falls (c .before .before .before .before .before .before .args .t .now) (c .before .before .before .before .before .before .args .x) (c .before .before .before .before .before .before .args .y) (c .highest-unused .result) ((c .before .before .if1 .left)) (c .highest-unused .ensures ∙ ap (λ (n : ℕ). join.highest-unused n (orders (unit (c .before .before .before .before .before .before .args .t .now) .parts))) (c .before .count-parts .ensures))))
+    returns-2)

@@ -14,16 +14,41 @@ Inv-loop t n k₀ k = join.highest-unused n (orders (unit t .parts)) ≡ join.hi
 abbrev μ-loop : tie.MeasureT-loop
 μ-loop t n k₀ k = k
 
+-- src/lib.rt:36:13
+returns : tie.Need-returns Inv-loop μ-loop
+returns c =
+    let t = c .before .before .before .before .before .args .t .now in
+    let loop = c .before .before .before .loop in
+    sym (loop .inv
+    ∙ unused-here (orders (unit t .parts)) (loop .k) (c .before .before .loop-test .taken)
+    (sym (c .before .is-order .ensures) ∙ not-true _ (c .if1 .taken)))
+
+-- src/lib.rt:34:5
+loop-again : tie.Need-loop-again Inv-loop μ-loop
+loop-again c =
+    let t = c .before .before .before .before .before .args .t .now in
+    let loop = c .before .before .before .loop in
+    loop .inv
+    ∙ unused-below (orders (unit t .parts)) (loop .k) (c .before .before .loop-test .taken)
+    (sym (c .before .is-order .ensures) ∙ not-false _ (c .if1 .left))
+
+-- src/lib.rt:29:1
+returns-2 : tie.Need-returns-2 Inv-loop μ-loop
+returns-2 c =
+    let t = c .before .before .before .args .t .now in
+    let loop = c .before .loop in
+    sym (loop .inv ∙ unused-none (orders (unit t .parts)) (loop .k) (c .loop-test .left))
+
 pub highest-unused-spec : {M : Type 1} → statement M
 highest-unused-spec =
     tie.close
     (tie.spec
     Inv-loop
     μ-loop
-    (λ c. refl)
-    (λ c κs. search needs)
-    (λ c. sym (c .before .before .before .loop .inv ∙ unused-here (orders (unit (c .before .before .before .before .before .args .t .now) .parts)) (c .before .before .before .loop .k) ((c .before .before .loop-test .taken)) (sym (c .before .is-order .ensures) ∙ not-true _ ((c .if1 .taken)))))
-    (λ c. search needs)
-    (λ c. search needs)
-    (λ c. c .before .before .before .loop .inv ∙ unused-below (orders (unit (c .before .before .before .before .before .args .t .now) .parts)) (c .before .before .before .loop .k) ((c .before .before .loop-test .taken)) (sym (c .before .is-order .ensures) ∙ not-false _ ((c .if1 .left))))
-    (λ c. sym (c .before .loop .inv ∙ unused-none (orders (unit (c .before .before .before .args .t .now) .parts)) (c .before .loop .k) ((c .loop-test .left)))))
+    -- by one step: loop-holds 34:5, is-order-requires 35:13
+    (λ c. refl) (λ c κs. search needs)
+    returns
+    -- by search: sub-k 38:9, loop-less 34:5
+    (λ c. search needs) (λ c. search needs)
+    loop-again
+    returns-2)

@@ -1,14 +1,12 @@
-use Rattle.join_orders.proofs.FallLaws.{Sets, sets-same, unit-sets}
-use Rattle.join_orders.specs.Falls.{setsOrder}
-use Rattle.part_at.proofs.SearchLaws.{Searched, searched-start, searched-fits, searched-found, searched-on, searched-end}
-use Rattle.table.specs.Meaning.{body}
+use Rattle.join_orders.proofs.FallLaws.{Sets, sets-walked, unit-sets}
+use Rattle.part_at.proofs.SearchLaws.{Searched, searched-start, searched-here, searched-found, searched-on, searched-end}
 use Rattle.xliff.specs.Parse.{unit}
 use Rattle.xliff.specs.Unit.{orders}
 use Rattle.xliff.specs.Bytes.{among}
-use lib.ListN.{length, drop}
+use lib.ListN.{length}
 use native.Mathlib.Omega.{arith}
-use mathlib.Core.Path.{sym, _∙_, subst, ap}
-use Prim.Native.Nat.{ℕ, _+_, _-_}
+use mathlib.Core.Path.{sym}
+use Prim.Native.Nat.{_-_}
 use borrow.Author.Needs.{needs}
 use Rattle.join_orders.proofs.is_order.Statement.{statement}
 use Rattle.join_orders.proofs.is_order.Tie as tie
@@ -19,19 +17,94 @@ Inv-loop t q at₀ at = Searched t (Sets q) (among q (orders (unit t .parts))) a
 abbrev μ-loop : tie.MeasureT-loop
 μ-loop t q at₀ at = length t - at
 
+-- src/lib.rt:18:5, while at < t.len()
+loop-holds : tie.Need-loop-holds Inv-loop μ-loop
+loop-holds c =
+    let args = c .before .args in
+    let t = args .t .now in
+    searched-start t (Sets (args .q)) (among (args .q) (orders (unit t .parts))) (c .before .pre) (unit-sets (args .q) (unit t))
+
+-- src/lib.rt:21:13, return true;
+returns : tie.Need-returns Inv-loop μ-loop
+returns c =
+    let call = c .before .before .before in
+    let loop = call .before .before .loop in
+    let args = call .before .before .before .before .args in
+    let t = args .t .now in
+    let q = args .q in
+    let told = among q (orders (unit t .parts)) in
+    let g = call .glance-at .result in
+    let seen = call .glance-at .ensures in
+    let test = call .before .loop-test .taken in
+    let v = searched-here t (Sets q) told (loop .at) g seen (loop .inv) test in
+    let same = sets-walked q t (loop .at) (loop .inv .rs) g v in
+    sym (searched-found t (Sets q) told (loop .at) g seen (loop .inv) test _ same (c .if1 .taken))
+
+-- src/lib.rt:23:9, at += g.width;
+add-at : tie.Need-add-at Inv-loop μ-loop
+add-at c =
+    let call = c .before .before .before .before in
+    let loop = call .before .before .loop in
+    let args = call .before .before .before .before .args in
+    let t = args .t .now in
+    let q = args .q in
+    let told = among q (orders (unit t .parts)) in
+    let g = call .glance-at .result in
+    let seen = call .glance-at .ensures in
+    let test = call .before .loop-test .taken in
+    let v = searched-here t (Sets q) told (loop .at) g seen (loop .inv) test in
+    omega (arith, v .fits)
+
+-- src/lib.rt:18:5, while at < t.len()
+loop-less : tie.Need-loop-less Inv-loop μ-loop
+loop-less c =
+    let call = c .before .before .before .before in
+    let loop = call .before .before .loop in
+    let args = call .before .before .before .before .args in
+    let t = args .t .now in
+    let q = args .q in
+    let told = among q (orders (unit t .parts)) in
+    let g = call .glance-at .result in
+    let seen = call .glance-at .ensures in
+    let test = call .before .loop-test .taken in
+    let v = searched-here t (Sets q) told (loop .at) g seen (loop .inv) test in
+    omega (arith, v .fits, v .moves)
+
+-- src/lib.rt:18:5, while at < t.len()
+loop-again : tie.Need-loop-again Inv-loop μ-loop
+loop-again c =
+    let call = c .before .before .before .before in
+    let loop = call .before .before .loop in
+    let args = call .before .before .before .before .args in
+    let t = args .t .now in
+    let q = args .q in
+    let told = among q (orders (unit t .parts)) in
+    let g = call .glance-at .result in
+    let seen = call .glance-at .ensures in
+    let test = call .before .loop-test .taken in
+    let v = searched-here t (Sets q) told (loop .at) g seen (loop .inv) test in
+    let same = sets-walked q t (loop .at) (loop .inv .rs) g v in
+    searched-on t (Sets q) told (loop .at) g seen (loop .inv) test _ same (c .before .if1 .left)
+
+-- src/lib.rt:25:5, false
+returns-2 : tie.Need-returns-2 Inv-loop μ-loop
+returns-2 c =
+    let args = c .before .before .before .args in
+    let t = args .t .now in
+    let loop = c .before .loop in
+    sym (searched-end t (Sets (args .q)) (among (args .q) (orders (unit t .parts))) (loop .at) (loop .inv) (c .loop-test .left))
+
 pub is-order-spec : {M : Type 1} → statement M
 is-order-spec =
     tie.close
     (tie.spec
     Inv-loop
     μ-loop
-    (λ c. searched-start (c .before .args .t .now) (Sets (c .before .args .q)) (among (c .before .args .q) (orders (unit (c .before .args .t .now) .parts))) (c .before .pre) (unit-sets (c .before .args .q) (unit (c .before .args .t .now))))
+    loop-holds
+    -- glance-at-requires: the table is lent
     (λ c κs. search needs)
-    (λ c κs. search needs)
-    (λ c κs. search needs)
-    (λ c. sym (searched-found (c .before .before .before .before .before .before .before .args .t .now) (Sets (c .before .before .before .before .before .before .before .args .q)) (among (c .before .before .before .before .before .before .before .args .q) (orders (unit (c .before .before .before .before .before .before .before .args .t .now) .parts))) (c .before .before .before .before .before .loop .at) (c .before .before .before .known-at .result) (c .before .before .before .known-at .ensures) (c .before .before .before .before .before .loop .inv) ((c .before .before .before .before .loop-test .taken)) (c .before .sets-order .result) (c .before .sets-order .ensures ∙ ap (setsOrder (c .before .before .before .before .before .before .before .args .q)) (c .before .before .order-of .ensures) ∙ sets-same (c .before .before .before .before .before .before .before .args .q) (body (drop (c .before .before .before .before .before .loop .at) (c .before .before .before .before .before .before .before .args .t .now))) (c .before .before .before .known-at .result)) (c .if1 .taken)))
-    (λ c κs. search needs)
-    (λ c. let f = searched-fits (c .before .before .before .before .before .before .before .before .args .t .now) (Sets (c .before .before .before .before .before .before .before .before .args .q)) (among (c .before .before .before .before .before .before .before .before .args .q) (orders (unit (c .before .before .before .before .before .before .before .before .args .t .now) .parts))) (c .before .before .before .before .before .before .loop .at) (c .before .before .before .before .known-at .result) (c .before .before .before .before .known-at .ensures) (c .before .before .before .before .before .before .loop .inv) ((c .before .before .before .before .before .loop-test .taken)) in omega (arith, f .1, c .width-of .ensures))
-    (λ c. let f = searched-fits (c .before .before .before .before .before .before .before .before .args .t .now) (Sets (c .before .before .before .before .before .before .before .before .args .q)) (among (c .before .before .before .before .before .before .before .before .args .q) (orders (unit (c .before .before .before .before .before .before .before .before .args .t .now) .parts))) (c .before .before .before .before .before .before .loop .at) (c .before .before .before .before .known-at .result) (c .before .before .before .before .known-at .ensures) (c .before .before .before .before .before .before .loop .inv) ((c .before .before .before .before .before .loop-test .taken)) in omega (arith, f .0, f .1, c .width-of .ensures))
-    (λ c. subst (λ (k : ℕ). Searched (c .before .before .before .before .before .before .before .before .args .t .now) (Sets (c .before .before .before .before .before .before .before .before .args .q)) (among (c .before .before .before .before .before .before .before .before .args .q) (orders (unit (c .before .before .before .before .before .before .before .before .args .t .now) .parts))) (c .before .before .before .before .before .before .loop .at + k)) (sym (c .width-of .ensures)) (searched-on (c .before .before .before .before .before .before .before .before .args .t .now) (Sets (c .before .before .before .before .before .before .before .before .args .q)) (among (c .before .before .before .before .before .before .before .before .args .q) (orders (unit (c .before .before .before .before .before .before .before .before .args .t .now) .parts))) (c .before .before .before .before .before .before .loop .at) (c .before .before .before .before .known-at .result) (c .before .before .before .before .known-at .ensures) (c .before .before .before .before .before .before .loop .inv) ((c .before .before .before .before .before .loop-test .taken)) (c .before .before .sets-order .result) (c .before .before .sets-order .ensures ∙ ap (setsOrder (c .before .before .before .before .before .before .before .before .args .q)) (c .before .before .before .order-of .ensures) ∙ sets-same (c .before .before .before .before .before .before .before .before .args .q) (body (drop (c .before .before .before .before .before .before .loop .at) (c .before .before .before .before .before .before .before .before .args .t .now))) (c .before .before .before .before .known-at .result)) (c .before .if1 .left)))
-    (λ c. sym (searched-end (c .before .before .before .args .t .now) (Sets (c .before .before .before .args .q)) (among (c .before .before .before .args .q) (orders (unit (c .before .before .before .args .t .now) .parts))) (c .before .loop .at) (c .before .loop .inv) (c .loop-test .left))))
+    returns
+    add-at
+    loop-less
+    loop-again
+    returns-2)

@@ -1,15 +1,11 @@
-use Rattle.part_refusals.proofs.IdLaws.{id-same, taken-any, taken-zero}
-use Rattle.part_refusals.specs.Ids.{has-record-id, idOf}
-use Rattle.part_at.proofs.SearchLaws.{Searched, searched-start, searched-fits, searched-found, searched-on, searched-end}
-use Rattle.table.specs.Meaning.{body}
+use Rattle.part_refusals.proofs.IdLaws.{has-record-id, id-fits, has-walked, taken-any, taken-zero}
+use Rattle.part_at.proofs.SearchLaws.{Searched, searched-start, searched-here, searched-found, searched-on, searched-end}
 use Rattle.xliff.specs.Split.{id-taken}
 use Rattle.xliff.specs.Parse.{unit}
-use lib.Dec.{eqb}
-use lib.ListN.{length, drop}
-use borrow.Author.Tests.{eq-eqb, ne-eqb}
+use lib.ListN.{length}
 use native.Mathlib.Omega.{arith}
-use mathlib.Core.Path.{sym, _∙_, subst, ap}
-use Prim.Native.Nat.{ℕ, _+_, _-_}
+use mathlib.Core.Path.{sym, _∙_}
+use Prim.Native.Nat.{_-_}
 use borrow.Author.Needs.{needs}
 use Rattle.part_refusals.proofs.is_taken.Statement.{statement}
 use Rattle.part_refusals.proofs.is_taken.Tie as tie
@@ -20,19 +16,114 @@ Inv-loop t id at₀ at = Searched t (has-record-id id) (id-taken (unit t .parts)
 abbrev μ-loop : tie.MeasureT-loop
 μ-loop t id at₀ at = length t - at
 
+-- src/lib.rt:73:9, if id == 0, return false;
+returns : tie.Need-returns Inv-loop μ-loop
+returns c =
+    let args = c .before .before .args in
+    sym (taken-zero (unit (args .t .now) .parts) (args .id) (c .if1 .taken))
+
+-- src/lib.rt:76:5, while at < t.len()
+loop-holds : tie.Need-loop-holds Inv-loop μ-loop
+loop-holds c =
+    let start = c .before .before in
+    let t = start .args .t .now in
+    let id = start .args .id in
+    searched-start t (has-record-id id) (id-taken (unit t .parts) id) (start .pre) (taken-any t id (c .if1 .left))
+
+-- src/lib.rt:78:12, has_id(t, at, (g.head == 0) | g.marker, id)
+has-id-requires : tie.Need-has-id-requires Inv-loop μ-loop
+has-id-requires c κs =
+    let call = c .before .before in
+    let loop = call .before .before .loop in
+    let args = call .before .before .before .before .before .args in
+    let t = args .t .now in
+    let id = args .id in
+    let g = call .glance-at .result in
+    let test = call .before .loop-test .taken in
+    let v = searched-here t (has-record-id id) (id-taken (unit t .parts) id) (loop .at) g (call .glance-at .ensures) (loop .inv) test in
+    id-fits t (loop .at) (loop .inv .rs) g (loop .inv .there) v
+
+-- src/lib.rt:79:13, return true;
+returns-2 : tie.Need-returns-2 Inv-loop μ-loop
+returns-2 c =
+    let call = c .before .before .before .before in
+    let loop = call .before .before .loop in
+    let other = call .before .before .before .if1 .left in
+    let args = call .before .before .before .before .before .args in
+    let t = args .t .now in
+    let id = args .id in
+    let told = id-taken (unit t .parts) id in
+    let g = call .glance-at .result in
+    let seen = call .glance-at .ensures in
+    let test = call .before .loop-test .taken in
+    let v = searched-here t (has-record-id id) told (loop .at) g seen (loop .inv) test in
+    let same = has-walked t (loop .at) (loop .inv .rs) g (loop .inv .there) v id other in
+    sym (searched-found t (has-record-id id) told (loop .at) g seen (loop .inv) test _ (c .before .has-id .ensures ∙ same) (c .if2 .taken))
+
+-- src/lib.rt:81:9, at += g.width;
+add-at : tie.Need-add-at Inv-loop μ-loop
+add-at c =
+    let call = c .before .before .before .before .before in
+    let loop = call .before .before .loop in
+    let args = call .before .before .before .before .before .args in
+    let t = args .t .now in
+    let id = args .id in
+    let g = call .glance-at .result in
+    let test = call .before .loop-test .taken in
+    let v = searched-here t (has-record-id id) (id-taken (unit t .parts) id) (loop .at) g (call .glance-at .ensures) (loop .inv) test in
+    omega (arith, v .fits)
+
+-- src/lib.rt:76:5, while at < t.len()
+loop-less : tie.Need-loop-less Inv-loop μ-loop
+loop-less c =
+    let call = c .before .before .before .before .before in
+    let loop = call .before .before .loop in
+    let args = call .before .before .before .before .before .args in
+    let t = args .t .now in
+    let id = args .id in
+    let g = call .glance-at .result in
+    let test = call .before .loop-test .taken in
+    let v = searched-here t (has-record-id id) (id-taken (unit t .parts) id) (loop .at) g (call .glance-at .ensures) (loop .inv) test in
+    omega (arith, v .fits, v .moves)
+
+-- src/lib.rt:76:5, while at < t.len()
+loop-again : tie.Need-loop-again Inv-loop μ-loop
+loop-again c =
+    let call = c .before .before .before .before .before in
+    let loop = call .before .before .loop in
+    let other = call .before .before .before .if1 .left in
+    let args = call .before .before .before .before .before .args in
+    let t = args .t .now in
+    let id = args .id in
+    let told = id-taken (unit t .parts) id in
+    let g = call .glance-at .result in
+    let seen = call .glance-at .ensures in
+    let test = call .before .loop-test .taken in
+    let v = searched-here t (has-record-id id) told (loop .at) g seen (loop .inv) test in
+    let same = has-walked t (loop .at) (loop .inv .rs) g (loop .inv .there) v id other in
+    searched-on t (has-record-id id) told (loop .at) g seen (loop .inv) test _ (c .before .before .has-id .ensures ∙ same) (c .before .if2 .left)
+
+-- src/lib.rt:83:5, false
+returns-3 : tie.Need-returns-3 Inv-loop μ-loop
+returns-3 c =
+    let loop = c .before .loop in
+    let args = c .before .before .before .before .args in
+    let t = args .t .now in
+    sym (searched-end t (has-record-id (args .id)) (id-taken (unit t .parts) (args .id)) (loop .at) (loop .inv) (c .loop-test .left))
+
 pub is-taken-spec : {M : Type 1} → statement M
 is-taken-spec =
     tie.close
     (tie.spec
     Inv-loop
     μ-loop
-    (λ c. sym (taken-zero (unit (c .before .before .args .t .now) .parts) (c .before .before .args .id) (c .if1 .taken)))
-    (λ c. searched-start (c .before .before .args .t .now) (has-record-id (c .before .before .args .id)) (id-taken (unit (c .before .before .args .t .now) .parts) (c .before .before .args .id)) (c .before .before .pre) (taken-any (c .before .before .args .t .now) (c .before .before .args .id) ((c .if1 .left))))
+    returns
+    loop-holds
+    -- glance-at-requires 77:13: the table is lent
     (λ c κs. search needs)
-    (λ c κs. search needs)
-    (λ c. sym (searched-found (c .before .before .before .before .before .before .before .args .t .now) (has-record-id (c .before .before .before .before .before .before .before .args .id)) (id-taken (unit (c .before .before .before .before .before .before .before .args .t .now) .parts) (c .before .before .before .before .before .before .before .args .id)) (c .before .before .before .before .loop .at) (c .before .before .known-at .result) (c .before .before .known-at .ensures) (c .before .before .before .before .loop .inv) ((c .before .before .before .loop-test .taken)) (eqb (idOf (c .before .before .known-at .result)) (c .before .before .before .before .before .before .before .args .id)) (ap (λ (k : ℕ). eqb k (c .before .before .before .before .before .before .before .args .id)) (id-same (body (drop (c .before .before .before .before .loop .at) (c .before .before .before .before .before .before .before .args .t .now))) (c .before .before .known-at .result))) (eq-eqb _ _ (sym (c .before .id-of .ensures) ∙ (c .if2 .taken)))))
-    (λ c κs. search needs)
-    (λ c. let f = searched-fits (c .before .before .before .before .before .before .before .before .args .t .now) (has-record-id (c .before .before .before .before .before .before .before .before .args .id)) (id-taken (unit (c .before .before .before .before .before .before .before .before .args .t .now) .parts) (c .before .before .before .before .before .before .before .before .args .id)) (c .before .before .before .before .before .loop .at) (c .before .before .before .known-at .result) (c .before .before .before .known-at .ensures) (c .before .before .before .before .before .loop .inv) ((c .before .before .before .before .loop-test .taken)) in omega (arith, f .1, c .width-of .ensures))
-    (λ c. let f = searched-fits (c .before .before .before .before .before .before .before .before .args .t .now) (has-record-id (c .before .before .before .before .before .before .before .before .args .id)) (id-taken (unit (c .before .before .before .before .before .before .before .before .args .t .now) .parts) (c .before .before .before .before .before .before .before .before .args .id)) (c .before .before .before .before .before .loop .at) (c .before .before .before .known-at .result) (c .before .before .before .known-at .ensures) (c .before .before .before .before .before .loop .inv) ((c .before .before .before .before .loop-test .taken)) in omega (arith, f .0, f .1, c .width-of .ensures))
-    (λ c. subst (λ (k : ℕ). Searched (c .before .before .before .before .before .before .before .before .args .t .now) (has-record-id (c .before .before .before .before .before .before .before .before .args .id)) (id-taken (unit (c .before .before .before .before .before .before .before .before .args .t .now) .parts) (c .before .before .before .before .before .before .before .before .args .id)) (c .before .before .before .before .before .loop .at + k)) (sym (c .width-of .ensures)) (searched-on (c .before .before .before .before .before .before .before .before .args .t .now) (has-record-id (c .before .before .before .before .before .before .before .before .args .id)) (id-taken (unit (c .before .before .before .before .before .before .before .before .args .t .now) .parts) (c .before .before .before .before .before .before .before .before .args .id)) (c .before .before .before .before .before .loop .at) (c .before .before .before .known-at .result) (c .before .before .before .known-at .ensures) (c .before .before .before .before .before .loop .inv) ((c .before .before .before .before .loop-test .taken)) (eqb (idOf (c .before .before .before .known-at .result)) (c .before .before .before .before .before .before .before .before .args .id)) (ap (λ (k : ℕ). eqb k (c .before .before .before .before .before .before .before .before .args .id)) (id-same (body (drop (c .before .before .before .before .before .loop .at) (c .before .before .before .before .before .before .before .before .args .t .now))) (c .before .before .before .known-at .result))) (ne-eqb _ _ (λ e. (c .before .if2 .left) (c .before .before .id-of .ensures ∙ e)))))
-    (λ c. sym (searched-end (c .before .before .before .before .args .t .now) (has-record-id (c .before .before .before .before .args .id)) (id-taken (unit (c .before .before .before .before .args .t .now) .parts) (c .before .before .before .before .args .id)) (c .before .loop .at) (c .before .loop .inv) (c .loop-test .left))))
+    has-id-requires
+    returns-2
+    add-at
+    loop-less
+    loop-again
+    returns-3)

@@ -1,15 +1,18 @@
-use borrow.Author.Needs.{needs}
+use borrow.Author.Tests.{eq-eqb, ne-eqb}
 use Rattle.rewrite_marks.proofs.inside_of.Statement.{statement}
 use Rattle.rewrite_marks.proofs.inside_of.Tie as tie
 
+-- src/lib.rt:19:9, return source;
+returns : tie.Need-returns
+returns c = simp (eq-eqb _ _ (c .if1 .taken))
+
+-- src/lib.rt:21:20, !source
+returns-2 : tie.Need-returns-2
+returns-2 c = simp (ne-eqb _ _ (c .before .if1 .left), eq-eqb _ _ (c .if2 .taken))
+
+-- src/lib.rt:21:37, inside
+returns-3 : tie.Need-returns-3
+returns-3 c = simp (ne-eqb _ _ (c .before .if1 .left), ne-eqb _ _ (c .if2 .left))
+
 pub inside-of-spec : {M : Type 1} → statement M
-inside-of-spec =
-    tie.close
-    (tie.spec
-    (λ c. search needs)
-    (λ c κs. search needs)
-    (λ c. search needs)
-    (λ c. search needs)
-    (λ c. simp (c .before .before .r .given .1, c .inside-in .ensures))
-    (λ c. search needs)
-    (λ c. search needs))
+inside-of-spec = tie.close (tie.spec returns returns-2 returns-3)

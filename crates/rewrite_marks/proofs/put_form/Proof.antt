@@ -1,15 +1,44 @@
 use Rattle.places.specs.Markers.{item-at}
-use Rattle.rewrite_marks.proofs.FormLaws.{formed-half, formed-none}
+use Rattle.rewrite_marks.proofs.FormLaws.{formed-outside, formed-half, formed-none}
 use borrow.Author.Needs.{needs}
 use Rattle.rewrite_marks.proofs.put_form.Statement.{statement}
 use Rattle.rewrite_marks.proofs.put_form.Tie as tie
+
+-- src/lib.rt:77:17, the mark of a half of the id
+returns : tie.Need-returns
+returns c =
+    let put = c .before .before in
+    let class = put .before in
+    let test = class .before .before in
+    let half = test .before .half-of in
+    let key = test .before .before .key-at in
+    let outer = test .before .before .before in
+    let args = outer .before .before .before .args in
+    let x = item-at (args .t .now) (args .at) in
+    formed-half (args .inside) (args .id) (args .p) x (args .out .now) (args .at) (key .result) (half .result) (key .ensures) (half .ensures)
+    (class .class-of .result) (put .put-half .last .0) (class .class-of .ensures) (outer .if1 .taken) (test .if2 .taken) (put .put-half .ensures .1)
+
+-- src/lib.rt:76:9, an item that is no half of the id
+returns-2 : tie.Need-returns-2
+returns-2 c =
+    let half = c .before .half-of in
+    let key = c .before .before .key-at in
+    let args = c .before .before .before .before .before .before .args in
+    let x = item-at (args .t .now) (args .at) in
+    formed-none (args .inside) (args .id) (args .p) x (args .out .now) (args .at) (key .result) (half .result) (key .ensures) (half .ensures) (c .if2 .left)
+
+-- src/lib.rt:73:5, an item outside the contents of the side
+returns-3 : tie.Need-returns-3
+returns-3 c =
+    let args = c .before .before .before .args in
+    formed-outside (args .inside) (args .id) (args .p) (item-at (args .t .now) (args .at)) (args .out .now) (args .at) (c .if1 .left)
 
 pub put-form-spec : {M : Type 1} → statement M
 put-form-spec =
     tie.close
     (tie.spec
-    (λ c κs. search needs)
-    (λ c κs. search needs)
-    (λ c. search needs)
-    (λ c. formed-half (c .before .before .before .before .before .before .before .before .before .before .args .inside) (c .before .before .before .before .before .before .before .before .before .before .args .id) (c .before .before .before .before .before .before .before .before .before .before .args .p) (item-at (c .before .before .before .before .before .before .before .before .before .before .args .t .now) (c .before .before .before .before .before .before .before .before .before .before .args .at)) (c .before .before .before .before .before .before .before .view-at .result) (c .before .before .before .before .before .before .before .before .before .before .args .out .now) (c .before .before .before .before .before .before .before .before .before .before .args .at) (c .before .before .before .before .before .before .before .view-at .ensures) (c .before .before .put-half .last .0) (c .before .before .before .before .if1 .taken) (c .before .before .put-half .ensures .1))
-    (λ c. formed-none (c .before .before .before .before .before .before .args .inside) (c .before .before .before .before .before .before .args .id) (c .before .before .before .before .before .before .args .p) (item-at (c .before .before .before .before .before .before .args .t .now) (c .before .before .before .before .before .before .args .at)) (c .before .before .before .view-at .result) (c .before .before .before .before .before .before .args .out .now) (c .before .before .before .before .before .before .args .at) (c .before .before .before .view-at .ensures) (c .if1 .left)))
+    -- by search: key-at-requires 74:13, half-of-requires 75:13, class-of-requires 77:39, put-half-requires 77:17, same-length 69:1
+    (λ c κs. search needs) (λ c κs. search needs) (λ c κs. search needs) (λ c κs. search needs) (λ c. search needs)
+    returns
+    returns-2
+    returns-3)

@@ -1,7 +1,7 @@
 use Prim.Native.Nat.{_-_}
 use lib.ListN.{length}
 use native.Mathlib.Omega.{arith}
-use Rattle.orders.proofs.WalkLaws.{stepped}
+use Rattle.orders.proofs.WalkLaws.{walked}
 use Rattle.rewrite_marks.proofs.WalkLaws.{Written, written-start, written-length, written-on, written-end, two-left}
 use borrow.Author.Needs.{needs}
 use Rattle.rewrite_marks.proofs.put_forms.Statement.{statement}
@@ -13,19 +13,89 @@ Inv-loop out₀ t source id p at₀ inside₀ out at inside = Written id p t sou
 abbrev μ-loop : tie.MeasureT-loop
 μ-loop out₀ t source id p at₀ inside₀ out at inside = length t - at
 
+-- src/lib.rt:89:5, while at < t.len()
+loop-holds : tie.Need-loop-holds Inv-loop μ-loop
+loop-holds c =
+    let start = c .before .before in
+    let args = start .args in
+    written-start (args .id) (args .p) (args .t .now) (args .source) (args .out .now) (start .pre .0) (start .pre .1)
+
+-- src/lib.rt:91:9, put_form(out, t, at, inside, id, p);
+put-form-requires : tie.Need-put-form-requires Inv-loop μ-loop
+put-form-requires c κs =
+    let call = c .before in
+    let loop = call .before .before .loop in
+    let start = call .before .before .before .before .before in
+    let args = start .args in
+    let t = args .t .now in
+    let v = walked t (loop .at) (loop .inv .left) (call .glance-at .result) (loop .inv .here) (call .before .loop-test .taken) (call .glance-at .ensures) in
+    omega (
+      arith,
+      start .pre .2,
+      written-length (args .id) (args .p) t (args .source) (args .out .now) (loop .at) (loop .inside) (loop .out) (loop .inv) (start .pre .2),
+      two-left (args .id) (args .p) t (args .source) (args .out .now) (loop .at) (loop .inside) (loop .out) (loop .inv) (v .step),
+    )
+
+-- src/lib.rt:93:9, at += g.width;
+add-at : tie.Need-add-at Inv-loop μ-loop
+add-at c =
+    let call = c .before .before .before .before .before .before in
+    let loop = call .before .before .loop in
+    let t = call .before .before .before .before .before .args .t .now in
+    let v = walked t (loop .at) (loop .inv .left) (call .glance-at .result) (loop .inv .here) (call .before .loop-test .taken) (call .glance-at .ensures) in
+    omega (arith, v .fits)
+
+-- src/lib.rt:89:5, while at < t.len()
+loop-less : tie.Need-loop-less Inv-loop μ-loop
+loop-less c =
+    let call = c .before .before .before .before .before .before in
+    let loop = call .before .before .loop in
+    let t = call .before .before .before .before .before .args .t .now in
+    let v = walked t (loop .at) (loop .inv .left) (call .glance-at .result) (loop .inv .here) (call .before .loop-test .taken) (call .glance-at .ensures) in
+    omega (arith, v .fits, v .moves)
+
+-- src/lib.rt:89:5, while at < t.len()
+loop-again : tie.Need-loop-again Inv-loop μ-loop
+loop-again c =
+    let form = c .before .before .before .before .put-form in
+    let call = c .before .before .before .before .before .before in
+    let loop = call .before .before .loop in
+    let args = call .before .before .before .before .before .args in
+    let t = args .t .now in
+    let g = call .glance-at .result in
+    let v = walked t (loop .at) (loop .inv .left) g (loop .inv .here) (call .before .loop-test .taken) (call .glance-at .ensures) in
+    rw (c .before .inside-of .ensures)
+    (written-on (args .id) (args .p) t (args .source) (args .out .now) (loop .at) (loop .inside) (loop .out) (loop .inv) g v (form .last .0) (form .ensures))
+
+-- src/lib.rt:83:1, the output keeps its length
+same-length : tie.Need-same-length Inv-loop μ-loop
+same-length c =
+    let loop = c .before .loop in
+    let start = c .before .before .before .before in
+    let args = start .args in
+    written-length (args .id) (args .p) (args .t .now) (args .source) (args .out .now) (loop .at) (loop .inside) (loop .out) (loop .inv) (start .pre .2)
+
+-- src/lib.rt:83:1, at the end all marks are written
+returns : tie.Need-returns Inv-loop μ-loop
+returns c =
+    let loop = c .before .loop in
+    let args = c .before .before .before .before .args in
+    written-end (args .id) (args .p) (args .t .now) (args .source) (args .out .now) (loop .at) (loop .inside) (loop .out) (loop .inv) (c .loop-test .left)
+
 pub put-forms-spec : {M : Type 1} → statement M
 put-forms-spec =
     tie.close
     (tie.spec
     Inv-loop
     μ-loop
-    (λ c. written-start (c .before .before .args .id) (c .before .before .args .p) (c .before .before .args .t .now) (c .before .before .args .source) (c .before .before .args .out .now) (c .before .before .pre .0) (c .before .before .pre .1))
+    loop-holds
+    -- glance-at-requires 90:13: the table is lent
     (λ c κs. search needs)
-    (λ c κs. let s = stepped (c .before .before .before .before .before .before .args .t .now) (c .before .before .before .loop .at) ((c .before .before .before .loop .inv .left)) (c .before .known-at .result) (c .before .before .before .loop .inv .here) (c .before .before .loop-test .taken) (c .before .known-at .ensures) in omega (arith, (c .before .before .before .before .before .before .pre .2), written-length (c .before .before .before .before .before .before .args .id) (c .before .before .before .before .before .before .args .p) (c .before .before .before .before .before .before .args .t .now) (c .before .before .before .before .before .before .args .source) (c .before .before .before .before .before .before .args .out .now) (c .before .before .before .loop .at) (c .before .before .before .loop .inside) (c .before .before .before .loop .out) (c .before .before .before .loop .inv) (c .before .before .before .before .before .before .pre .2), two-left (c .before .before .before .before .before .before .args .id) (c .before .before .before .before .before .before .args .p) (c .before .before .before .before .before .before .args .t .now) (c .before .before .before .before .before .before .args .source) (c .before .before .before .before .before .before .args .out .now) (c .before .before .before .loop .at) (c .before .before .before .loop .inside) (c .before .before .before .loop .out) (c .before .before .before .loop .inv) (c .before .known-at .result) s))
+    put-form-requires
+    -- inside-of-requires 92:9: nothing is asked
     (λ c κs. search needs)
-    (λ c κs. search needs)
-    (λ c. let s = stepped (c .before .before .before .before .before .before .before .before .before .before .before .args .t .now) (c .before .before .before .before .before .before .before .before .loop .at) ((c .before .before .before .before .before .before .before .before .loop .inv .left)) (c .before .before .before .before .before .before .known-at .result) (c .before .before .before .before .before .before .before .before .loop .inv .here) (c .before .before .before .before .before .before .before .loop-test .taken) (c .before .before .before .before .before .before .known-at .ensures) in omega (arith, s .fits, (c .width-of .ensures)))
-    (λ c. let s = stepped (c .before .before .before .before .before .before .before .before .before .before .before .args .t .now) (c .before .before .before .before .before .before .before .before .loop .at) ((c .before .before .before .before .before .before .before .before .loop .inv .left)) (c .before .before .before .before .before .before .known-at .result) (c .before .before .before .before .before .before .before .before .loop .inv .here) (c .before .before .before .before .before .before .before .loop-test .taken) (c .before .before .before .before .before .before .known-at .ensures) in omega (arith, s .fits, s .moves, (c .width-of .ensures)))
-    (λ c. let s = stepped (c .before .before .before .before .before .before .before .before .before .before .before .args .t .now) (c .before .before .before .before .before .before .before .before .loop .at) ((c .before .before .before .before .before .before .before .before .loop .inv .left)) (c .before .before .before .before .before .before .known-at .result) (c .before .before .before .before .before .before .before .before .loop .inv .here) (c .before .before .before .before .before .before .before .loop-test .taken) (c .before .before .before .before .before .before .known-at .ensures) in rw ((c .before .inside-of .ensures), (c .width-of .ensures)) (written-on (c .before .before .before .before .before .before .before .before .before .before .before .args .id) (c .before .before .before .before .before .before .before .before .before .before .before .args .p) (c .before .before .before .before .before .before .before .before .before .before .before .args .t .now) (c .before .before .before .before .before .before .before .before .before .before .before .args .source) (c .before .before .before .before .before .before .before .before .before .before .before .args .out .now) (c .before .before .before .before .before .before .before .before .loop .at) (c .before .before .before .before .before .before .before .before .loop .inside) (c .before .before .before .before .before .before .before .before .loop .out) (c .before .before .before .before .before .before .before .before .loop .inv) (c .before .before .before .before .before .before .known-at .result) s (c .before .before .before .before .put-form .last .0) (c .before .before .before .before .put-form .ensures)))
-    (λ c. written-length (c .before .before .before .before .args .id) (c .before .before .before .before .args .p) (c .before .before .before .before .args .t .now) (c .before .before .before .before .args .source) (c .before .before .before .before .args .out .now) (c .before .loop .at) (c .before .loop .inside) (c .before .loop .out) (c .before .loop .inv) (c .before .before .before .before .pre .2))
-    (λ c. written-end (c .before .before .before .before .args .id) (c .before .before .before .before .args .p) (c .before .before .before .before .args .t .now) (c .before .before .before .before .args .source) (c .before .before .before .before .args .out .now) (c .before .loop .at) (c .before .loop .inside) (c .before .loop .out) (c .before .loop .inv) (c .loop-test .left)))
+    add-at
+    loop-less
+    loop-again
+    same-length
+    returns)

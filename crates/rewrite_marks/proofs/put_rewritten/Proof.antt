@@ -7,11 +7,42 @@ use borrow.Author.Needs.{needs}
 use Rattle.rewrite_marks.proofs.put_rewritten.Statement.{statement}
 use Rattle.rewrite_marks.proofs.put_rewritten.Tie as tie
 
+-- src/lib.rt:103:5
+put-forms-requires : tie.Need-put-forms-requires
+put-forms-requires c κs =
+    let start = c .before .before .before .before .before .before .before in
+    let pre = start .pre in
+    let put = c .before .before .before .put in (
+      pre .0,
+      copied (start .args .t .now) (start .args .out .now) (put .last .0) (put .ensures .1),
+      omega (arith, pre .1, put .kept .0),
+    )
+
+-- src/lib.rt:98:1
+returns : tie.Need-returns
+returns c =
+    let after-put = c .before .before .before .before .before .before in
+    let start = after-put .before .before .before .before in
+    let args = start .args in
+    let id = args .id in
+    let form = args .form in
+    let t = args .t .now in
+    let side = args .side in
+    let pre = start .pre in
+    let put = after-put .put in
+    let put-forms = c .before .before .put-forms in (
+      put .ensures .0 ∙ sym (length-kept id (form-of form) t side (pre .0)),
+      result-wrote t side id form (pre .0) (args .out .now) (put .last .0) (put-forms .last .0) (put .ensures .1)
+          (put-forms .ensures),
+    )
+
 pub put-rewritten-spec : {M : Type 1} → statement M
 put-rewritten-spec =
     tie.close
     (tie.spec
+    -- by search: put-requires 102:9
     (λ c κs. search needs)
-    (λ c κs. ((c .before .before .before .before .before .before .before .pre .0), copied (c .before .before .before .before .before .before .before .args .t .now) (c .before .before .before .before .before .before .before .args .out .now) (c .before .before .before .put .last .0) (c .before .before .before .put .ensures .1), omega (arith, (c .before .before .before .before .before .before .before .pre .1), (c .before .before .before .put .kept .0))))
+    put-forms-requires
+    -- by search: same-length 98:1
     (λ c. search needs)
-    (λ c. ((c .before .before .before .before .before .before .put .ensures .0) ∙ sym (length-kept (c .before .before .before .before .before .before .before .before .before .before .args .id) (form-of (c .before .before .before .before .before .before .before .before .before .before .args .form)) (c .before .before .before .before .before .before .before .before .before .before .args .t .now) (c .before .before .before .before .before .before .before .before .before .before .args .side) (c .before .before .before .before .before .before .before .before .before .before .pre .0)), result-wrote (c .before .before .before .before .before .before .before .before .before .before .args .t .now) (c .before .before .before .before .before .before .before .before .before .before .args .side) (c .before .before .before .before .before .before .before .before .before .before .args .id) (c .before .before .before .before .before .before .before .before .before .before .args .form) (c .before .before .before .before .before .before .before .before .before .before .pre .0) (c .before .before .before .before .before .before .before .before .before .before .args .out .now) (c .before .before .before .before .before .before .put .last .0) (c .before .before .put-forms .last .0) (c .before .before .before .before .before .before .put .ensures .1) (c .before .before .put-forms .ensures))))
+    returns)
