@@ -4,7 +4,7 @@ ghost use mathlib.Core.Bool.{true, false};
 ghost use Prim.Native.Nat.{_+_, _-_, _*_, _<_, _≤_};
 ghost use lib.ListN.{length, drop};
 ghost use Rattle.text.specs.Utf8.{xmlChar, pointIf, twoOf, threeOf, fourOf, charOf, textOk};
-ghost use Rattle.text.specs.Blocks.{pairFits, pairsFit, PassedText};
+ghost use Rattle.text.specs.Blocks.{pairFits, tripleFits, opensBlock, pairAt, tripleAt, allFit, PassedText};
 
 pub fn xml_char(c: u32) -> bool
     ensures { λ r. ⌜ r ≡ xmlChar c ⌝ }
@@ -112,7 +112,7 @@ fn pair_fits(c: u8, d: u8) -> bool
 // Whether sixteen bytes from `at` on fit, each with the next. No branch: compiled to a few wide instructions.
 fn block_fits(t: &[u8], at: usize) -> bool
     requires { ⌜ at + 17 ≤ length (now t) ⌝ }
-    ensures { λ r. ⌜ r ≡ pairsFit 16 (drop at (now (t .entry))) ⌝ }
+    ensures { λ r. ⌜ r ≡ allFit pairAt 16 (drop at (now (t .entry))) ⌝ }
 {
     let mut ok = true;
     let mut i: usize = 0;
@@ -121,6 +121,43 @@ fn block_fits(t: &[u8], at: usize) -> bool
         i += 1;
     }
     ok
+}
+
+// As `pair_fits`, for characters of three bytes too: `e` is a byte behind a first just where `d` is a first, or `c` the first of three.
+// Barred: behind E0 a form too long, behind ED a surrogate, behind EF a BF, where XML does not allow all.
+fn triple_fits(c: u8, d: u8, e: u8) -> bool
+    ensures { λ r. ⌜ r ≡ tripleFits c d e ⌝ }
+{
+    let led = (194 <= d) | (224 <= c);
+    let behind = (128 <= e) & (e <= 191);
+    let barred = ((c == 0xE0) & (d < 0xA0))
+        | ((c == 0xED) & (0x9F < d))
+        | ((c == 0xEF) & (d == 0xBF));
+    ((32 <= c) & (c <= 239))
+        & (!((c == 192) | (c == 193)) & (!barred & ((led & behind) | (!led & !behind))))
+}
+
+// Whether sixteen bytes from `at` on fit, each with the next two. No branch here either.
+fn wide_block_fits(t: &[u8], at: usize) -> bool
+    requires { ⌜ at + 18 ≤ length (now t) ⌝ }
+    ensures { λ r. ⌜ r ≡ allFit tripleAt 16 (drop at (now (t .entry))) ⌝ }
+{
+    let mut ok = true;
+    let mut i: usize = 0;
+    while i < 16 {
+        ok = ok & triple_fits(t[at + i], t[at + i + 1], t[at + i + 2]);
+        i += 1;
+    }
+    ok
+}
+
+// Whether `b` is the first byte of a character, and `c` is a byte behind a first just where `b` is the first of more than one.
+fn opens_block(b: u8, c: u8) -> bool
+    ensures { λ r. ⌜ r ≡ opensBlock b c ⌝ }
+{
+    let first = 194 <= b;
+    let behind = (128 <= c) & (c <= 191);
+    !((128 <= b) & (b <= 191)) & ((first & behind) | (!first & !behind))
 }
 
 // How far characters that XML allows were passed; or not one of them.
@@ -156,12 +193,31 @@ fn pass_each(t: &[u8], from: usize, until: usize) -> Passed
     Passed::To(at)
 }
 
-// Some sixteen bytes of characters from `at` on: at once, where they are of one or two bytes each, else one by one.
+// Some sixteen bytes of characters from `at` on: at once, where they are of one to three bytes each, else one by one.
+fn pass_wide(t: &[u8], at: usize) -> Passed
+    requires { ⌜ at + 18 ≤ length (now t) ⌝ }
+    ensures { λ r. ⌜ PassedText (now (t .entry)) at r ⌝ }
+{
+    if opens_block(t[at], t[at + 1]) & wide_block_fits(t, at) {
+        let d = t[at + 16];
+        let e = t[at + 17];
+        if (128 <= d) & (d <= 191) {
+            if (128 <= e) & (e <= 191) {
+                return Passed::To(at + 18);
+            }
+            return Passed::To(at + 17);
+        }
+        return Passed::To(at + 16);
+    }
+    pass_each(t, at, at + 16)
+}
+
+// As `pass_wide`, up to the end of the text. A shorter test comes first, for characters of one or two bytes.
 fn pass_some(t: &[u8], at: usize) -> Passed
     requires { ⌜ at < length (now t) ⌝ }
     ensures { λ r. ⌜ PassedText (now (t .entry)) at r ⌝ }
 {
-    if t.len() - at < 17 {
+    if t.len() - at < 18 {
         return pass_each(t, at, t.len());
     }
     let b = t[at];
@@ -172,7 +228,7 @@ fn pass_some(t: &[u8], at: usize) -> Passed
         }
         return Passed::To(at + 16);
     }
-    pass_each(t, at, at + 16)
+    pass_wide(t, at)
 }
 
 // Whether `t` is UTF-8 of characters that XML allows.

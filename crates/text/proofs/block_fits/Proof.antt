@@ -1,19 +1,45 @@
 use lib.ListN.{length, drop}
 use native.Mathlib.Omega.{arith}
-use mathlib.Core.Bool.{Bool, _&&_}
-use mathlib.Core.Path.{_≡_, sym, _∙_, ap}
-use Prim.Native.Nat.{ℕ, _+_, _-_, _≤_}
-use Rattle.text.specs.Blocks.{pairFits, pairsFit}
-use Rattle.text.proofs.BlockLaws.{pairs-on, pairs-end}
+use mathlib.Core.Bool.{_&&_}
+use mathlib.Core.Path.{_≡_, _∙_}
+use Prim.Native.Nat.{_+_, _-_, _≤_}
+use Rattle.text.specs.Blocks.{pairAt, allFit}
+use Rattle.text.proofs.BlockLaws.{fits-start, fits-on, fits-end}
+use Rattle.text.proofs.PairLaws.{pair-at}
 use borrow.Author.Needs.{needs}
 use Rattle.text.proofs.block_fits.Statement.{statement}
 use Rattle.text.proofs.block_fits.Tie as tie
 
 abbrev Inv-loop : tie.InvT-loop
-Inv-loop t at ok₀ i₀ ok i = (i ≤ 16) × (pairsFit 16 (drop at t) ≡ (ok && pairsFit (16 - i) (drop (at + i) t)))
+Inv-loop t at ok₀ i₀ ok i =
+    (i ≤ 16) × (allFit pairAt 16 (drop at t) ≡ (ok && allFit pairAt (16 - i) (drop (at + i) t)))
 
 abbrev μ-loop : tie.MeasureT-loop
 μ-loop t at ok₀ i₀ ok i = 16 - i
+
+-- src/lib.rt:119:5
+loop-holds : tie.Need-loop-holds Inv-loop μ-loop
+loop-holds c = (omega arith, fits-start pairAt (c .before .args .t .now) (c .before .args .at) 16)
+
+-- src/lib.rt:119:5
+loop-again : tie.Need-loop-again Inv-loop μ-loop
+loop-again c =
+    let args = c .before .before .before .before .before .before .args in
+    let t = args .t .now in
+    let at₀ = args .at in
+    let loop = c .before .before .before .before .loop in
+    let loop-test = c .before .before .before .loop-test in (
+      omega arith,
+      fits-on pairAt t at₀ 16 (loop .i) _ (loop .ok) (c .pair-fits .result) (loop-test .taken) (loop .inv .1)
+          (c .pair-fits .ensures ∙ pair-at (at₀ + loop .i) t),
+    )
+
+-- src/lib.rt:113:1
+returns : tie.Need-returns Inv-loop μ-loop
+returns c =
+    let args = c .before .before .before .args in
+    let loop = c .before .loop in
+    fits-end pairAt (args .t .now) (args .at) 16 (loop .i) _ (loop .ok) (c .loop-test .left) (loop .inv .1)
 
 pub block-fits-spec : {M : Type 1} → statement M
 block-fits-spec =
@@ -21,14 +47,11 @@ block-fits-spec =
     (tie.spec
     Inv-loop
     μ-loop
-    (λ c. (omega arith, ap (λ (k : ℕ). pairsFit 16 (drop k (c .before .args .t .now))) (let z : c .before .args .at ≡ c .before .args .at + 0 = omega arith in z)))
-    (λ c. search needs)
-    (λ c. search needs)
-    (λ c. search needs)
-    (λ c. search needs)
-    (λ c. search needs)
-    (λ c κs. search needs)
-    (λ c. search needs)
-    (λ c. search needs)
-    (λ c. (omega arith, pairs-on (c .before .before .before .before .before .before .args .t .now) (c .before .before .before .before .before .before .args .at) (c .before .before .before .before .loop .i) _ (c .before .before .before .before .loop .ok) (c .before .before .before .loop-test .taken) (c .before .before .before .before .loop .inv .1) ∙ ap (λ (b : Bool). ((c .before .before .before .before .loop .ok && b) && pairsFit (16 - (c .before .before .before .before .loop .i + 1)) (drop (c .before .before .before .before .before .before .args .at + (c .before .before .before .before .loop .i + 1)) (c .before .before .before .before .before .before .args .t .now)))) (sym (c .pair-fits .ensures))))
-    (λ c. pairs-end (c .before .before .before .args .t .now) (c .before .before .before .args .at) (c .before .loop .i) _ (c .before .loop .ok) (c .loop-test .left) (c .before .loop .inv .1)))
+    loop-holds
+    -- by search: add-pair-fits 120:31, shared-slice-read-pair-fits 120:29, add-pair-fits-2 120:42,
+    -- add-pair-fits-3 120:42, shared-slice-read-pair-fits-2 120:40, pair-fits-requires 120:19, add-i 121:9,
+    -- loop-less 119:5
+    (λ c. search needs) (λ c. search needs) (λ c. search needs) (λ c. search needs) (λ c. search needs)
+    (λ c κs. search needs) (λ c. search needs) (λ c. search needs)
+    loop-again
+    returns)

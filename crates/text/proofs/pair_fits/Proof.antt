@@ -5,4 +5,8 @@ use Rattle.text.proofs.pair_fits.Tie as tie
 
 pub pair-fits-spec : {M : Type 1} → statement M
 unfolding pairFits
-pair-fits-spec = tie.close (tie.spec (λ c. refl))
+pair-fits-spec =
+    tie.close
+    (tie.spec
+    -- by one step: returns 103:1
+    (λ c. refl))

@@ -18,27 +18,103 @@ Inv-loop t from until at₀ at = (from ≤ at) × (at ≤ length t) × (textOk (
 abbrev μ-loop : tie.MeasureT-loop
 μ-loop t from until at₀ at = length t - at
 
+-- src/lib.rt:175:5
+loop-holds : tie.Need-loop-holds Inv-loop μ-loop
+loop-holds c = (omega arith, omega arith, refl)
+
+-- src/lib.rt:175:5
+loop-again : tie.Need-loop-again Inv-loop μ-loop
+loop-again c =
+    let t = c .before .before .before .before .before .args .t .now in
+    let loop = c .before .before .before .loop in
+    (omega arith, omega arith, loop .inv .2 ∙ plain-on t (loop .at) (omega arith) (c .if1 .taken))
+
+-- src/lib.rt:183:25
+returns : tie.Need-returns Inv-loop μ-loop
+returns c =
+    let after-char-of = c .before .before .before .before .before in
+    let after-loop = after-char-of .before .before .before .before .before in
+    let t = after-loop .before .before .args .t .now in
+    let loop = after-loop .loop in
+    let char-of = after-char-of .char-of in
+    let c-call = c .before .before .before .c in
+    loop .inv .2
+    ∙ text-off t (loop .at) _ _ (sym (simp tail-is at (char-of .ensures)) ∙ c-call .given .1)
+    (sym (c .before .xml-char .ensures) ∙ not-true _ (c .if2 .taken))
+
+-- src/lib.rt:185:21
+add-at-2 : tie.Need-add-at-2 Inv-loop μ-loop
+add-at-2 c =
+    let after-char-of = c .before .before .before .before .before in
+    let after-loop = after-char-of .before .before .before .before .before in
+    let t = after-loop .before .before .args .t .now in
+    let loop = after-loop .loop in
+    let char-of = after-char-of .char-of in
+    let c-call = c .before .before .before .c in
+    omega (arith, width-at t (loop .at) _ _ (sym (simp tail-is at (char-of .ensures)) ∙ c-call .given .1))
+
+-- src/lib.rt:175:5
+loop-less-2 : tie.Need-loop-less-2 Inv-loop μ-loop
+loop-less-2 c =
+    let after-char-of = c .before .before .before .before .before in
+    let after-loop = after-char-of .before .before .before .before .before in
+    let t = after-loop .before .before .args .t .now in
+    let loop = after-loop .loop in
+    let char-of = after-char-of .char-of in
+    let c-call = c .before .before .before .c in
+    omega (arith, width-at t (loop .at) _ _ (sym (simp tail-is at (char-of .ensures)) ∙ c-call .given .1))
+
+-- src/lib.rt:175:5
+loop-again-2 : tie.Need-loop-again-2 Inv-loop μ-loop
+loop-again-2 c =
+    let after-char-of = c .before .before .before .before .before in
+    let after-loop = after-char-of .before .before .before .before .before in
+    let t = after-loop .before .before .args .t .now in
+    let loop = after-loop .loop in
+    let char-of = after-char-of .char-of in
+    let c-call = c .before .before .before .c in (
+      omega arith,
+      width-at t (loop .at) _ _ (sym (simp tail-is at (char-of .ensures)) ∙ c-call .given .1) .1,
+      loop .inv .2
+          ∙ text-on t (loop .at) _ _ (sym (simp tail-is at (char-of .ensures)) ∙ c-call .given .1)
+          (sym (c .before .xml-char .ensures) ∙ not-false _ (c .if2 .left)),
+    )
+
+-- src/lib.rt:188:21
+returns-2 : tie.Need-returns-2 Inv-loop μ-loop
+returns-2 c =
+    let after-loop = c .before .before .before .before .before .before .before in
+    let t = after-loop .before .before .args .t .now in
+    let loop = after-loop .loop in
+    loop .inv .2
+    ∙ text-bad (drop (loop .at) t) (omega (arith, length-drop (loop .at) t))
+    (sym (simp tail-is at (c .before .before .char-of .ensures)) ∙ c .enum-told .given .1)
+
+-- src/lib.rt:170:1
+returns-3 : tie.Need-returns-3 Inv-loop μ-loop
+returns-3 c =
+    let loop = c .before .loop in
+    (omega arith, loop .inv .1, loop .inv .2)
+
 pub pass-each-spec : {M : Type 1} → statement M
 pass-each-spec =
     tie.close
     (tie.spec
     Inv-loop
     μ-loop
-    (λ c. (omega arith, omega arith, refl))
-    (λ c. search needs)
-    (λ c. search needs)
-    (λ c. search needs)
-    (λ c. (omega arith, omega arith, c .before .before .before .loop .inv .2 ∙ plain-on (c .before .before .before .before .before .args .t .now) (c .before .before .before .loop .at) (omega arith) (c .if1 .taken)))
-    (λ c. search needs)
-    (λ c. search needs)
-    (λ c. search needs)
+    loop-holds
+    -- by search: shared-slice-read-b 176:17, add-at 178:13, loop-less 175:5
+    (λ c. search needs) (λ c. search needs) (λ c. search needs)
+    loop-again
+    -- by search: sub-char-of 180:27, part-char-of-start 180:27, part-char-of-end 180:27, char-of-requires 180:19,
+    -- enum-known-c 181:29, xml-char-requires 182:25
+    (λ c. search needs) (λ c. search needs) (λ c. search needs) (λ c κs. search needs) (λ c. search needs)
     (λ c κs. search needs)
+    returns
+    add-at-2
+    loop-less-2
+    loop-again-2
+    -- by search: enum-told 188:21
     (λ c. search needs)
-    (λ c κs. search needs)
-    (λ c. c .before .before .before .before .before .before .before .before .before .before .loop .inv .2 ∙ text-off (c .before .before .before .before .before .before .before .before .before .before .before .before .args .t .now) (c .before .before .before .before .before .before .before .before .before .before .loop .at) _ _ (sym (simp tail-is at (c .before .before .before .before .before .char-of .ensures)) ∙ c .before .before .before .c .given .1) (sym (c .before .xml-char .ensures) ∙ not-true _ (c .if2 .taken)))
-    (λ c. omega (arith, width-at (c .before .before .before .before .before .before .before .before .before .before .before .before .args .t .now) (c .before .before .before .before .before .before .before .before .before .before .loop .at) _ _ (sym (simp tail-is at (c .before .before .before .before .before .char-of .ensures)) ∙ c .before .before .before .c .given .1)))
-    (λ c. omega (arith, width-at (c .before .before .before .before .before .before .before .before .before .before .before .before .args .t .now) (c .before .before .before .before .before .before .before .before .before .before .loop .at) _ _ (sym (simp tail-is at (c .before .before .before .before .before .char-of .ensures)) ∙ c .before .before .before .c .given .1)))
-    (λ c. (omega arith, width-at (c .before .before .before .before .before .before .before .before .before .before .before .before .args .t .now) (c .before .before .before .before .before .before .before .before .before .before .loop .at) _ _ (sym (simp tail-is at (c .before .before .before .before .before .char-of .ensures)) ∙ c .before .before .before .c .given .1) .1, c .before .before .before .before .before .before .before .before .before .before .loop .inv .2 ∙ text-on (c .before .before .before .before .before .before .before .before .before .before .before .before .args .t .now) (c .before .before .before .before .before .before .before .before .before .before .loop .at) _ _ (sym (simp tail-is at (c .before .before .before .before .before .char-of .ensures)) ∙ c .before .before .before .c .given .1) (sym (c .before .xml-char .ensures) ∙ not-false _ (c .if2 .left))))
-    (λ c. search needs)
-    (λ c. c .before .before .before .before .before .before .before .loop .inv .2 ∙ text-bad (drop (c .before .before .before .before .before .before .before .loop .at) (c .before .before .before .before .before .before .before .before .before .args .t .now)) (omega (arith, length-drop (c .before .before .before .before .before .before .before .loop .at) (c .before .before .before .before .before .before .before .before .before .args .t .now))) (sym (simp tail-is at (c .before .before .char-of .ensures)) ∙ c .enum-told .given .1))
-    (λ c. (omega arith, c .before .loop .inv .1, c .before .loop .inv .2)))
+    returns-2
+    returns-3)
