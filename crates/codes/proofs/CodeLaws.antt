@@ -1,4 +1,5 @@
 -- The code at the head of a good record is the item's, and it has twelve bytes.
+use Rattle.xliff.specs.Good.{GoodItem}
 use Prim.Native.Nat.{ℕ, _≤_}
 use mathlib.Core.Path.{_≡_, refl, ap}
 use mathlib.Core.List.{List, _++_}
@@ -7,7 +8,6 @@ use lib.ListN.{length, length-append}
 use Rattle.xliff.specs.Bytes.{two, four}
 use Rattle.xliff.specs.Item.{Item, start, end, form-P, form-S, text, character, standalone, isolated, pair, annotation-start, annotation-end, mark}
 use Rattle.xliff.specs.Encode.{Record, text-run, inline, code-bytes, field-bytes, record-bytes}
-use Rattle.xliff.proofs.records.Read.{GoodItem}
 use Rattle.walk.specs.Kept.{Inline, an-item, a-text}
 use Rattle.walk.specs.Place.{Begins}
 use Rattle.codes.specs.Codes.{codeAt, code}

@@ -15,7 +15,8 @@ use Rattle.xliff.proofs.lists.Tests.{and-false, or-none}
 use Rattle.places.specs.Passes.{Passes}
 use Rattle.places.specs.Found.{found, found-at, state-after, marker}
 use Rattle.places.specs.Markers.{item-in, is-marked}
-use Rattle.places.proofs.Places.{At, at-end}
+use Rattle.places.specs.Offsets.{At}
+use Rattle.places.proofs.Places.{at-end}
 use Rattle.table.specs.Meaning.{record-meaning, meaning, body}
 use Rattle.table.specs.declared.Record.{Record}
 use Rattle.table.specs.declared.Record.the-variants.{Unit as UnitStart, UnitEnd, Segment, Ignorable, Target, Text, Inline}

@@ -9,7 +9,8 @@ use Rattle.xliff.specs.Encode as encode
 use Rattle.xliff.specs.Encode.{unit-records}
 use Rattle.xliff.specs.Parse.{unit}
 use Rattle.places.specs.Passes.{Passes}
-use Rattle.places.proofs.Places.{At, at-start}
+use Rattle.places.specs.Offsets.{At}
+use Rattle.places.proofs.Places.{at-start}
 use Rattle.glance.specs.declared.Glance.{Glance}
 use Rattle.glance.specs.Glances.{Glanced}
 use Rattle.orders.proofs.WalkLaws.{Walked, walked}

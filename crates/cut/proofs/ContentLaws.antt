@@ -11,10 +11,7 @@ use Rattle.xliff.specs.Text.{utf8, utf8s}
 use Rattle.xliff.specs.Item.{Item, Content, text, character, standalone, isolated, pair, annotation-start, annotation-end}
 use Rattle.xliff.specs.Encode.{Record, text-run, inline, record-bytes, text-before, item-before, content-records, spell, content-bytes}
 use Rattle.xliff.specs.Parse.{content, content-fault, records, alone}
-use Rattle.xliff.proofs.text.Utf8.{Allowed, one-point}
-use Rattle.xliff.proofs.records.Read.{GoodItem}
-use Rattle.xliff.proofs.records.Parse.{AllGood}
-use Rattle.xliff.proofs.lists.Each.{each-nil, each-cons}
+use Rattle.xliff.specs.Good.{each-nil, each-cons, Allowed, one-point, GoodItem, AllGood}
 use Rattle.xliff.proofs.unit.Table.{content-walked, encode-content, shape}
 use Rattle.walk.specs.Kept.{Kept, kept-end, kept-item, kept-text, Holds}
 

@@ -1,4 +1,5 @@
 -- Records cut: one by its bytes, all, and the content that they are of.
+use Rattle.xliff.specs.Good.{GoodItem}
 use Prim.Native.Nat.{ℕ, _+_, _-_, _≤_}
 use mathlib.Core.Path.{_≡_, refl, sym, ap, ap₂, _∙_}
 use mathlib.Core.Bool.{Bool, true, false, _&&_, _||_, cond}
@@ -11,7 +12,6 @@ use Rattle.xliff.specs.Encode.{Record, text-run, inline, code-bytes, field-byte
 use Rattle.xliff.specs.Parse.{reading, take-record}
 use Rattle.xliff.specs.Split.{cut-item}
 use Rattle.xliff.proofs.lists.Tests.{two-value, and-false}
-use Rattle.xliff.proofs.records.Read.{GoodItem}
 use Rattle.xliff.proofs.unit.Table.{starts-text, content-records-text}
 use Rattle.walk.specs.Kept.{Kept, kept-end, kept-item, kept-text, items, Inline, an-item, a-text}
 use Rattle.walk.specs.Marks.{number, kindAt, kind, is-other, has-other}

@@ -13,7 +13,7 @@ use Rattle.xliff.specs.Encode.{Record, text-run, inline, record-bytes, spell, c
 use Rattle.xliff.specs.Parse.{Reading, reading, take-record}
 use Rattle.xliff.specs.Split.{cut-item, first-items, second-items}
 use Rattle.xliff.proofs.lists.Tests.{map-append}
-use Rattle.xliff.proofs.text.Utf8.{Allowed, no-text, one-point}
+use Rattle.xliff.specs.Good.{Allowed, no-text, one-point}
 use Rattle.xliff.proofs.records.Parse.{reading-content, onto}
 use Rattle.walk.specs.Kept.{Kept, kept-end, kept-item, kept-text, Of, Holds, items, an-item}
 use Rattle.walk.specs.Marks.{widthAt, kind, is-other, has-other}

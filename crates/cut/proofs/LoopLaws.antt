@@ -9,9 +9,9 @@ use Rattle.xliff.specs.Bytes.{gather}
 use Rattle.xliff.specs.Item.{Content}
 use Rattle.xliff.specs.Encode.{Record, record-bytes, spell}
 use Rattle.xliff.proofs.lists.Tests.{map-append}
-use Rattle.walk.specs.Kept.{Of}
+use Rattle.walk.specs.Kept.{Of, Rest}
 use Rattle.walk.specs.Marks.{widthAt}
-use Rattle.walk.proofs.WalkLaws.{Rest, Next, rest-start, rest-end}
+use Rattle.walk.proofs.WalkLaws.{Next, rest-start, rest-end}
 use Rattle.xliff.proofs.unit.Pieces.{spell-append}
 use Rattle.writer.specs.Pieces.{lead}
 use Rattle.writer.proofs.PieceLaws.{two-back, lead-length}

@@ -1,4 +1,5 @@
 -- The fixed codes of a content, record by record.
+use Rattle.xliff.specs.Good.{GoodItem}
 use Prim.Native.Nat.{ℕ, _+_, _<_, _≤_}
 use mathlib.Core.Path.{_≡_, refl, sym, ap, ap₂, _∙_, subst}
 use mathlib.Core.Bool.{Bool, true, false, not, true≢false}
@@ -13,10 +14,9 @@ use Rattle.xliff.specs.Encode.{Record, text-run, inline, code-bytes, field-byte
 use Rattle.xliff.specs.Parse.{reading, take-record}
 use Rattle.xliff.specs.SetTarget.{id-and-half, fixed-list}
 use Rattle.xliff.proofs.lists.Tests.{two-value, and-left}
-use Rattle.xliff.proofs.records.Read.{GoodItem}
-use Rattle.walk.specs.Kept.{items, Inline, an-item, a-text}
+use Rattle.walk.specs.Kept.{items, Inline, an-item, a-text, Rest}
 use Rattle.walk.specs.Marks.{number, kindAt, widthAt, kind}
-use Rattle.walk.proofs.WalkLaws.{Rest, Next, item-kind, rest-end, next}
+use Rattle.walk.proofs.WalkLaws.{Next, item-kind, rest-end, next}
 use Rattle.codes.specs.Codes.{codeAt, code}
 use Rattle.codes.proofs.CodeLaws.{code-long}
 use Rattle.fixed_codes.specs.Fixed.{fixedAt, Found}

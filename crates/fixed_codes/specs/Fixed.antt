@@ -9,8 +9,7 @@ use Rattle.xliff.specs.Bytes.{'F', 'N', among, equal}
 use Rattle.xliff.specs.Item.{Content}
 use Rattle.xliff.specs.Encode.{Record}
 use Rattle.xliff.specs.SetTarget.{fixed-list, fixed-differ}
-use Rattle.walk.specs.Kept.{items, Holds}
-use Rattle.walk.proofs.WalkLaws.{Rest}
+use Rattle.walk.specs.Kept.{items, Holds, Rest}
 use Rattle.codes.specs.Codes.{codeAt}
 
 -- the code at the head of t is fixed

@@ -1,13 +1,16 @@
 -- The nearest other half by the keys is that by the items; texts and characters are no halves.
 use Prim.Native.Nat.{ℕ, zero, suc, _-_, _<_}
 use mathlib.Core.Path.{_≡_, refl, ap, ap₂, _∙_}
-use mathlib.Core.Bool.{false, true≢false}
+use mathlib.Core.Bool.{Bool, true, false, cond, true≢false}
 use mathlib.Core.List.{List, [], _∷_}
+use mathlib.Core.Option.{some}
 use native.Mathlib.Omega.{arith}
 use lib.ListN.{length, getD, length-map}
-use Rattle.xliff.specs.Item.{Item, start, end, text, character, standalone, isolated, pair, annotation-start, annotation-end, class, half, other-half}
+use Rattle.xliff.specs.Bytes.{keep}
+use Rattle.xliff.specs.Rules.{nearest}
+use Rattle.xliff.specs.Item.{Item, Content, start, end, text, character, standalone, isolated, pair, annotation-start, annotation-end, class, half, other-half}
 use Rattle.xliff.proofs.lists.Tests.{and-false}
-use Rattle.places.specs.Markers.{item-at, is-marked}
+use Rattle.places.specs.Markers.{item-at, is-marked, marked}
 use Rattle.views.specs.Views.{itemsAt}
 use Rattle.keys.specs.Keys.{key, keysAt, otherKey}
 use Rattle.keys.proofs.KeyLaws.{other-key}
@@ -65,3 +68,14 @@ not-own (pair start w f) = simp and-false
 not-own (pair end w f) = simp and-false
 not-own (annotation-start w i l) = simp and-false
 not-own (annotation-end w i) = simp and-false
+
+-- what does not pass a test is passed over: among the markers the nearest is the same
+pub nearest-marked : (p : Item → Bool) → ((x : Item) → is-marked x ≡ false → p x ≡ false) → (xs : Content) → nearest p xs ≡ nearest p (marked xs)
+unfolding nearest marked keep
+nearest-marked p h [] = refl
+nearest-marked p h (x ∷ xs) = by (is-marked x) refl (nearest-marked p h xs)
+  where
+    by : (b : Bool) → is-marked x ≡ b → nearest p xs ≡ nearest p (keep is-marked xs)
+        → cond (p x) (some x) (nearest p xs) ≡ nearest p (cond b (x ∷ keep is-marked xs) (keep is-marked xs))
+    by true e ih = ap (cond (p x) (some x)) ih
+    by false e ih = rw (h x e) ih

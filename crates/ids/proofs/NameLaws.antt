@@ -16,7 +16,8 @@ use Rattle.xliff.specs.Encode.{record-bytes, unit-records}
 use Rattle.xliff.specs.Parse.{unit, read, is-part}
 use Rattle.xliff.proofs.lists.Tests.{any-append}
 use Rattle.xliff.specs.Rules.{Owner, of-part, of-source, of-target, Named, start-name, clashes, may-share, first-clash, fault-6}
-use Rattle.places.proofs.Places.{At, at-next, at-end}
+use Rattle.places.specs.Offsets.{At}
+use Rattle.places.proofs.Places.{at-next, at-end}
 use Rattle.places.specs.Found.{found, found-at, state-after, head-name, no-name, names-found}
 use Rattle.places.proofs.Found.{rule-6-found}
 use Rattle.table.specs.Meaning.{record-meaning, body}

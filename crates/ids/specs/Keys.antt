@@ -1,4 +1,5 @@
 -- Ids with their owners as numbers.
+use Rattle.places.specs.Offsets.{At}
 use Prim.Native.Nat.{ℕ, _+_, _-_, _*_, _/_, _%_, _<_}
 use mathlib.Core.Path.{_≡_}
 use mathlib.Core.Bool.{Bool, false, not, _&&_, _||_, cond}
@@ -9,7 +10,6 @@ use Rattle.xliff.specs.Encode as encode
 use Rattle.xliff.specs.Parse.{read, is-part}
 use Rattle.xliff.specs.Item as spec
 use Rattle.xliff.specs.Rules.{Owner, of-part, of-source, of-target, Named, start-name}
-use Rattle.places.proofs.Places.{At}
 use Rattle.places.specs.Found.{found-at, head-name, no-name}
 use Rattle.table.specs.Meaning.{half, fields, item, record-meaning, meaning}
 use Rattle.table.specs.declared.Fields.{Fields}

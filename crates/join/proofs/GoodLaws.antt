@@ -13,8 +13,9 @@ use Rattle.xliff.specs.Parse.{unit}
 use Rattle.xliff.specs.Check.{Valid, table-refusal}
 use Rattle.xliff.specs.Focus.{here, order-parts, with-parts}
 use Rattle.xliff.specs.Join.{join-parts, join-order, join-focus}
-use Rattle.xliff.proofs.lists.Each.{each-cons, each-append, each-apart}
-use Rattle.xliff.proofs.unit.Valid.{GoodPart, GoodParts, heads-unit}
+use Rattle.xliff.specs.Good.{each-cons, GoodPart, GoodParts}
+use Rattle.xliff.proofs.lists.Each.{each-append, each-apart}
+use Rattle.xliff.proofs.unit.Valid.{heads-unit}
 use Rattle.xliff.proofs.unit.Result.{Sent, sent, small-table}
 use Rattle.xliff.proofs.operations.SetValid.{some-part}
 use Rattle.xliff.proofs.operations.JoinValid.{part-good, orders-good}

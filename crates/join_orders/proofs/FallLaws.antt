@@ -13,7 +13,8 @@ use Rattle.xliff.specs.Encode.{closing, text-run, inline, content-records, targ
 use Rattle.xliff.specs.Parse.{unit}
 use Rattle.xliff.specs.Join.{highest-unused, lower-above, join-order}
 use Rattle.xliff.proofs.lists.Tests.{any-append}
-use Rattle.places.proofs.Places.{Inner, no-inner, text-inner, inline-inner, content-inner}
+use Rattle.places.specs.Offsets.{Inner, no-inner, text-inner, inline-inner}
+use Rattle.places.proofs.Places.{content-inner}
 use Rattle.table.specs.Meaning.{body}
 use Rattle.table.specs.declared.Read.the-variants.{Good}
 use Rattle.glance.specs.declared.Glance.{Glance}

@@ -12,7 +12,8 @@ use Rattle.xliff.specs.Parse.{unit}
 use Rattle.xliff.specs.Focus.{here, focus, order-target, order-part, order-parts, with-parts}
 use Rattle.xliff.specs.Join.{lower-above, join-targets, join-parts, join-order, join-focus, join-unit}
 use Rattle.xliff.proofs.lists.Tests.{map-append}
-use Rattle.xliff.proofs.unit.Pieces.{spell-append, bytes-of, bytes-append, opened, closed, table-pieces}
+use Rattle.xliff.specs.Good.{bytes-of, opened, closed}
+use Rattle.xliff.proofs.unit.Pieces.{spell-append, bytes-append, table-pieces}
 use Rattle.xliff.proofs.lists.Slices.{tail-is}
 use Rattle.parts.specs.Parts.{moved, ordered, TableOf}
 use Rattle.parts.proofs.TableLaws.{table-opened, table-closed}

@@ -15,10 +15,10 @@ use Rattle.xliff.specs.Item.{Content, text}
 use Rattle.xliff.specs.Encode.{Record, text-run, inline, record-bytes, spell, content-records, content-bytes}
 use Rattle.xliff.specs.Parse.{reading, take-record}
 use Rattle.xliff.proofs.lists.Tests.{two-value, map-append, and-left, and-right}
-use Rattle.xliff.proofs.text.Utf8.{Allowed, one-point}
-use Rattle.walk.specs.Kept.{Kept, kept-end, kept-item, kept-text, Of, Holds, items, Inline, an-item, a-text}
+use Rattle.xliff.specs.Good.{Allowed, one-point}
+use Rattle.walk.specs.Kept.{Kept, kept-end, kept-item, kept-text, Of, Holds, items, Inline, an-item, a-text, Rest}
 use Rattle.walk.specs.Marks.{widthAt, marked, number}
-use Rattle.walk.proofs.WalkLaws.{Rest, Next, next, rest-start, rest-end, inline-least}
+use Rattle.walk.proofs.WalkLaws.{Next, next, rest-start, rest-end, inline-least}
 use Rattle.walk.proofs.TextLaws.{utf8s-append}
 use Rattle.xliff.proofs.unit.Pieces.{spell-append}
 use Rattle.walk.proofs.PlaceLaws.{is-text, kept-items}

@@ -1,4 +1,5 @@
 -- The pieces of two parts of a table, and of the part that they make.
+use Rattle.xliff.specs.Good.{AllGood}
 use Prim.Native.Nat.{ℕ, _+_, _-_, _≤_}
 use mathlib.Core.Path.{_≡_, sym, ap, ap₂, _∙_}
 use mathlib.Core.List.{List, _++_, append-assoc}
@@ -10,7 +11,6 @@ use Rattle.xliff.specs.Encode.{record-bytes, head-bytes, content-records, targe
 use Rattle.xliff.specs.Focus.{order-part}
 use Rattle.xliff.specs.Join.{join-heads, join-parts}
 use Rattle.xliff.proofs.lists.Each.{each-right}
-use Rattle.xliff.proofs.records.Parse.{AllGood}
 use Rattle.xliff.proofs.unit.Pieces.{spell-append}
 use Rattle.xliff.proofs.lists.Slices.{slice-long}
 use Rattle.writer.specs.Pieces.{lead}

@@ -1,4 +1,5 @@
 -- The walks that look for an item: each goes on by one record.
+use Rattle.xliff.specs.Good.{GoodItem, gets}
 use Prim.Native.Nat.{ℕ, suc, _+_, _-_, _<_, _≤_}
 use mathlib.Core.Path.{_≡_, refl, sym, ap, _∙_}
 use mathlib.Core.Bool.{Bool, true, false, not, _&&_, _||_, true≢false}
@@ -12,8 +13,7 @@ use Rattle.xliff.specs.Item.{Item, Content, start, end, text, character, standa
 use Rattle.xliff.specs.Encode.{Record, text-run, inline, record-bytes, spell}
 use Rattle.xliff.specs.Parse.{reading, take-record}
 use Rattle.xliff.specs.SetTarget.{same-flat, is-lost}
-use Rattle.xliff.proofs.lists.Tests.{gets, not-true, not-false, and-false}
-use Rattle.xliff.proofs.records.Read.{GoodItem}
+use Rattle.xliff.proofs.lists.Tests.{not-true, not-false, and-false}
 use Rattle.walk.specs.Kept.{items, Inline, an-item, a-text}
 use Rattle.walk.proofs.WalkLaws.{Next}
 use Rattle.walk.specs.Place.{Begins}

@@ -1,4 +1,5 @@
 -- Two codes are the same when flattened where their numbers and the bytes of their fields are equal.
+use Rattle.xliff.specs.Good.{GoodItem, gets}
 use Prim.Native.Nat.{ℕ, _≤_, _/_, _%_}
 use mathlib.Core.Path.{_≡_, refl, sym, ap, _∙_}
 use mathlib.Core.Bool.{Bool, true, false, not, _&&_, true≢false}
@@ -10,8 +11,7 @@ use Rattle.xliff.specs.Bytes.{two, four, equal, among}
 use Rattle.xliff.specs.Item.{Item, Fields, start, end, form-P, form-S, text, character, standalone, isolated, pair, annotation-start, annotation-end, mark, numbers, code-numbers, same, in-form, flat, class, fields, non-removable}
 use Rattle.xliff.specs.Encode.{inline, code-bytes, field-bytes, record-bytes, text-run}
 use Rattle.xliff.specs.SetTarget.{same-flat}
-use Rattle.xliff.proofs.lists.Tests.{gets, two-value}
-use Rattle.xliff.proofs.records.Read.{GoodItem}
+use Rattle.xliff.proofs.lists.Tests.{two-value}
 use Rattle.codes.specs.Codes.{codeAt, code}
 use Rattle.codes.proofs.CodeLaws.{item-code}
 use Rattle.kept_codes.specs.Lost.{nonRemovableAt, fieldsAt, sameAt, is-code-at}

@@ -1,5 +1,6 @@
 -- Codes that a new content has lost. Document 01, set target: "18: a half or code with canDelete N of [the old content] is not in the new content with
 -- every field equal (marks compared as when flattened)".
+use Rattle.xliff.specs.Good.{gets}
 use Prim.Native.Nat.{ℕ}
 use mathlib.Core.Path.{_≡_}
 use mathlib.Core.Bool.{Bool, not, _&&_}
@@ -10,7 +11,6 @@ use Rattle.xliff.specs.Bytes.{'N', equal, any}
 use Rattle.xliff.specs.Item.{Item, Content, fields}
 use Rattle.xliff.specs.Encode.{Record, code-bytes}
 use Rattle.xliff.specs.SetTarget.{is-lost}
-use Rattle.xliff.proofs.lists.Tests.{gets}
 use Rattle.walk.specs.Kept.{Of, items, Holds}
 use Rattle.codes.specs.Codes.{codeAt, code}
 

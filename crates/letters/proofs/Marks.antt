@@ -9,17 +9,7 @@ use Rattle.xliff.specs.Rules.{nearest, bad-8-target, bad-8-source, fixed-but-fr
 use Rattle.places.specs.Markers.{is-marked, marked, OnMarks}
 use Rattle.places.proofs.Tests.{any-marked}
 use Rattle.places.proofs.Ten.{no-class}
-use Rattle.halves.proofs.Others.{other-unmarked}
-
-nearest-marked : (p : Item → Bool) → ((x : Item) → is-marked x ≡ false → p x ≡ false) → (xs : Content) → nearest p xs ≡ nearest p (marked xs)
-unfolding nearest marked keep
-nearest-marked p h [] = refl
-nearest-marked p h (x ∷ xs) = by (is-marked x) refl (nearest-marked p h xs)
-  where
-    by : (b : Bool) → is-marked x ≡ b → nearest p xs ≡ nearest p (keep is-marked xs)
-        → cond (p x) (some x) (nearest p xs) ≡ nearest p (cond b (x ∷ keep is-marked xs) (keep is-marked xs))
-    by true e ih = ap (cond (p x) (some x)) ih
-    by false e ih = rw (h x e) ih
+use Rattle.halves.proofs.Others.{other-unmarked, nearest-marked}
 
 led-unmarked : (x : Item) → is-marked x ≡ false → is-F x ≡ false
 unfolding is-F among

@@ -16,7 +16,8 @@ use Rattle.xliff.proofs.lists.Tests.{map-append}
 use Rattle.places.specs.Passes.{Passes}
 use Rattle.places.specs.Found.{marker, no-marker, markers, found, found-at, state-after}
 use Rattle.places.specs.Markers.{is-marked, marked, item-in, item-at, placed-at}
-use Rattle.places.proofs.Places.{At, at-start, at-next}
+use Rattle.places.specs.Offsets.{At}
+use Rattle.places.proofs.Places.{at-start, at-next}
 use Rattle.places.proofs.Found.{found-unit, from-part, of-goal}
 use Rattle.places.proofs.Tests.{blamed-marks}
 use Rattle.contents.specs.Contents.{marker-offset, no-offset, barred-found, barred}

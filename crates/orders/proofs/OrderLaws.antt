@@ -15,7 +15,8 @@ use Rattle.xliff.specs.Encode as encode
 use Rattle.xliff.specs.Encode.{target-head, record-bytes, unit-records}
 use Rattle.xliff.specs.Parse.{unit}
 use Rattle.xliff.specs.Rules.{bad-order, fault-5}
-use Rattle.places.proofs.Places.{At, at-end}
+use Rattle.places.specs.Offsets.{At}
+use Rattle.places.proofs.Places.{at-end}
 use Rattle.places.specs.Found.{found, found-at, state-after, orders-found, first-bad-in}
 use Rattle.places.proofs.Found.{rule-5-found}
 use Rattle.table.specs.Meaning.{meaning, width, body}

@@ -1,4 +1,5 @@
 -- A walk over a table that passes, one record further.
+use Rattle.xliff.specs.Good.{each-cons, GoodRecord, AllGood, part-heads}
 use Prim.Native.Nat.{ℕ, _+_, _-_, _≤_, _<_}
 use mathlib.Core.Path.{_≡_, refl, sym, _∙_, ap, subst}
 use mathlib.Core.Bool.{Bool, cond}
@@ -9,9 +10,10 @@ use lib.Dec.{eqb}
 use Rattle.xliff.specs.Encode as encode
 use Rattle.xliff.specs.Encode.{record-bytes, unit-records}
 use Rattle.xliff.specs.Parse.{read, unit, is-part}
-use Rattle.xliff.proofs.unit.Valid.{part-heads, heads-unit}
+use Rattle.xliff.proofs.unit.Valid.{heads-unit}
 use Rattle.places.specs.Passes.{Passes}
-use Rattle.places.proofs.Places.{At, at-next, at-end, at-more}
+use Rattle.places.specs.Offsets.{At}
+use Rattle.places.proofs.Places.{at-next, at-end, at-more}
 use Rattle.table.specs.Meaning.{meaning, width, body}
 use Rattle.table.specs.declared.Record.{Record}
 use Rattle.table.specs.declared.Record.the-variants.{Unit as UnitStart, UnitEnd, Segment, Ignorable, Target, Text, Inline}
@@ -21,9 +23,6 @@ use Rattle.table.specs.Known.{Known}
 use Rattle.table.proofs.ReadLaws.{known-same}
 use Rattle.glance.specs.declared.Glance.{Glance}
 use Rattle.glance.specs.Glances.{headIn, glanceIn, Agrees, on-good, on-ill, on-broken, Glanced}
-use Rattle.xliff.proofs.lists.Each.{each-cons}
-use Rattle.xliff.proofs.records.Read.{GoodRecord}
-use Rattle.xliff.proofs.records.Parse.{AllGood}
 use Rattle.syntax.specs.Stages.{isHead, isPart}
 use Rattle.syntax.proofs.StepLaws.{part-same}
 

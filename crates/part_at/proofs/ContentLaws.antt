@@ -11,7 +11,8 @@ use Rattle.xliff.specs.Encode.{text-run, inline, ill-text, record-bytes, spell}
 use Rattle.xliff.specs.Parse.{read, is-part}
 use Rattle.syntax.specs.Stages.{isPart}
 use Rattle.syntax.proofs.StepLaws.{part-same}
-use Rattle.places.proofs.Places.{At, at-next, at-more, Inner, text-inner, inline-inner}
+use Rattle.places.specs.Offsets.{At, Inner, text-inner, inline-inner}
+use Rattle.places.proofs.Places.{at-next, at-more}
 use Rattle.table.specs.Known.{Known, same-record, some-text}
 use Rattle.table.specs.Meaning.{meaning, width, body}
 use Rattle.table.specs.declared.Record.the-variants.{Unit as UnitStart, UnitEnd, Segment, Ignorable, Target, Text, Inline}

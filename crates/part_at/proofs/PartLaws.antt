@@ -14,7 +14,8 @@ use Rattle.xliff.specs.Focus.{nowhere, here, behind, focus}
 use Rattle.xliff.proofs.lists.Tests.{gather-append}
 use Rattle.places.specs.Passes.{Passes}
 use Rattle.xliff.proofs.unit.Pieces.{spell-append}
-use Rattle.places.proofs.Places.{At, at-start, at-next}
+use Rattle.places.specs.Offsets.{At}
+use Rattle.places.proofs.Places.{at-start, at-next}
 use Rattle.part_at.specs.declared.PartPlace.{PartPlace}
 use Rattle.part_at.specs.declared.FoundPart.the-variants.{At as FoundAt}
 use Rattle.part_at.specs.Stands.{Begins, part-next, end-next, PartFrom, TargetSpan, PartSpan, PartSpans, Slice, TargetStands, PartStands, PartFound}

@@ -1,4 +1,5 @@
 -- The slices of a table around a part, and that of its target.
+use Rattle.xliff.specs.Good.{bytes-of}
 use Prim.Native.Nat.{ℕ, _+_, _-_, _≤_}
 use mathlib.Core.Path.{_≡_, sym, ap, _∙_}
 use mathlib.Core.List.{List, _++_}
@@ -8,7 +9,6 @@ use lib.Seq.{take-add, take-at, drop-at, drop-drop, length-take-le}
 use Rattle.xliff.specs.Bytes.{gather}
 use Rattle.xliff.specs.Unit.{Target, no-target, target, Part}
 use Rattle.xliff.specs.Encode.{closing, target-head, record-bytes, target-records, spell, content-bytes}
-use Rattle.xliff.proofs.unit.Pieces.{bytes-of}
 use Rattle.part_at.specs.declared.PartPlace.{PartPlace}
 use Rattle.part_at.specs.Stands.{TargetStands, PartStands}
 

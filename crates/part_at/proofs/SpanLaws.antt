@@ -9,7 +9,8 @@ use Rattle.xliff.specs.Bytes.{gather}
 use Rattle.xliff.specs.Unit.{Target, no-target, target, Part, has-target}
 use Rattle.xliff.specs.Encode as encode
 use Rattle.xliff.specs.Encode.{opening, closing, part-head, target-head, text-run, inline, ill-text, broken, record-bytes, content-records, target-records, part-records, spell, content-bytes}
-use Rattle.places.proofs.Places.{At, content-inner}
+use Rattle.places.specs.Offsets.{At}
+use Rattle.places.proofs.Places.{content-inner}
 use Rattle.walker.specs.Offsets.{After}
 use Rattle.table.specs.Meaning.{meaning, width, body}
 use Rattle.table.specs.declared.Record.the-variants.{Unit as UnitStart, UnitEnd, Segment, Ignorable, Target as TargetHead, Text, Inline}

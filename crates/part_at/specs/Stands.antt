@@ -1,4 +1,5 @@
 -- Where a part stands in a table.
+use Rattle.places.specs.Offsets.{At}
 use Prim.Native.Nat.{ℕ, _+_, _-_, _≤_}
 use mathlib.Core.Path.{_≡_}
 use mathlib.Core.Bool.{true, false}
@@ -11,7 +12,6 @@ use Rattle.xliff.specs.Encode.{Record, opening, closing, part-head, target-head
 use Rattle.xliff.specs.Parse.{unit}
 use Rattle.xliff.specs.Focus.{Focus, nowhere, here, focus}
 use Rattle.xliff.specs.Check.{table-refusal}
-use Rattle.places.proofs.Places.{At}
 use Rattle.part_at.specs.declared.PartPlace.{PartPlace}
 use Rattle.part_at.specs.declared.FoundPart.{FoundPart}
 use Rattle.part_at.specs.declared.FoundPart.the-variants.{At as FoundAt, Missing}

@@ -9,8 +9,8 @@ use Rattle.xliff.specs.Bytes.{Bytes, no-bytes, one-byte}
 use Rattle.xliff.specs.Item.{Content}
 use Rattle.xliff.specs.Unit.{Target, no-target, target, Part, target-items}
 use Rattle.xliff.specs.Encode.{Record, content-records, target-records, part-records, content-bytes}
-use Rattle.xliff.proofs.lists.Each.{each-cons, each-left, each-right}
-use Rattle.xliff.proofs.records.Parse.{AllGood}
+use Rattle.xliff.specs.Good.{each-cons, AllGood}
+use Rattle.xliff.proofs.lists.Each.{each-left, each-right}
 use Rattle.xliff.proofs.unit.Table.{bytes-drop}
 use Rattle.walk.specs.Kept.{Holds}
 use Rattle.cut.proofs.ContentLaws.{holds-good}

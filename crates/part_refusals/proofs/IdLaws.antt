@@ -1,4 +1,5 @@
 -- An id among the records of a table, and among its parts.
+use Rattle.places.specs.Offsets.{At}
 use Prim.Native.Nat.{ℕ, _+_, _*_, _≤_}
 use mathlib.Core.Path.{_≡_, refl, sym, ap, _∙_, ap₂, subst}
 use mathlib.Core.Bool.{Bool, true, false, not, _&&_, _||_, false≢true}
@@ -16,7 +17,6 @@ use Rattle.xliff.specs.Encode.{opening, closing, part-head, target-head, text-r
 use Rattle.xliff.specs.Parse.{unit}
 use Rattle.xliff.specs.Split.{has-id, part-has-id, id-taken}
 use Rattle.xliff.proofs.lists.Tests.{any-append}
-use Rattle.places.proofs.Places.{At}
 use Rattle.table.specs.Number.{numberAt}
 use Rattle.table.specs.Meaning.{item, record-meaning, body}
 use Rattle.table.specs.declared.Item as read

@@ -15,7 +15,8 @@ use Rattle.xliff.proofs.lists.Tests.{map-append}
 use Rattle.places.specs.Passes.{Passes}
 use Rattle.places.specs.Found.{found, found-at, state-after, marker}
 use Rattle.places.specs.Markers.{is-marked, marked}
-use Rattle.places.proofs.Places.{At, at-start, at-next}
+use Rattle.places.specs.Offsets.{At}
+use Rattle.places.proofs.Places.{at-start, at-next}
 use Rattle.places.proofs.Found.{found-unit, from-part, of-goal, gather-same}
 use Rattle.keys.specs.Keys.{key}
 use Rattle.contents.specs.Contents.{marker-offset, no-offset, barred-found, barred, bar-key, barKeys}

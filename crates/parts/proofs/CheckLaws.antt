@@ -14,15 +14,15 @@ use Rattle.xliff.specs.Sequences.{located}
 use Rattle.xliff.specs.Rules.{bad-order, fault-5}
 use Rattle.xliff.specs.Check.{table-refusal, Valid}
 use Rattle.xliff.proofs.lists.Tests.{and-right}
-use Rattle.xliff.proofs.lists.Each.{Each, each-nil, each-cons, each-left, each-right}
-use Rattle.xliff.proofs.records.Parse.{AllGood}
+use Rattle.xliff.specs.Good.{Each, each-nil, each-cons, AllGood, bytes-of, opened, closed}
+use Rattle.xliff.proofs.lists.Each.{each-left, each-right}
 use Rattle.xliff.proofs.records.Fits.{bytes-left, bytes-right}
 use Rattle.xliff.proofs.rules.Orders.{orders-fit, rule-5, order-fits}
 use Rattle.xliff.proofs.unit.Table.{encode-unit}
 use Rattle.xliff.proofs.unit.Valid.{ready-parts}
 use Rattle.xliff.proofs.unit.Result.{then-left, then-right, small-table, sent}
 use Rattle.cut.proofs.ContentLaws.{holds-good}
-use Rattle.xliff.proofs.unit.Pieces.{spell-append, bytes-of, opened, closed, table-pieces}
+use Rattle.xliff.proofs.unit.Pieces.{spell-append, table-pieces}
 use Rattle.parts.specs.Parts.{GoodTarget, GoodPart, TableOf}
 use Rattle.parts.proofs.TableLaws.{part-least}
 

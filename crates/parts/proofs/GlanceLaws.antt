@@ -5,7 +5,8 @@ use mathlib.Core.List.{List}
 use lib.ListN.{length, drop}
 use Rattle.xliff.specs.Encode.{Record, part-head, target-head, text-run, inline, record-bytes, spell}
 use Rattle.xliff.specs.Parse.{read}
-use Rattle.xliff.proofs.records.Read.{GoodRecord, read-bytes}
+use Rattle.xliff.specs.Good.{GoodRecord}
+use Rattle.xliff.proofs.records.Read.{read-bytes}
 use Rattle.table.specs.Meaning.{meaning, width, body}
 use Rattle.table.specs.declared.Read.{Read}
 use Rattle.table.specs.declared.Read.the-variants.{Good, Ill, Broken}

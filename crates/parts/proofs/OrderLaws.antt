@@ -13,7 +13,8 @@ use Rattle.xliff.specs.Focus.{order-target, order-part, order-parts}
 use Rattle.xliff.specs.Split.{raise-above}
 use Rattle.xliff.specs.Join.{lower-above}
 use Rattle.xliff.proofs.lists.Tests.{map-append}
-use Rattle.xliff.proofs.lists.Each.{Each, each-nil, each-cons, each-append}
+use Rattle.xliff.specs.Good.{Each, each-nil, each-cons}
+use Rattle.xliff.proofs.lists.Each.{each-append}
 use Rattle.walk.specs.Kept.{Kept, kept-end, kept-item, kept-text}
 use Rattle.parts.specs.Parts.{GoodTarget, GoodPart, PartsIn, moved, ordered, InPart, head-in, target-in, item-in, text-in, order-record}
 

@@ -8,7 +8,8 @@ use mir.Val.{Fits}
 use mir.Syntax.{w8}
 use Rattle.xliff.specs.Unit.{Part}
 use Rattle.xliff.specs.Check.{table-refusal}
-use Rattle.xliff.proofs.lists.Each.{Each, each-apart}
+use Rattle.xliff.specs.Good.{Each}
+use Rattle.xliff.proofs.lists.Each.{each-apart}
 use Rattle.table.proofs.WidthLaws.{bytes-known}
 use Rattle.part_at.specs.declared.PartPlace.{PartPlace}
 use Rattle.part_at.specs.Stands.{PartStands}

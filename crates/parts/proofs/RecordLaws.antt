@@ -12,8 +12,7 @@ use Rattle.xliff.specs.Item.{Item, start, end, form-P, form-S, text, character,
 use Rattle.xliff.specs.Unit.{Head, segment, ignorable}
 use Rattle.xliff.specs.Encode.{Record, part-head, target-head, text-run, inline, head-bytes, record-bytes, spell}
 use Rattle.xliff.proofs.lists.Tests.{two-value, and-false}
-use Rattle.xliff.proofs.lists.Each.{Each, each-cons}
-use Rattle.xliff.proofs.records.Read.{GoodItem}
+use Rattle.xliff.specs.Good.{Each, each-cons, GoodItem}
 use Rattle.walk.specs.Marks.{marked, number, widthAt}
 use Rattle.walk.proofs.WalkLaws.{item-width, item-least, text-width}
 use Rattle.writer.specs.Pieces.{lead, overlay, numberBytes}

@@ -8,7 +8,8 @@ use lib.Seq.{drop-at}
 use Rattle.xliff.specs.Bytes.{gather}
 use Rattle.xliff.specs.Unit.{XliffUnit, Part}
 use Rattle.xliff.specs.Encode.{record-bytes, part-records, spell, part-head, content-records, target-records}
-use Rattle.xliff.proofs.unit.Pieces.{bytes-of, table-pieces, opened, closed}
+use Rattle.xliff.specs.Good.{bytes-of, opened, closed}
+use Rattle.xliff.proofs.unit.Pieces.{table-pieces}
 use Rattle.parts.specs.Parts.{TableOf}
 use Rattle.parts.proofs.RecordLaws.{head-least}
 

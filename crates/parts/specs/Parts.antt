@@ -1,4 +1,5 @@
 -- Whole parts as they stand in a table, one behind the other, and the orders of their targets.
+use Rattle.xliff.specs.Good.{Each, Allowed, GoodItem, GoodHead}
 use Prim.Native.Nat.{ℕ, _<_}
 use mathlib.Core.Path.{_≡_}
 use mathlib.Core.Bool.{Bool, false, _||_, cond}
@@ -12,9 +13,6 @@ use Rattle.xliff.specs.Encode.{Record, opening, closing, part-head, target-head
 use Rattle.xliff.specs.Focus.{order-parts}
 use Rattle.xliff.specs.Split.{raise-above}
 use Rattle.xliff.specs.Join.{lower-above}
-use Rattle.xliff.proofs.lists.Each.{Each}
-use Rattle.xliff.proofs.text.Utf8.{Allowed}
-use Rattle.xliff.proofs.records.Read.{GoodItem, GoodHead}
 use Rattle.walk.specs.Kept.{Kept}
 use Rattle.walk.specs.Marks.{marked, widthAt}
 use Rattle.writer.specs.Pieces.{lead}

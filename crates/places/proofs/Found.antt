@@ -16,7 +16,8 @@ use Rattle.xliff.specs.Rules.{bad-order, first-bad-order, fault-5, of-source, o
 use Rattle.xliff.proofs.lists.Tests.{gather-append}
 use Rattle.xliff.proofs.records.Parse.{placed}
 use Rattle.xliff.proofs.unit.Pieces.{spell-append}
-use Rattle.places.proofs.Places.{of-entry, content-found, Inner, no-inner, text-inner, inline-inner, content-inner}
+use Rattle.places.specs.Offsets.{Inner, no-inner, text-inner, inline-inner}
+use Rattle.places.proofs.Places.{of-entry, content-found, content-inner}
 use Rattle.places.specs.Found.{state-after, found-at, found, Ordered, orders-found, first-bad-in, head-name, no-name, names-found, marker, no-marker, marks-found, markers}
 
 -- the sizes of a part

@@ -1,4 +1,6 @@
 -- The records of a table with their offsets, and the items of its contents with theirs: the same, but for texts.
+use Rattle.places.specs.Offsets.{At, Inner, no-inner, text-inner, inline-inner}
+use Rattle.xliff.specs.Good.{each-cons, GoodRecord, AllGood, part-heads}
 use Prim.Native.Nat.{ℕ, suc, _+_, _-_, _<_, _≤_}
 use mathlib.Core.Path.{_≡_, refl, sym, ap, _∙_, subst}
 use mathlib.Core.Bool.{Bool, true, false, _&&_, cond, true≢false}
@@ -15,10 +17,9 @@ use Rattle.xliff.specs.Encode.{Record, opening, closing, part-head, target-head
 use Rattle.xliff.specs.Parse.{Entry, table-fault, unit, records, entries, read, is-part, first-bad, most-records, most-parts, Stage, unit-due}
 use Rattle.xliff.specs.Sequences.{Placed, placed-from}
 use Rattle.xliff.proofs.lists.Tests.{gather-append}
-use Rattle.xliff.proofs.records.Parse.{placed, AllGood, good-length}
-use Rattle.xliff.proofs.lists.Each.{each-cons}
-use Rattle.xliff.proofs.records.Read.{GoodRecord, read-bytes}
-use Rattle.xliff.proofs.unit.Valid.{part-heads, unit-good}
+use Rattle.xliff.proofs.records.Parse.{placed, good-length}
+use Rattle.xliff.proofs.records.Read.{read-bytes}
+use Rattle.xliff.proofs.unit.Valid.{unit-good}
 use Rattle.xliff.proofs.unit.Table.{table-walked, shape, closed-off, encode-unit, first-bad-cons}
 use Rattle.xliff.specs.Check.{table-refusal}
 use Rattle.xliff.proofs.unit.Result.{then-left, then-right}
@@ -184,12 +185,6 @@ module _ {B : Type 0} (f : Placed → List B) (no-text : (c at : ℕ) → f (rec
   unfolding Found content-records placed gather
   content-found at xs = from-seen at [] xs
 
--- the records of a content are texts and inline ones
-pub data Inner : List Record → Type 0 where
-  no-inner : Inner []
-  text-inner : {cs : List ℕ} {rs : List Record} → Inner rs → Inner (text-run cs ∷ rs)
-  inline-inner : {x : Item} {rs : List Record} → Inner rs → Inner (inline x ∷ rs)
-
 inner-text : (c : ℕ) {rs : List Record} → Inner rs → Inner (text-before c rs)
 unfolding text-before
 inner-text c no-inner = text-inner no-inner
@@ -246,12 +241,6 @@ passes t h k =
 pub checked-passes : (t : List ℕ) → Bytes t → table-refusal t ≡ none → Passes t
 unfolding table-refusal
 checked-passes t h v = passes t h (then-left _ _ (then-right _ _ v))
-
--- At an offset these good records are what is left of the table
-pub record At (t : List ℕ) (at : ℕ) (rs : List Record) : Type 0 where
-  pub good : AllGood rs
-  pub rest : spell rs ≡ drop at t
-  pub within : at ≤ length t
 
 pub at-start : (t : List ℕ) → Passes t → At t 0 (unit-records (unit t))
 at-start t p = record { good = p .good; rest = p .bytes; within = omega arith }

@@ -14,8 +14,7 @@ use Rattle.xliff.specs.Parse.{unit, good-id, good-code}
 use Rattle.xliff.specs.Sequences.{Placed, located, blamed, items, first-of}
 use Rattle.xliff.specs.Rules.{bad-10-source, bad-10-target, unlike-source, bad-copy, of-other-class, starts-id, agrees, same-half, may-copy, fault-10}
 use Rattle.xliff.proofs.lists.Tests.{and-left, any-append}
-use Rattle.xliff.proofs.unit.Valid.{GoodIn, GoodContent, GoodParts}
-use Rattle.xliff.proofs.lists.Each.{each-nil, each-cons}
+use Rattle.xliff.specs.Good.{each-nil, each-cons, GoodIn, GoodContent, GoodParts}
 use Rattle.places.specs.Passes.{Passes}
 use Rattle.places.specs.Found.{marks-found}
 use Rattle.places.specs.Markers.{is-marked, marked, OnMarks, placed-at, target-offsets}

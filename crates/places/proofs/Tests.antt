@@ -15,7 +15,8 @@ use Rattle.xliff.specs.Sequences.{Placed, located, target-at, blamed, items, pl
 use Rattle.xliff.proofs.rules.Sequences.{items-source, length-from}
 use Rattle.xliff.proofs.lists.Tests.{map-append, gather-append}
 use Rattle.places.specs.Passes.{Passes}
-use Rattle.places.proofs.Places.{At, at-start, at-next}
+use Rattle.places.specs.Offsets.{At}
+use Rattle.places.proofs.Places.{at-start, at-next}
 use Rattle.places.specs.Found.{marker, no-marker, markers, marks-found, found, found-at, state-after}
 use Rattle.places.proofs.Found.{source-marks, order-marks}
 use Rattle.places.specs.Markers.{is-marked, marked, OnMarks, item-in, item-at, placed-at, target-offsets}

@@ -1,3 +1,4 @@
 pub mod Passes
 pub mod Found
 pub mod Markers
+pub mod Offsets

@@ -17,7 +17,8 @@ use Rattle.xliff.specs.RemoveTarget.{remove-unit, lacks-target, remove-refusal,
 use Rattle.outcomes.proofs.OutcomeLaws.{on-passed, applied, passed}
 use Rattle.part_at.specs.declared.PartPlace.{PartPlace}
 use Rattle.part_at.specs.Stands.{TargetStands}
-use Rattle.result_rules.specs.Broken.{broken}
+use Rattle.result_rules.specs.Broken.{broken, judged}
+use Rattle.result_rules.proofs.EndLaws.{judged-15, judged-by, judged-done}
 use Rattle.removed_target.specs.Removed.{removed-unit}
 use Rattle.removed_target.proofs.RemovedLaws.{remove-unit-is}
 use Rattle.remove_target.specs.Ending.{ending}
@@ -25,24 +26,20 @@ use Rattle.remove_target.specs.Ending.{ending}
 -- the result is judged last
 module _ (room : ℕ) (v : XliffUnit) where
   abbrev rules : Option Refusal
-  rules = of-result (fault-7 (v .parts) then fault-9 (v .parts))
+  rules = fault-7 (v .parts) then fault-9 (v .parts)
 
   pub refused-15 : too-large room v ≡ true → ending room v ≡ refuse (record { number = 15; place = 0 })
   unfolding ending
-  refused-15 x = applied 15 (too-large room v) _ (encode v) x
+  refused-15 x = judged-15 room v rules x
 
-  module _ (x : too-large room v ≡ false) (k : ℕ) (e : broken k ≡ rules) where
-    by-number : ending room v ≡ unless (cond (eqb k 0) none (refusal k 0)) (encode v)
-    unfolding ending broken
-    by-number = ap (λ (o : Option Refusal). unless o (encode v)) (passed 15 (too-large room v) rules x ∙ sym e)
-
+  module _ (x : too-large room v ≡ false) (k : ℕ) (e : broken k ≡ of-result rules) where
     pub refused-by : (k ≡ 0 → ⊥) → ending room v ≡ refuse (record { number = k; place = 0 })
-    unfolding unless
-    refused-by z = by-number ∙ ap (λ (c : Bool). unless (cond c none (refusal k 0)) (encode v)) (ne-eqb k 0 z)
+    unfolding ending
+    refused-by z = judged-by room v rules x k e z
 
     pub done : k ≡ 0 → ending room v ≡ result (encode v)
-    unfolding unless
-    done z = by-number ∙ ap (λ (c : Bool). unless (cond c none (refusal k 0)) (encode v)) (eq-eqb k 0 z)
+    unfolding ending
+    done z = judged-done room v rules x k e z
 
 -- a part's place tells whether it has a target
 pub lacks-is : (t : List ℕ) (place : PartPlace) (g : Target) → TargetStands t place g → lacks-target g ≡ not (place .«has_target»)
@@ -73,7 +70,7 @@ module _ (t : List ℕ) (n room : ℕ) (e : table-refusal t ≡ none) where
     refused-20 x = on-focus (here b p a) h ∙ applied 20 (lacks-target (p .target)) rest (encode v) x
 
     pub ends : lacks-target (p .target) ≡ false → remove-target t n room ≡ ending room (removed-unit (unit t) b p a)
-    unfolding remove-refusal ending
+    unfolding remove-refusal ending judged
     ends x =
         on-focus (here b p a) h
         ∙ ap (λ (o : Option Refusal). unless o (encode v)) (passed 20 (lacks-target (p .target)) rest x)

@@ -13,8 +13,9 @@ use Rattle.xliff.specs.Parse.{unit}
 use Rattle.xliff.specs.Check.{Valid, table-refusal}
 use Rattle.xliff.specs.Focus.{with-parts}
 use Rattle.xliff.specs.RemoveTarget.{remove-focus}
-use Rattle.xliff.proofs.lists.Each.{each-cons, each-append, each-apart}
-use Rattle.xliff.proofs.unit.Valid.{GoodParts, heads-unit}
+use Rattle.xliff.specs.Good.{each-cons, GoodParts}
+use Rattle.xliff.proofs.lists.Each.{each-append, each-apart}
+use Rattle.xliff.proofs.unit.Valid.{heads-unit}
 use Rattle.xliff.proofs.operations.RemoveValid.{initial-good}
 use Rattle.xliff.proofs.unit.Result.{Sent, sent, small-table}
 use Rattle.xliff.proofs.operations.SetValid.{some-part}

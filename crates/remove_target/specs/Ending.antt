@@ -2,12 +2,11 @@
 use Prim.Native.Nat.{ℕ}
 use mathlib.Core.List.{List}
 use lib.ListN.{length}
-use Rattle.xliff.specs.Answer.{applies, _then_, of-result, Outcome, unless}
+use Rattle.result_rules.specs.Broken.{judged}
+use Rattle.xliff.specs.Answer.{_then_, Outcome}
 use Rattle.xliff.specs.Unit.{Part, XliffUnit}
-use Rattle.xliff.specs.Encode.{encode}
 use Rattle.xliff.specs.Parse.{unit}
 use Rattle.xliff.specs.Rules.{fault-7, fault-9}
-use Rattle.xliff.specs.Check.{too-large}
 use Rattle.answers.specs.declared.Answer.{Answer}
 use Rattle.outcomes.specs.Outcomes.{Answers}
 use Rattle.part_at.specs.declared.PartPlace.{PartPlace}
@@ -16,7 +15,7 @@ use Rattle.removed_target.specs.Removed.{removed-unit}
 
 -- what "15. Then 7, 9." leaves of a result
 unfoldable pub ending : ℕ → XliffUnit → Outcome
-ending room v = unless (applies 15 (too-large room v) then of-result (fault-7 (v .parts) then fault-9 (v .parts))) (encode v)
+ending room v = judged room v (fault-7 (v .parts) then fault-9 (v .parts))
 
 abbrev pub Ended : List ℕ → PartPlace → Answer → List ℕ → List ℕ → Type 0
 Ended t place r out last = (b : List Part) (p : Part) (a : List Part) → PartStands t b p a place → Answers (ending (length out) (removed-unit (unit t) b p a)) r out last

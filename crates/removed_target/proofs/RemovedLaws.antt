@@ -11,7 +11,8 @@ use Rattle.xliff.specs.Encode.{head-bytes, content-bytes, target-records, part-
 use Rattle.xliff.specs.Parse.{unit}
 use Rattle.xliff.specs.Focus.{here, focus, with-parts}
 use Rattle.xliff.specs.RemoveTarget.{remove-focus, remove-unit}
-use Rattle.xliff.proofs.unit.Pieces.{spell-append, part-bytes, bytes-of, bytes-append, opened, closed, table-pieces}
+use Rattle.xliff.specs.Good.{bytes-of, opened, closed}
+use Rattle.xliff.proofs.unit.Pieces.{spell-append, part-bytes, bytes-append, table-pieces}
 use Rattle.xliff.proofs.lists.Slices.{slice-long}
 use Rattle.part_at.specs.declared.PartPlace.{PartPlace}
 use Rattle.part_at.specs.Stands.{PartStands, TargetStands}

@@ -9,7 +9,7 @@ use Rattle.xliff.specs.Parse.{unit}
 use Rattle.xliff.specs.Focus.{here, with-parts}
 use Rattle.xliff.specs.RemoveTarget.{remove-focus}
 use Rattle.writer.specs.Pieces.{lead}
-use Rattle.xliff.proofs.unit.Pieces.{bytes-of, opened}
+use Rattle.xliff.specs.Good.{bytes-of, opened}
 use Rattle.part_at.specs.declared.PartPlace.{PartPlace}
 use Rattle.part_at.specs.Stands.{PartStands}
 

@@ -1,4 +1,5 @@
 -- A unit of good parts within the limits, as bytes: it passes 1 to 4 and is read back as that unit, whichever of the rules 5 to 10 it meets.
+use Rattle.xliff.specs.Good.{GoodRecord, AllGood, part-heads, GoodParts}
 use Prim.Native.Nat.{ℕ, _≤_}
 use mathlib.Core.Path.{_≡_, sym, ap, subst}
 use mathlib.Core.List.{List, _∷_}
@@ -11,9 +12,8 @@ use Rattle.xliff.specs.Encode.{opening, unit-records, encode}
 use Rattle.xliff.specs.Parse.{unit}
 use Rattle.xliff.specs.Check.{too-large}
 use Rattle.xliff.proofs.lists.Tests.{or-none}
-use Rattle.xliff.proofs.records.Read.{GoodRecord}
-use Rattle.xliff.proofs.records.Parse.{AllGood, records-unit}
-use Rattle.xliff.proofs.unit.Valid.{part-heads, GoodParts, unit-runs, heads-unit}
+use Rattle.xliff.proofs.records.Parse.{records-unit}
+use Rattle.xliff.proofs.unit.Valid.{unit-runs, heads-unit}
 use Rattle.places.specs.Passes.{Passes}
 
 pub record GoodUnit (v : XliffUnit) : Type 0 where

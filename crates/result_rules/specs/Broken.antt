@@ -3,7 +3,10 @@ use Prim.Native.Nat.{ℕ}
 use mathlib.Core.Bool.{Bool, true, false, cond}
 use mathlib.Core.Option.{Option, none}
 use lib.Dec.{eqb}
-use Rattle.xliff.specs.Answer.{Refusal, refusal}
+use Rattle.xliff.specs.Answer.{Refusal, refusal, applies, _then_, of-result, Outcome, unless}
+use Rattle.xliff.specs.Unit.{XliffUnit}
+use Rattle.xliff.specs.Encode.{encode}
+use Rattle.xliff.specs.Check.{too-large}
 use Rattle.answers.specs.declared.Answer.{Answer}
 use Rattle.answers.specs.declared.Answer.the-variants.{Accepted, Refused}
 use Rattle.answers.specs.declared.Place.{Place}
@@ -22,3 +25,7 @@ broken n = cond (eqb n 0) none (refusal n 0)
 abbrev pub number-of : Answer → ℕ
 number-of (Accepted n) = 0
 number-of (Refused n at) = n
+
+-- what 15, and then some rules of the result, leave of it
+unfoldable pub judged : ℕ → XliffUnit → Option Refusal → Outcome
+judged room v rules = unless (applies 15 (too-large room v) then of-result rules) (encode v)

@@ -11,7 +11,8 @@ use Rattle.xliff.specs.Encode.{Record, opening, closing, part-head, target-head
 use Rattle.xliff.specs.Rules.{half-of-id}
 use Rattle.xliff.specs.Focus.{with-parts}
 use Rattle.xliff.specs.Rewrite.{rewrite-item, rewrite-target, rewrite-part, rewrite-unit}
-use Rattle.places.proofs.Places.{Inner, no-inner, text-inner, inline-inner, content-inner}
+use Rattle.places.specs.Offsets.{Inner, no-inner, text-inner, inline-inner}
+use Rattle.places.proofs.Places.{content-inner}
 use Rattle.rewrite_marks.specs.Rewritten.{inside-after, on-record, rewritten}
 
 -- outside a content of the side nothing changes

@@ -1,4 +1,5 @@
 -- The walk that writes the marks, one record further.
+use Rattle.xliff.specs.Good.{each-cons, GoodRecord, AllGood}
 use Prim.Native.Nat.{ℕ, _+_, _-_, _≤_}
 use mathlib.Core.Path.{_≡_, refl, sym, ap, ap₂, _∙_, subst}
 use mathlib.Core.Bool.{Bool, false}
@@ -12,12 +13,10 @@ use Rattle.xliff.specs.Unit.{segment, ignorable}
 use Rattle.xliff.specs.Encode.{opening, closing, part-head, target-head, text-run, inline, ill-text, broken, field-bytes, head-bytes, record-bytes, unit-records, spell}
 use Rattle.xliff.specs.Parse.{read, unit}
 use Rattle.xliff.specs.Rewrite.{rewrite-item}
-use Rattle.xliff.proofs.lists.Each.{each-cons}
-use Rattle.xliff.proofs.records.Read.{GoodRecord}
-use Rattle.xliff.proofs.records.Parse.{AllGood}
 use Rattle.places.specs.Passes.{Passes}
 use Rattle.places.specs.Markers.{item-in, item-at}
-use Rattle.places.proofs.Places.{At, at-start, at-next, at-end}
+use Rattle.places.specs.Offsets.{At}
+use Rattle.places.proofs.Places.{at-start, at-next, at-end}
 use Rattle.table.specs.Meaning.{body}
 use Rattle.table.specs.declared.Read.{Read}
 use Rattle.table.specs.declared.Read.the-variants.{Good}

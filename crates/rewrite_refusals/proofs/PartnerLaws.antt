@@ -15,7 +15,7 @@ use Rattle.xliff.specs.Rules.{half-of-id, partner-P, ahead, lone-P, nearest, fa
 use Rattle.xliff.specs.Focus.{with-parts}
 use Rattle.xliff.specs.Rewrite.{rewrite-item, rewrite-target, rewrite-part, rewrite-unit, side-content, side-sequence, Whole, ended-by, find-whole, are-partners}
 use Rattle.xliff.proofs.lists.Sum.{bit, sum}
-use Rattle.xliff.proofs.lists.Each.{Each, each-nil, each-cons}
+use Rattle.xliff.specs.Good.{Each, each-nil, each-cons}
 use Rattle.xliff.proofs.lists.Tests.{none-some, and-left, and-right, or-left, or-right, not-true, not-false}
 use Rattle.xliff.proofs.rules.Flat.{half-alike, id-alike}
 use Rattle.xliff.proofs.rules.Sequences.{clear, clear-blamed, first-of-none, append-nil-left, append-nil-right, items-placed}

@@ -10,7 +10,8 @@ use Rattle.xliff.specs.Item.{class}
 use Rattle.xliff.specs.Encode as encode
 use Rattle.xliff.specs.Encode.{inline, record-bytes}
 use Rattle.xliff.proofs.lists.Tests.{and-false}
-use Rattle.places.proofs.Places.{At, at-end}
+use Rattle.places.specs.Offsets.{At}
+use Rattle.places.proofs.Places.{at-end}
 use Rattle.places.specs.Found.{found-at, marks-found}
 use Rattle.table.specs.Meaning.{fields, item, record-meaning, body}
 use Rattle.table.specs.declared.Item.{Item}

@@ -12,7 +12,8 @@ use Rattle.xliff.specs.Item as spec
 use Rattle.xliff.specs.Item.{class}
 use Rattle.xliff.proofs.lists.Tests.{map-append}
 use Rattle.places.specs.Passes.{Passes}
-use Rattle.places.proofs.Places.{At, at-end}
+use Rattle.places.specs.Offsets.{At}
+use Rattle.places.proofs.Places.{at-end}
 use Rattle.places.specs.Found.{found, found-at, state-after, marker, no-marker, marks-found}
 use Rattle.places.specs.Markers.{target-offsets}
 use Rattle.places.proofs.Few.{few-source}

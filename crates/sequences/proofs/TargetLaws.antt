@@ -16,7 +16,8 @@ use Rattle.xliff.specs.Encode.{opening, closing, part-head, target-head, text-r
 use Rattle.xliff.specs.Parse.{unit}
 use Rattle.xliff.proofs.lists.Tests.{map-append}
 use Rattle.places.specs.Passes.{Passes}
-use Rattle.places.proofs.Places.{At, at-start, at-next, Inner, no-inner, text-inner, inline-inner, content-inner}
+use Rattle.places.specs.Offsets.{At, Inner, no-inner, text-inner, inline-inner}
+use Rattle.places.proofs.Places.{at-start, at-next, content-inner}
 use Rattle.places.specs.Found.{found, found-at, state-after, marker, marks-found}
 use Rattle.table.specs.Meaning.{item, record-meaning, body}
 use Rattle.table.specs.declared.Record.{Record}

@@ -11,7 +11,8 @@ use Rattle.xliff.specs.Encode.{record-bytes, head-bytes, content-bytes, target-
 use Rattle.xliff.specs.Parse.{unit}
 use Rattle.xliff.specs.Focus.{here, focus, with-parts}
 use Rattle.xliff.specs.SetTarget.{new-order, set-focus, set-unit}
-use Rattle.xliff.proofs.unit.Pieces.{spell-append, part-bytes, bytes-of, bytes-append, opened, closed, table-pieces}
+use Rattle.xliff.specs.Good.{bytes-of, opened, closed}
+use Rattle.xliff.proofs.unit.Pieces.{spell-append, part-bytes, bytes-append, table-pieces}
 use Rattle.part_at.specs.declared.PartPlace.{PartPlace}
 use Rattle.part_at.specs.Stands.{PartStands}
 use Rattle.removed_target.specs.Removed.{to-source}

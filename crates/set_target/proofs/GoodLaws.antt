@@ -14,8 +14,9 @@ use Rattle.xliff.specs.Parse.{unit, content, content-fault}
 use Rattle.xliff.specs.Check.{Valid, table-refusal, too-large}
 use Rattle.xliff.specs.Focus.{with-parts}
 use Rattle.xliff.specs.SetTarget.{state-fits}
-use Rattle.xliff.proofs.lists.Each.{each-cons, each-append, each-apart}
-use Rattle.xliff.proofs.unit.Valid.{GoodParts, content-good}
+use Rattle.xliff.specs.Good.{each-cons, GoodParts}
+use Rattle.xliff.proofs.lists.Each.{each-append, each-apart}
+use Rattle.xliff.proofs.unit.Valid.{content-good}
 use Rattle.xliff.proofs.unit.Result.{Sent, sent}
 use Rattle.xliff.proofs.unit.Accepted.{within}
 use Rattle.xliff.proofs.operations.SetValid.{state-good, some-part}

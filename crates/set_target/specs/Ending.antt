@@ -5,12 +5,12 @@ use mathlib.Core.Bool.{true}
 use mathlib.Core.List.{List}
 use mathlib.Core.Option.{none}
 use lib.ListN.{length}
-use Rattle.xliff.specs.Answer.{applies, _then_, of-result, Outcome, unless}
+use Rattle.result_rules.specs.Broken.{judged}
+use Rattle.xliff.specs.Answer.{Outcome}
 use Rattle.xliff.specs.Unit.{Part, XliffUnit}
-use Rattle.xliff.specs.Encode.{encode}
 use Rattle.xliff.specs.Parse.{unit, content, content-fault}
 use Rattle.xliff.specs.Rules.{fault-6-to-10}
-use Rattle.xliff.specs.Check.{table-refusal, too-large}
+use Rattle.xliff.specs.Check.{table-refusal}
 use Rattle.xliff.specs.SetTarget.{state-fits}
 use Rattle.answers.specs.declared.Answer.{Answer}
 use Rattle.outcomes.specs.Outcomes.{Answers}
@@ -20,7 +20,7 @@ use Rattle.set_result.specs.SetUnit.{unit-with}
 
 -- what "15. Then 6 to 10" leaves of a result
 unfoldable pub ending : ℕ → XliffUnit → Outcome
-ending room v = unless (applies 15 (too-large room v) then of-result (fault-6-to-10 (v .parts))) (encode v)
+ending room v = judged room v (fault-6-to-10 (v .parts))
 
 -- the check passes the table, at the place stands a part that the state fits, and the bytes s are a content
 abbrev pub SetAt : List ℕ → PartPlace → ℕ → List ℕ → Type 0

@@ -14,7 +14,7 @@ use Rattle.xliff.specs.Encode.{Record, text-run, inline, record-bytes, spell, c
 use Rattle.xliff.specs.Parse.{reading, take-record}
 use Rattle.xliff.specs.Split.{cut-item, first-items, second-items, first-target, second-target, first-half, second-half}
 use Rattle.xliff.proofs.lists.Tests.{map-append}
-use Rattle.xliff.proofs.text.Utf8.{Allowed, no-text, one-point}
+use Rattle.xliff.specs.Good.{Allowed, no-text, one-point}
 use Rattle.walk.specs.Kept.{Kept, kept-end, kept-item, kept-text, Holds, items}
 use Rattle.walk.specs.Place.{Inside, over, between, within, Parted}
 use Rattle.walk.specs.declared.Place.{Place}

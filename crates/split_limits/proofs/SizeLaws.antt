@@ -15,8 +15,9 @@ use Rattle.xliff.specs.Parse.{unit}
 use Rattle.xliff.specs.Check.{too-large}
 use Rattle.xliff.specs.Focus.{here, focus, order-target, order-part, order-parts, with-parts}
 use Rattle.xliff.specs.Split.{first-half, second-half, split-order, split-focus, split-unit}
-use Rattle.xliff.proofs.lists.Each.{Each, each-apart}
-use Rattle.xliff.proofs.unit.Pieces.{spell-append, bytes-of, bytes-append}
+use Rattle.xliff.specs.Good.{Each, bytes-of}
+use Rattle.xliff.proofs.lists.Each.{each-apart}
+use Rattle.xliff.proofs.unit.Pieces.{spell-append, bytes-append}
 use Rattle.xliff.proofs.lists.Slices.{slice-long}
 use Rattle.parts.specs.Parts.{GoodPart, moved, ordered, TableOf}
 use Rattle.parts.proofs.OrderLaws.{ordered-length}

@@ -12,7 +12,7 @@ use Rattle.xliff.specs.Encode.{Record, part-records, spell}
 use Rattle.xliff.specs.Focus.{order-target, order-part, order-parts}
 use Rattle.xliff.specs.Split.{raise-above, split-order, first-half, second-half}
 use Rattle.xliff.proofs.lists.Tests.{gather-append}
-use Rattle.xliff.proofs.lists.Each.{Each, each-nil, each-cons}
+use Rattle.xliff.specs.Good.{Each, each-nil, each-cons}
 use Rattle.xliff.proofs.unit.Pieces.{spell-append}
 use Rattle.parts.specs.Parts.{GoodTarget, GoodPart, moved, ordered}
 use Rattle.halves_of_part.specs.Parts.{halves}

@@ -9,7 +9,8 @@ use Rattle.xliff.specs.Encode.{record-bytes, encode}
 use Rattle.xliff.specs.Focus.{here, focus, with-parts}
 use Rattle.xliff.specs.Split.{split-focus, split-unit}
 use Rattle.xliff.proofs.lists.Slices.{tail-is}
-use Rattle.xliff.proofs.unit.Pieces.{bytes-of, opened, closed, table-pieces}
+use Rattle.xliff.specs.Good.{bytes-of, opened, closed}
+use Rattle.xliff.proofs.unit.Pieces.{table-pieces}
 use Rattle.parts.specs.Parts.{TableOf}
 use Rattle.parts.proofs.TableLaws.{table-opened, table-closed}
 use Rattle.split_result.specs.Result.{split-parts}

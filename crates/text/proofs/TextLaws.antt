@@ -10,7 +10,8 @@ use lib.Dec.{leb, eqb}
 use Rattle.xliff.specs.Bytes.{gather}
 use Rattle.xliff.specs.Text as spec
 use Rattle.xliff.specs.Text.{between, xml-allows, text-of}
-use Rattle.xliff.proofs.text.Utf8.{Allowed, no-text, one-point, allowed-bound, text-of-utf8s, text-of-some}
+use Rattle.xliff.specs.Good.{Allowed, no-text, one-point}
+use Rattle.xliff.proofs.text.Utf8.{allowed-bound, text-of-utf8s, text-of-some}
 use Rattle.text.specs.Utf8.{utf8, utf8s, scalar, within, xmlChar, codes, allXml, someXml, textOk, allScalar}
 use Rattle.text.proofs.Laws.{split, both-left, both-right}
 use Rattle.text.proofs.Coding.{codes-of-bytes, bytes-of-codes}

@@ -1,4 +1,5 @@
 -- Where an item begins.
+use Rattle.xliff.specs.Good.{Allowed, GoodItem}
 use Prim.Native.Nat.{ℕ, zero, suc, _+_, _*_, _-_, _/_, _%_, _<_, _≤_}
 use mathlib.Core.Path.{_≡_, refl, sym, ap, _∙_, subst}
 use mathlib.Core.Bool.{Bool, true, false, cond, true≢false}
@@ -14,14 +15,12 @@ use Rattle.xliff.specs.Item.{Item, Content, start, end, form-P, form-S, text, c
 use Rattle.xliff.specs.Encode.{Record, text-run, inline, record-bytes, spell}
 use Rattle.xliff.specs.Parse.{reading, take-record}
 use Rattle.xliff.proofs.lists.Tests.{two-value}
-use Rattle.xliff.proofs.text.Utf8.{Allowed}
-use Rattle.xliff.proofs.records.Read.{GoodItem}
-use Rattle.walk.specs.Kept.{Kept, kept-end, kept-item, kept-text, Of, items, Inline, an-item, a-text}
+use Rattle.walk.specs.Kept.{Kept, kept-end, kept-item, kept-text, Of, items, Inline, an-item, a-text, Rest}
 use Rattle.walk.specs.Marks.{marked, number}
 use Rattle.walk.specs.Place.{Begins, passText, passItem, passOf, Inside, over, between, within, Parted}
 use Rattle.walk.specs.declared.Passed.{Passed}
 use Rattle.walk.specs.declared.Pass.the-variants.{Stop, On}
-use Rattle.walk.proofs.WalkLaws.{Rest, Next, rest-start, rest-end, inline-least}
+use Rattle.walk.proofs.WalkLaws.{Next, rest-start, rest-end, inline-least}
 use Rattle.walk.proofs.TextLaws.{utf8s-append, no-bytes}
 use Rattle.xliff.proofs.unit.Pieces.{spell-append}
 

@@ -1,4 +1,5 @@
 -- Code points of a text passed over: counted by their first bytes.
+use Rattle.xliff.specs.Good.{Allowed}
 use Prim.Native.Nat.{ℕ, zero, suc, _+_, _-_, _/_, _%_, _<_, _≤_}
 use mathlib.Core.Path.{_≡_, refl, sym, ap, ap₂, _∙_}
 use mathlib.Core.Bool.{Bool, true, false, cond, _&&_}
@@ -11,7 +12,6 @@ use borrow.Author.Tests.{ltb-true, ltb-false, lt-ltb, le-ltb, le-leb, lt-leb}
 use Rattle.xliff.specs.Bytes.{gather}
 use Rattle.xliff.specs.Text.{six, utf8-1, utf8-2, utf8-3, utf8-4, utf8, utf8s}
 use Rattle.xliff.proofs.lists.Tests.{gather-append, and-false}
-use Rattle.xliff.proofs.text.Utf8.{Allowed}
 use Rattle.walk.specs.Points.{lead, leads, further, sought}
 use Rattle.walk.specs.Place.{PassedOver}
 use Rattle.walk.specs.declared.Passed.{Passed}

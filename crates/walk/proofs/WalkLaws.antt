@@ -1,4 +1,5 @@
 -- A walk over kept records: width, one further, the end; what marks say.
+use Rattle.xliff.specs.Good.{GoodItem}
 use Prim.Native.Nat.{ℕ, _+_, _-_, _<_, _≤_}
 use mathlib.Core.Path.{_≡_, refl, sym, ap, ap₂, _∙_}
 use mathlib.Core.Bool.{Bool, true, false, _&&_, _||_}
@@ -13,8 +14,7 @@ use Rattle.xliff.specs.Item.{Item, Content, start, end, form-P, form-S, text, c
 use Rattle.xliff.specs.Encode.{Record, text-run, inline, code-bytes, field-bytes, record-bytes, spell}
 use Rattle.xliff.specs.Parse.{reading, take-record}
 use Rattle.xliff.proofs.lists.Tests.{two-value, and-false}
-use Rattle.xliff.proofs.records.Read.{GoodItem}
-use Rattle.walk.specs.Kept.{Kept, kept-item, kept-text, Of, items, Inline, an-item, a-text}
+use Rattle.walk.specs.Kept.{Kept, kept-item, kept-text, Of, items, Inline, an-item, a-text, Rest}
 use Rattle.walk.specs.Marks.{number, widthAt, kindAt, kind, opposite, is-other, has-other}
 
 -- what is no half has no other half
@@ -107,12 +107,6 @@ pub inline-least : (r : Record) → Inline r → 4 ≤ length (record-bytes r)
 unfolding record-bytes two
 inline-least (inline x) (an-item g) = item-least [] x g
 inline-least (text-run cs) (a-text a l) = omega arith
-
--- the records rs stand in c from the offset at
-pub record Rest (c : List ℕ) (at : ℕ) (rs : List Record) : Type 0 where
-  pub behind : Bool
-  pub kept : Kept behind rs
-  pub bytes : spell rs ≡ drop at c
 
 -- and the first of them
 pub record Next (c : List ℕ) (at : ℕ) (rs : List Record) : Type 0 where

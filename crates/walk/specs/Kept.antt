@@ -1,15 +1,14 @@
 -- Records that stand in a content: inline records and texts, good, no text directly behind a text. The table's check gives them (`Table.Walked`).
+use Rattle.xliff.specs.Good.{Allowed, GoodItem}
 use Prim.Native.Nat.{ℕ, _<_}
 use mathlib.Core.Path.{_≡_}
 use mathlib.Core.Bool.{Bool, true, false}
 use mathlib.Core.List.{List, [], _∷_}
-use lib.ListN.{length}
+use lib.ListN.{length, drop}
 use Rattle.xliff.specs.Text.{utf8s}
 use Rattle.xliff.specs.Item.{Item, Content}
 use Rattle.xliff.specs.Encode.{Record, text-run, inline, content-records, spell}
 use Rattle.xliff.specs.Parse.{reading}
-use Rattle.xliff.proofs.text.Utf8.{Allowed}
-use Rattle.xliff.proofs.records.Read.{GoodItem}
 
 -- the first argument: whether they stand directly behind a text
 pub data Kept : Bool → List Record → Type 0 where
@@ -37,3 +36,9 @@ Fair c = (rs : List Record) × Of c rs
 pub data Inline : Record → Type 0 where
   an-item : {x : Item} → GoodItem x → Inline (inline x)
   a-text : {d : ℕ} {ds : List ℕ} → Allowed (d ∷ ds) → length (utf8s (d ∷ ds)) < 65536 → Inline (text-run (d ∷ ds))
+
+-- the records rs stand in c from the offset at
+pub record Rest (c : List ℕ) (at : ℕ) (rs : List Record) : Type 0 where
+  pub behind : Bool
+  pub kept : Kept behind rs
+  pub bytes : spell rs ≡ drop at c

@@ -1,4 +1,5 @@
 -- Where an item begins.
+use Rattle.xliff.specs.Good.{Allowed}
 use Prim.Native.Nat.{ℕ, zero, suc, _+_, _-_}
 use mathlib.Core.Path.{_≡_}
 use mathlib.Core.Bool.{cond}
@@ -8,7 +9,6 @@ use lib.Dec.{ltb}
 use Rattle.xliff.specs.Text.{utf8s}
 use Rattle.xliff.specs.Encode.{Record, opening, closing, part-head, target-head, text-run, inline, ill-text, broken, record-bytes, spell}
 use Rattle.walk.specs.Kept.{Of, items, Inline}
-use Rattle.xliff.proofs.text.Utf8.{Allowed}
 use Rattle.walk.specs.declared.Passed.{Passed}
 use Rattle.walk.specs.declared.Pass.{Pass}
 use Rattle.walk.specs.declared.Pass.the-variants.{Stop, On}

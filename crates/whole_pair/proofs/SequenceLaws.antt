@@ -22,7 +22,7 @@ use Rattle.places.proofs.Tests.{targets-back, source-items, length-located, mar
 use Rattle.views.specs.Views.{itemsAt}
 use Rattle.views.proofs.ViewLaws.{items-at}
 use Rattle.sequences.specs.Marks.{offsets}
-use Rattle.halves.proofs.Others.{other-unmarked}
+use Rattle.halves.proofs.Others.{other-unmarked, nearest-marked}
 
 no-start-half : (y : Item) → is-marked y ≡ false → is-start-half y ≡ false
 unfolding is-marked class half
@@ -34,16 +34,6 @@ no-start-half (isolated end f) e = refl
 no-start-half (pair h w f) e = absurd (true≢false e)
 no-start-half (annotation-start w i l) e = absurd (true≢false e)
 no-start-half (annotation-end w i) e = absurd (true≢false e)
-
-nearest-marked : (p : Item → Bool) → ((x : Item) → is-marked x ≡ false → p x ≡ false) → (xs : Content) → nearest p xs ≡ nearest p (marked xs)
-unfolding nearest marked keep
-nearest-marked p h [] = refl
-nearest-marked p h (x ∷ xs) = by (is-marked x) refl (nearest-marked p h xs)
-  where
-    by : (b : Bool) → is-marked x ≡ b → nearest p xs ≡ nearest p (keep is-marked xs)
-        → cond (p x) (some x) (nearest p xs) ≡ nearest p (cond b (x ∷ keep is-marked xs) (keep is-marked xs))
-    by true e ih = ap (cond (p x) (some x)) ih
-    by false e ih = rw (h x e) ih
 
 whole-marked : (i : ℕ) (xs : Content) → find-whole i xs ≡ find-whole i (marked xs)
 unfolding find-whole marked keep

@@ -6,6 +6,7 @@ pub mod Item
 pub mod Unit
 pub mod Encode
 pub mod Parse
+pub mod Good
 pub mod Sequences
 pub mod Rules
 pub mod Check

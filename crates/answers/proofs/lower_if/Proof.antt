@@ -18,13 +18,34 @@ lower-second true true at a e = absurd (true≢false e)
 lower-second true false at a e = refl
 lower-second false c at a e = refl
 
+-- src/lib.rt:25:1
+returns : tie.Need-returns
+returns c = rw (c .before .enum-told .given .1) (c .at-if .ensures)
+
+-- src/lib.rt:25:1
+returns-2 : tie.Need-returns-2
+returns-2 c =
+    let args = c .before .before .before .before .args in
+    let at₀ = args .at in
+    let best = c .before .before .best in
+    rw (best .given .1)
+    (lower-first (args .bad) (ltb at₀ (best .given .0 .0)) at₀ (best .given .0 .0) (c .if1 .taken))
+
+-- src/lib.rt:25:1
+returns-3 : tie.Need-returns-3
+returns-3 c =
+    let args = c .before .before .before .before .args in
+    let at₀ = args .at in
+    let best = c .before .before .best in
+    rw (best .given .1)
+    (lower-second (args .bad) (ltb at₀ (best .given .0 .0)) at₀ (best .given .0 .0) (c .if1 .left))
+
 pub lower-if-spec : {M : Type 1} → statement M
 lower-if-spec =
     tie.close
     (tie.spec
-    (λ c. search needs)
-    (λ c κs. search needs)
-    (λ c. search needs)
-    (λ c. rw (c .before .enum-told .given .1) (c .at-if .ensures))
-    (λ c. rw (c .before .before .best .given .1) (lower-first (c .before .before .before .before .args .bad) (ltb (c .before .before .before .before .args .at) (c .before .before .best .given .0 .0)) (c .before .before .before .before .args .at) (c .before .before .best .given .0 .0) (c .if1 .taken)))
-    (λ c. rw (c .before .before .best .given .1) (lower-second (c .before .before .before .before .args .bad) (ltb (c .before .before .before .before .args .at) (c .before .before .best .given .0 .0)) (c .before .before .before .before .args .at) (c .before .before .best .given .0 .0) (c .if1 .left))))
+    -- by search: enum-told 29:33, at-if-requires 29:27, enum-known-best 30:19
+    (λ c. search needs) (λ c κs. search needs) (λ c. search needs)
+    returns
+    returns-2
+    returns-3)

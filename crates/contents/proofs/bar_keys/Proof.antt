@@ -12,10 +12,42 @@ use Rattle.contents.proofs.bar_keys.Statement.{statement}
 use Rattle.contents.proofs.bar_keys.Tie as tie
 
 abbrev Inv-loop : tie.InvT-loop
-Inv-loop t os out₀ i₀ out i = (i ≤ length os) × (length out ≡ length out₀) × (take i out ≡ map (λ (o : ℕ). bar-key (read (drop o t))) (take i os))
+Inv-loop t os out₀ i₀ out i =
+    (i ≤ length os)
+    × (length out ≡ length out₀)
+    × (take i out ≡ map (λ (o : ℕ). bar-key (read (drop o t))) (take i os))
 
 abbrev μ-loop : tie.MeasureT-loop
 μ-loop t os out₀ i₀ out i = length os - i
+
+-- src/lib.rt:109:5
+loop-holds : tie.Need-loop-holds Inv-loop μ-loop
+loop-holds c = (omega arith, refl, refl)
+
+-- src/lib.rt:109:5
+loop-again : tie.Need-loop-again Inv-loop μ-loop
+loop-again c =
+    let args = c .before .before .before .before .before .before .before .before .args in
+    let t = args .t .now in
+    let loop = c .before .before .before .before .loop in
+    let i = loop .i in (
+      omega arith,
+      simp length-set (loop .inv .1),
+      ap (λ (k : ℕ). take (i + 1) (set (loop .out) i k))
+          (c .bar-key .ensures ∙ ap (λ (o : ℕ). bar-key (read (drop o t))) (c .before .wide .ensures .0))
+          ∙ filled-next (λ (o : ℕ). bar-key (read (drop o t))) (args .os .now) (loop .out) i (omega arith)
+          (omega arith) (loop .inv .2),
+    )
+
+-- src/lib.rt:104:1
+returns : tie.Need-returns Inv-loop μ-loop
+returns c =
+    let args = c .before .before .before .before .before .args in
+    let loop = c .before .loop in
+    let inv = loop .inv in (
+      keys-filled (args .t .now) (args .os .now) (loop .out) (loop .i) (inv .0) (c .loop-test .left) (inv .2),
+      inv .1,
+    )
 
 pub bar-keys-spec : {M : Type 1} → statement M
 bar-keys-spec =
@@ -23,15 +55,12 @@ bar-keys-spec =
     (tie.spec
     Inv-loop
     μ-loop
-    (λ c. (omega arith, refl, refl))
+    loop-holds
+    -- by search: mul-wide 110:41, shared-slice-read-wide 110:41, wide-requires 110:29, bar-key-requires 110:18,
+    -- mul-out 110:9, slice-write-out 110:9, add-i 111:9, loop-less 109:5
+    (λ c. search needs) (λ c. search needs) (λ c κs. search needs) (λ c κs. search needs) (λ c. search needs)
+    (λ c. search needs) (λ c. search needs) (λ c. search needs)
+    loop-again
+    -- by search: same-length 104:1
     (λ c. search needs)
-    (λ c. search needs)
-    (λ c κs. search needs)
-    (λ c κs. search needs)
-    (λ c. search needs)
-    (λ c. search needs)
-    (λ c. search needs)
-    (λ c. search needs)
-    (λ c. (omega arith, simp length-set (c .before .before .before .before .loop .inv .1), ap (λ (k : ℕ). take (c .before .before .before .before .loop .i + 1) (set (c .before .before .before .before .loop .out) (c .before .before .before .before .loop .i) k)) (c .bar-key .ensures ∙ ap (λ (o : ℕ). bar-key (read (drop o (c .before .before .before .before .before .before .before .before .args .t .now)))) (c .before .wide .ensures .0)) ∙ filled-next (λ (o : ℕ). bar-key (read (drop o (c .before .before .before .before .before .before .before .before .args .t .now)))) (c .before .before .before .before .before .before .before .before .args .os .now) (c .before .before .before .before .loop .out) (c .before .before .before .before .loop .i) (omega arith) (omega arith) (c .before .before .before .before .loop .inv .2)))
-    (λ c. search needs)
-    (λ c. (keys-filled (c .before .before .before .before .before .args .t .now) (c .before .before .before .before .before .args .os .now) (c .before .loop .out) (c .before .loop .i) (c .before .loop .inv .0) (c .loop-test .left) (c .before .loop .inv .2), c .before .loop .inv .1)))
+    returns)

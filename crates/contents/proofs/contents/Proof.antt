@@ -13,20 +13,100 @@ Inv-loop t targets out₀ at₀ inside₀ m₀ out at inside m = Walk t targets 
 abbrev μ-loop : tie.MeasureT-loop
 μ-loop t targets out₀ at₀ inside₀ m₀ out at inside m = length t - at
 
+-- src/lib.rt:63:5
+loop-holds : tie.Need-loop-holds Inv-loop μ-loop
+loop-holds c =
+    let args = c .before .before .args in
+    let pre = c .before .before .pre in
+    walk-start (args .t .now) (args .targets) _ (pre .0) (pre .2)
+
+-- src/lib.rt:65:75
+cast-put-if : tie.Need-cast-put-if Inv-loop μ-loop
+cast-put-if c =
+    let pre = c .before .before .before .before .before .before .before .pre in
+    let loop-test = c .before .before .before .loop-test in
+    omega (arith, loop-test .taken, pre .1)
+
+-- src/lib.rt:65:9
+put-if-requires : tie.Need-put-if-requires Inv-loop μ-loop
+put-if-requires c κs =
+    let pre = c .before .before .before .before .before .before .before .pre in
+    let loop = c .before .before .before .before .loop in
+    let inv = loop .inv in
+    let loop-test = c .before .before .before .loop-test in
+    let glance-at = c .before .before .glance-at in (
+      omega (
+        arith,
+        walk-room inv (glance-at .result) (loop-test .taken) (glance-at .ensures) (c .before .is-found .ensures)
+            (pre .0),
+        inv .sized,
+      ),
+      omega (arith, inv .sized),
+    )
+
+-- src/lib.rt:67:9
+add-at : tie.Need-add-at Inv-loop μ-loop
+add-at c =
+    let after-is-found = c .before .before .before .before .before .before in
+    let loop = after-is-found .before .before .before .loop in
+    let loop-test = after-is-found .before .before .loop-test in
+    let glance-at = after-is-found .before .glance-at in
+    let is-found = after-is-found .is-found in
+    omega (
+      arith,
+      walk-fits (loop .inv) (glance-at .result) (loop-test .taken) (glance-at .ensures) (is-found .ensures) .1,
+    )
+
+-- src/lib.rt:63:5
+loop-less : tie.Need-loop-less Inv-loop μ-loop
+loop-less c =
+    let after-is-found = c .before .before .before .before .before .before in
+    let loop = after-is-found .before .before .before .loop in
+    let loop-test = after-is-found .before .before .loop-test in
+    let glance-at = after-is-found .before .glance-at in
+    let is-found = after-is-found .is-found in
+    omega
+    (arith, walk-fits (loop .inv) (glance-at .result) (loop-test .taken) (glance-at .ensures) (is-found .ensures))
+
+-- src/lib.rt:63:5
+loop-again : tie.Need-loop-again Inv-loop μ-loop
+loop-again c =
+    let after-is-found = c .before .before .before .before .before .before in
+    let loop = after-is-found .before .before .before .loop in
+    let loop-test = after-is-found .before .before .loop-test in
+    let glance-at = after-is-found .before .glance-at in
+    let is-found = after-is-found .is-found in
+    let put-if = c .before .before .before .before .put-if in
+    walk-on (loop .inv) (glance-at .result) (loop-test .taken) (glance-at .ensures) (is-found .ensures)
+    (c .before .inside-after .ensures) (put-if .ensures)
+
+-- src/lib.rt:56:1
+same-length : tie.Need-same-length Inv-loop μ-loop
+same-length c =
+    let pre = c .before .before .before .before .pre in
+    c .before .loop .inv .sized ∙ sym (pre .2)
+
+-- src/lib.rt:56:1
+returns : tie.Need-returns Inv-loop μ-loop
+returns c =
+    let pre = c .before .before .before .before .pre in
+    walk-end (c .before .loop .inv) (pre .0) (c .loop-test .left)
+
 pub contents-spec : {M : Type 1} → statement M
 contents-spec =
     tie.close
     (tie.spec
     Inv-loop
     μ-loop
-    (λ c. walk-start (c .before .before .args .t .now) (c .before .before .args .targets) _ (c .before .before .pre .0) (c .before .before .pre .2))
+    loop-holds
+    -- by search: glance-at-requires 64:13, is-found-requires 65:31
+    (λ c κs. search needs) (λ c κs. search needs)
+    cast-put-if
+    put-if-requires
+    -- by search: inside-after-requires 66:9
     (λ c κs. search needs)
-    (λ c κs. search needs)
-    (λ c. omega (arith, (c .before .before .before .loop-test .taken), c .before .before .before .before .before .before .before .pre .1))
-    (λ c κs. (omega (arith, walk-room (c .before .before .before .before .loop .inv) (c .before .before .glance-at .result) (c .before .before .before .loop-test .taken) (c .before .before .glance-at .ensures) (c .before .is-found .ensures) (c .before .before .before .before .before .before .before .pre .0), c .before .before .before .before .loop .inv .sized), omega (arith, c .before .before .before .before .loop .inv .sized)))
-    (λ c κs. search needs)
-    (λ c. omega (arith, walk-fits (c .before .before .before .before .before .before .before .before .before .loop .inv) (c .before .before .before .before .before .before .before .glance-at .result) (c .before .before .before .before .before .before .before .before .loop-test .taken) (c .before .before .before .before .before .before .before .glance-at .ensures) (c .before .before .before .before .before .before .is-found .ensures) .1))
-    (λ c. omega (arith, walk-fits (c .before .before .before .before .before .before .before .before .before .loop .inv) (c .before .before .before .before .before .before .before .glance-at .result) (c .before .before .before .before .before .before .before .before .loop-test .taken) (c .before .before .before .before .before .before .before .glance-at .ensures) (c .before .before .before .before .before .before .is-found .ensures)))
-    (λ c. walk-on (c .before .before .before .before .before .before .before .before .before .loop .inv) (c .before .before .before .before .before .before .before .glance-at .result) (c .before .before .before .before .before .before .before .before .loop-test .taken) (c .before .before .before .before .before .before .before .glance-at .ensures) (c .before .before .before .before .before .before .is-found .ensures) (c .before .inside-after .ensures) (c .before .before .before .before .put-if .ensures))
-    (λ c. c .before .loop .inv .sized ∙ sym (c .before .before .before .before .pre .2))
-    (λ c. walk-end (c .before .loop .inv) (c .before .before .before .before .pre .0) (c .loop-test .left)))
+    add-at
+    loop-less
+    loop-again
+    same-length
+    returns)

@@ -9,14 +9,30 @@ use borrow.Author.Needs.{needs}
 use Rattle.contents.proofs.read_key.Statement.{statement}
 use Rattle.contents.proofs.read_key.Tie as tie
 
+-- src/lib.rt:84:9
+returns : tie.Need-returns
+returns c =
+    let args = c .before .before .args in
+    bar-key-out (args .t .now) (args .at) (omega (arith, c .if1 .taken))
+
+-- src/lib.rt:80:1
+returns-2 : tie.Need-returns-2
+returns-2 c =
+    let args = c .before .before .before .before .before .before .before .args in
+    let known-at = c .before .before .before .before .known-at in
+    let head-of = c .before .before .before .head-of in
+    c .key-by .ensures
+    ∙ ap₂ (λ (n k : ℕ). cond (eqb n 1) 1 k) (head-of .ensures)
+    (c .before .key-of .ensures ∙ ap keyOf (c .before .before .read-view .ensures))
+    ∙ bar-key-read (args .t .now) (args .at) (known-at .result) (known-at .ensures)
+
 pub read-key-spec : {M : Type 1} → statement M
 read-key-spec =
     tie.close
     (tie.spec
-    (λ c. bar-key-out (c .before .before .args .t .now) (c .before .before .args .at) (omega (arith, (c .if1 .taken))))
+    returns
+    -- by search: known-at-requires 86:9, head-of-requires 87:12, read-view-requires 87:37, key-of-requires 87:24,
+    -- key-by-requires 87:5
+    (λ c κs. search needs) (λ c κs. search needs) (λ c κs. search needs) (λ c κs. search needs)
     (λ c κs. search needs)
-    (λ c κs. search needs)
-    (λ c κs. search needs)
-    (λ c κs. search needs)
-    (λ c κs. search needs)
-    (λ c. c .key-by .ensures ∙ ap₂ (λ (n k : ℕ). cond (eqb n 1) 1 k) (c .before .before .before .head-of .ensures) (c .before .key-of .ensures ∙ ap keyOf (c .before .before .read-view .ensures)) ∙ bar-key-read (c .before .before .before .before .before .before .before .args .t .now) (c .before .before .before .before .before .before .before .args .at) (c .before .before .before .before .known-at .result) (c .before .before .before .before .known-at .ensures)))
+    returns-2)

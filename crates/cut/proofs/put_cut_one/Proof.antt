@@ -11,13 +11,51 @@ use borrow.Author.Needs.{needs}
 use Rattle.cut.proofs.put_cut_one.Statement.{statement}
 use Rattle.cut.proofs.put_cut_one.Tie as tie
 
+-- src/lib.rt:42:40
+kind-of-requires : tie.Need-kind-of-requires
+kind-of-requires c κs =
+    let start = c .before .before .before in
+    one-least (start .args .t .now) (start .pre .0)
+
+-- src/lib.rt:42:58
+number-of-requires : tie.Need-number-of-requires
+number-of-requires c κs =
+    let start = c .before .before .before .before in
+    one-least (start .args .t .now) (start .pre .0)
+
+-- src/lib.rt:43:5
+put-turned-requires : tie.Need-put-turned-requires
+put-turned-requires c κs =
+    let start = c .before .before .before .before .before .before .before in
+    let pre = start .pre in
+    (one-least (start .args .t .now) (pre .0), pre .2)
+
+-- src/lib.rt:38:1
+returns : tie.Need-returns
+returns c =
+    let after-number-of = c .before .before .before .before .before in
+    let args = after-number-of .before .before .before .before .before .args in
+    let kind-of = after-number-of .before .kind-of in
+    let number-of = after-number-of .number-of in
+    let has-other-call = c .before .before .before .before .has-other in
+    λ r qs g e o.
+    c .before .before .put-turned .ensures
+    ∙ ap (λ (l : List ℕ). lead l (args .out .now))
+    (ap (λ (b : Bool). turnIf b (args .t .now))
+    (has-other-call .ensures qs o
+    ∙ ap₂ (λ (k i : ℕ). has-other k i (items qs)) (kind-of .ensures) (number-of .ensures))
+    ∙ ap (λ (l : List ℕ). turnIf (has-other (kindAt l) (number l) (items qs)) l) e
+    ∙ cut-one r (items qs) g)
+
 pub put-cut-one-spec : {M : Type 1} → statement M
 put-cut-one-spec =
     tie.close
     (tie.spec
-    (λ c κs. one-least (c .before .before .before .args .t .now) (c .before .before .before .pre .0))
-    (λ c κs. one-least (c .before .before .before .before .args .t .now) (c .before .before .before .before .pre .0))
+    kind-of-requires
+    number-of-requires
+    -- by search: has-other-requires 42:9
     (λ c κs. search needs)
-    (λ c κs. (one-least (c .before .before .before .before .before .before .before .args .t .now) (c .before .before .before .before .before .before .before .pre .0), c .before .before .before .before .before .before .before .pre .2))
+    put-turned-requires
+    -- by search: same-length 38:1
     (λ c. search needs)
-    (λ c. λ r qs g e o. c .before .before .put-turned .ensures ∙ ap (λ (l : List ℕ). lead l (c .before .before .before .before .before .before .before .before .before .before .args .out .now)) (ap (λ (b : Bool). turnIf b (c .before .before .before .before .before .before .before .before .before .before .args .t .now)) (c .before .before .before .before .has-other .ensures qs o ∙ ap₂ (λ (k i : ℕ). has-other k i (items qs)) (c .before .before .before .before .before .before .kind-of .ensures) (c .before .before .before .before .before .number-of .ensures)) ∙ ap (λ (l : List ℕ). turnIf (has-other (kindAt l) (number l) (items qs)) l) e ∙ cut-one r (items qs) g)))
+    returns)

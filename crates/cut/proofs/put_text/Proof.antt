@@ -5,17 +5,26 @@ use borrow.Author.Needs.{needs}
 use Rattle.cut.proofs.put_text.Statement.{statement}
 use Rattle.cut.proofs.put_text.Tie as tie
 
+-- src/lib.rt:61:1
+returns : tie.Need-returns
+returns c =
+    let after-put-number = c .before .before .before .before .before .before in
+    let args = after-put-number .before .before .before .before .before .before .before .before .before .args in
+    let put-mark = after-put-number .before .before .before .before .put-mark in
+    let put-number = after-put-number .put-number in
+    let put = c .before .before .put in (
+      omega (arith, put-mark .ensures .0, put-number .ensures .0, put .ensures .0),
+      text-over (args .t .now) (args .out .now) (put-mark .last .0) (put-number .last .0) (put .last .0)
+          (put-mark .result) (put-number .result) (put-mark .ensures .1) (put-mark .ensures .0)
+          (put-number .ensures .1) (put-number .ensures .0) (put .ensures .1) (omega arith),
+    )
+
 pub put-text-spec : {M : Type 1} → statement M
 put-text-spec =
     tie.close
     (tie.spec
-    (λ c κs. search needs)
-    (λ c. search needs)
-    (λ c κs. search needs)
-    (λ c. search needs)
-    (λ c. search needs)
-    (λ c. search needs)
-    (λ c κs. search needs)
-    (λ c. search needs)
-    (λ c. search needs)
-    (λ c. (omega (arith, c .before .before .before .before .before .before .before .before .before .before .put-mark .ensures .0, c .before .before .before .before .before .before .put-number .ensures .0, c .before .before .put .ensures .0), text-over (c .before .before .before .before .before .before .before .before .before .before .before .before .before .before .before .args .t .now) (c .before .before .before .before .before .before .before .before .before .before .before .before .before .before .before .args .out .now) (c .before .before .before .before .before .before .before .before .before .before .put-mark .last .0) (c .before .before .before .before .before .before .put-number .last .0) (c .before .before .put .last .0) (c .before .before .before .before .before .before .before .before .before .before .put-mark .result) (c .before .before .before .before .before .before .put-number .result) (c .before .before .before .before .before .before .before .before .before .before .put-mark .ensures .1) (c .before .before .before .before .before .before .before .before .before .before .put-mark .ensures .0) (c .before .before .before .before .before .before .put-number .ensures .1) (c .before .before .before .before .before .before .put-number .ensures .0) (c .before .before .put .ensures .1) (omega arith))))
+    -- by search: put-mark-requires 65:9, cast-put-number 66:40, put-number-requires 66:9, sub-put 67:25,
+    -- part-put-start 67:25, part-put-end 67:25, put-requires 67:9, add-result 68:5, same-length 61:1
+    (λ c κs. search needs) (λ c. search needs) (λ c κs. search needs) (λ c. search needs) (λ c. search needs)
+    (λ c. search needs) (λ c κs. search needs) (λ c. search needs) (λ c. search needs)
+    returns)

@@ -1,7 +1,7 @@
 use Rattle.fixed_codes.proofs.FixedLaws.{fixed-off, found-here, found-nowhere}
 use Rattle.xliff.proofs.lists.Slices.{tail-is}
-use Rattle.walk.proofs.WalkLaws.{Rest, next}
-use Rattle.walk.specs.Kept.{items}
+use Rattle.walk.proofs.WalkLaws.{next}
+use Rattle.walk.specs.Kept.{items, Rest}
 use Rattle.xliff.specs.SetTarget.{fixed-list}
 use Rattle.xliff.specs.Encode.{Record, spell}
 use lib.ListN.{length}

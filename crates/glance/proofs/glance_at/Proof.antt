@@ -5,14 +5,24 @@ use borrow.Author.Needs.{needs}
 use Rattle.glance.proofs.glance_at.Statement.{statement}
 use Rattle.glance.proofs.glance_at.Tie as tie
 
+-- src/lib.rt:142:9
+returns : tie.Need-returns
+returns c =
+    let args = c .before .before .before .args in
+    nothing-glanced (args .s .now) (args .at) _ (omega (arith, c .before .if1 .taken))
+
+-- src/lib.rt:138:1
+returns-2 : tie.Need-returns-2
+returns-2 c = simp tail-is at (c .glance-of .ensures)
+
 pub glance-at-spec : {M : Type 1} → statement M
 glance-at-spec =
     tie.close
     (tie.spec
+    -- by search: item-glance-requires 142:9
     (λ c κs. search needs)
-    (λ c. nothing-glanced (c .before .before .before .args .s .now) (c .before .before .before .args .at) _ (omega (arith, (c .before .if1 .taken))))
-    (λ c. search needs)
-    (λ c. search needs)
-    (λ c. search needs)
-    (λ c κs. search needs)
-    (λ c. simp tail-is at (c .glance-of .ensures)))
+    returns
+    -- by search: sub-glance-of 144:15, part-glance-of-start 144:15, part-glance-of-end 144:15,
+    -- glance-of-requires 144:5
+    (λ c. search needs) (λ c. search needs) (λ c. search needs) (λ c κs. search needs)
+    returns-2)

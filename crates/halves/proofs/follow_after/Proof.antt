@@ -15,27 +15,104 @@ Inv-loop keys links i key j₀ j = FollowedAfter keys i j
 abbrev μ-loop : tie.MeasureT-loop
 μ-loop keys links i key j₀ j = length keys - j
 
+-- src/lib.rt:82:17
+sub-j : tie.Need-sub-j Inv-loop μ-loop
+sub-j c =
+    let start = c .before .before .before .before .before in
+    let pre = start .pre in
+    omega (arith, pre .0 (start .args .i) (pre .3), c .wide .ensures .0)
+
+-- src/lib.rt:83:5
+loop-holds : tie.Need-loop-holds Inv-loop μ-loop
+loop-holds c =
+    let start = c .before .before .before .before .before in
+    let args = start .args in
+    let pre = start .pre in
+    after-start (args .keys .now) (args .links .now) (args .i) (pre .3) (c .wide .result) (pre .0)
+    (c .wide .ensures .0)
+
+-- src/lib.rt:85:13
+returns : tie.Need-returns Inv-loop μ-loop
+returns c =
+    let args = c .before .before .before .before .before .before .before .before .before .before .args in
+    let keys = args .keys .now in
+    let loop = c .before .before .before .before .loop in
+    let inv = loop .inv in
+    let loop-test = c .before .before .before .loop-test in (
+      sym (inv .2
+          ∙ next-hit (others keys (args .i)) (length keys) (loop .j) (loop-test .taken)
+          (sym (c .before .is-other .ensures) ∙ c .if1 .taken)),
+      inv .0,
+      inv .1,
+    )
+
+-- src/lib.rt:87:13
+sub-j-2 : tie.Need-sub-j-2 Inv-loop μ-loop
+sub-j-2 c =
+    let after-loop-test = c .before .before .before .before .before in
+    let pre = after-loop-test .before .before .before .before .before .before .before .pre in
+    let loop = after-loop-test .before .loop in
+    let loop-test = after-loop-test .loop-test in
+    omega (arith, pre .0 (loop .j) (loop-test .taken), c .wide2 .ensures .0)
+
+-- src/lib.rt:83:5
+loop-less : tie.Need-loop-less Inv-loop μ-loop
+loop-less c =
+    let after-loop-test = c .before .before .before .before .before in
+    let start = after-loop-test .before .before .before .before .before .before .before in
+    let args = start .args in
+    let pre = start .pre in
+    let loop = after-loop-test .before .loop in
+    let loop-test = after-loop-test .loop-test in
+    let is-other = c .before .before .before .is-other in
+    omega (
+      arith,
+      loop-test .taken,
+      after-next (args .keys .now) (args .links .now) (args .i) (pre .3) (c .wide2 .result) (pre .0) (loop .j)
+          (loop-test .taken) (loop .inv) (sym (is-other .ensures) ∙ c .before .before .if1 .left)
+          (c .wide2 .ensures .0) .0,
+    )
+
+-- src/lib.rt:83:5
+loop-again : tie.Need-loop-again Inv-loop μ-loop
+loop-again c =
+    let after-loop-test = c .before .before .before .before .before in
+    let start = after-loop-test .before .before .before .before .before .before .before in
+    let args = start .args in
+    let pre = start .pre in
+    let loop = after-loop-test .before .loop in
+    let loop-test = after-loop-test .loop-test in
+    let is-other = c .before .before .before .is-other in
+    after-next (args .keys .now) (args .links .now) (args .i) (pre .3) (c .wide2 .result) (pre .0) (loop .j)
+    (loop-test .taken) (loop .inv) (sym (is-other .ensures) ∙ c .before .before .if1 .left) (c .wide2 .ensures .0)
+    .1
+
+-- src/lib.rt:77:1
+returns-2 : tie.Need-returns-2 Inv-loop μ-loop
+returns-2 c =
+    let args = c .before .before .before .before .before .before .before .args in
+    let keys = args .keys .now in
+    let loop = c .before .loop in
+    let inv = loop .inv in
+    (sym (inv .2 ∙ next-end (others keys (args .i)) (length keys) (loop .j) (c .loop-test .left)), inv .0, inv .1)
+
 pub follow-after-spec : {M : Type 1} → statement M
 follow-after-spec =
     tie.close
     (tie.spec
     Inv-loop
     μ-loop
-    (λ c. search needs)
-    (λ c. search needs)
-    (λ c. search needs)
-    (λ c. search needs)
-    (λ c κs. search needs)
-    (λ c. omega (arith, c .before .before .before .before .before .pre .0 (c .before .before .before .before .before .args .i) (c .before .before .before .before .before .pre .3), c .wide .ensures .0))
-    (λ c. after-start (c .before .before .before .before .before .args .keys .now) (c .before .before .before .before .before .args .links .now) (c .before .before .before .before .before .args .i) (c .before .before .before .before .before .pre .3) (c .wide .result) (c .before .before .before .before .before .pre .0) (c .wide .ensures .0))
-    (λ c. search needs)
-    (λ c. search needs)
-    (λ c κs. search needs)
-    (λ c. (sym (c .before .before .before .before .loop .inv .2 ∙ next-hit (others (c .before .before .before .before .before .before .before .before .before .before .args .keys .now) (c .before .before .before .before .before .before .before .before .before .before .args .i)) (length (c .before .before .before .before .before .before .before .before .before .before .args .keys .now)) (c .before .before .before .before .loop .j) (c .before .before .before .loop-test .taken) (sym (c .before .is-other .ensures) ∙ (c .if1 .taken))), c .before .before .before .before .loop .inv .0, c .before .before .before .before .loop .inv .1))
-    (λ c. search needs)
-    (λ c. search needs)
-    (λ c κs. search needs)
-    (λ c. omega (arith, c .before .before .before .before .before .before .before .before .before .before .before .before .pre .0 (c .before .before .before .before .before .before .loop .j) (c .before .before .before .before .before .loop-test .taken), c .wide2 .ensures .0))
-    (λ c. omega (arith, (c .before .before .before .before .before .loop-test .taken), after-next (c .before .before .before .before .before .before .before .before .before .before .before .before .args .keys .now) (c .before .before .before .before .before .before .before .before .before .before .before .before .args .links .now) (c .before .before .before .before .before .before .before .before .before .before .before .before .args .i) (c .before .before .before .before .before .before .before .before .before .before .before .before .pre .3) (c .wide2 .result) (c .before .before .before .before .before .before .before .before .before .before .before .before .pre .0) (c .before .before .before .before .before .before .loop .j) (c .before .before .before .before .before .loop-test .taken) (c .before .before .before .before .before .before .loop .inv) (sym (c .before .before .before .is-other .ensures) ∙ (c .before .before .if1 .left)) (c .wide2 .ensures .0) .0))
-    (λ c. after-next (c .before .before .before .before .before .before .before .before .before .before .before .before .args .keys .now) (c .before .before .before .before .before .before .before .before .before .before .before .before .args .links .now) (c .before .before .before .before .before .before .before .before .before .before .before .before .args .i) (c .before .before .before .before .before .before .before .before .before .before .before .before .pre .3) (c .wide2 .result) (c .before .before .before .before .before .before .before .before .before .before .before .before .pre .0) (c .before .before .before .before .before .before .loop .j) (c .before .before .before .before .before .loop-test .taken) (c .before .before .before .before .before .before .loop .inv) (sym (c .before .before .before .is-other .ensures) ∙ (c .before .before .if1 .left)) (c .wide2 .ensures .0) .1)
-    (λ c. (sym (c .before .loop .inv .2 ∙ next-end (others (c .before .before .before .before .before .before .before .args .keys .now) (c .before .before .before .before .before .before .before .args .i)) (length (c .before .before .before .before .before .before .before .args .keys .now)) (c .before .loop .j) (c .loop-test .left)), c .before .loop .inv .0, c .before .loop .inv .1)))
+    -- by search: mul-key 81:15, shared-slice-read-key 81:15, mul-wide 82:42, shared-slice-read-wide 82:42,
+    -- wide-requires 82:30
+    (λ c. search needs) (λ c. search needs) (λ c. search needs) (λ c. search needs) (λ c κs. search needs)
+    sub-j
+    loop-holds
+    -- by search: mul-is-other 84:32, shared-slice-read-is-other 84:32, is-other-requires 84:12
+    (λ c. search needs) (λ c. search needs) (λ c κs. search needs)
+    returns
+    -- by search: mul-wide-2 87:38, shared-slice-read-wide-2 87:38, wide-requires-2 87:26
+    (λ c. search needs) (λ c. search needs) (λ c κs. search needs)
+    sub-j-2
+    loop-less
+    loop-again
+    returns-2)

@@ -14,27 +14,83 @@ Inv-loop keys links i key j₀ j = FollowedBefore keys i j
 abbrev μ-loop : tie.MeasureT-loop
 μ-loop keys links i key j₀ j = j
 
+-- src/lib.rt:67:5
+loop-holds : tie.Need-loop-holds Inv-loop μ-loop
+loop-holds c =
+    let start = c .before .before .before .before .before in
+    let args = start .args in
+    let pre = start .pre in
+    before-start (args .keys .now) (args .links .now) (args .i) (pre .3) (c .wide .result) (pre .0)
+    (c .wide .ensures .0)
+
+-- src/lib.rt:69:13
+returns : tie.Need-returns Inv-loop μ-loop
+returns c =
+    let args = c .before .before .before .before .before .before .before .before .before .before .args in
+    let loop = c .before .before .before .before .loop in
+    let loop-test = c .before .before .before .loop-test in (
+      sym (loop .inv .1
+          ∙ previous-hit (others (args .keys .now) (args .i)) (loop .j) (loop-test .taken)
+          (sym (c .before .is-other .ensures) ∙ c .if1 .taken)),
+      loop .inv .0,
+    )
+
+-- src/lib.rt:67:5
+loop-less : tie.Need-loop-less Inv-loop μ-loop
+loop-less c =
+    let after-loop-test = c .before .before .before .before .before in
+    let start = after-loop-test .before .before .before .before .before .before .before in
+    let args = start .args in
+    let pre = start .pre in
+    let loop = after-loop-test .before .loop in
+    let loop-test = after-loop-test .loop-test in
+    let is-other = c .before .before .before .is-other in
+    before-next (args .keys .now) (args .links .now) (args .i) (pre .3) (c .wide2 .result) (pre .0) (loop .j)
+    (loop-test .taken) (loop .inv) (sym (is-other .ensures) ∙ c .before .before .if1 .left) (c .wide2 .ensures .0)
+    .0
+
+-- src/lib.rt:67:5
+loop-again : tie.Need-loop-again Inv-loop μ-loop
+loop-again c =
+    let after-loop-test = c .before .before .before .before .before in
+    let start = after-loop-test .before .before .before .before .before .before .before in
+    let args = start .args in
+    let pre = start .pre in
+    let loop = after-loop-test .before .loop in
+    let loop-test = after-loop-test .loop-test in
+    let is-other = c .before .before .before .is-other in
+    before-next (args .keys .now) (args .links .now) (args .i) (pre .3) (c .wide2 .result) (pre .0) (loop .j)
+    (loop-test .taken) (loop .inv) (sym (is-other .ensures) ∙ c .before .before .if1 .left) (c .wide2 .ensures .0)
+    .1
+
+-- src/lib.rt:61:1
+returns-2 : tie.Need-returns-2 Inv-loop μ-loop
+returns-2 c =
+    let args = c .before .before .before .before .before .before .before .args in
+    let keys = args .keys .now in
+    let i = args .i in
+    let loop = c .before .loop in (
+      sym (loop .inv .1
+          ∙ ap (previous (others keys i)) (let z : loop .j ≡ 0 = omega (arith, c .loop-test .left) in z)
+          ∙ previous-none (others keys i)),
+      search needs,
+    )
+
 pub follow-before-spec : {M : Type 1} → statement M
 follow-before-spec =
     tie.close
     (tie.spec
     Inv-loop
     μ-loop
-    (λ c. search needs)
-    (λ c. search needs)
-    (λ c. search needs)
-    (λ c. search needs)
-    (λ c κs. search needs)
-    (λ c. before-start (c .before .before .before .before .before .args .keys .now) (c .before .before .before .before .before .args .links .now) (c .before .before .before .before .before .args .i) (c .before .before .before .before .before .pre .3) (c .wide .result) (c .before .before .before .before .before .pre .0) (c .wide .ensures .0))
-    (λ c. search needs)
-    (λ c. search needs)
-    (λ c. search needs)
-    (λ c κs. search needs)
-    (λ c. (sym (c .before .before .before .before .loop .inv .1 ∙ previous-hit (others (c .before .before .before .before .before .before .before .before .before .before .args .keys .now) (c .before .before .before .before .before .before .before .before .before .before .args .i)) (c .before .before .before .before .loop .j) (c .before .before .before .loop-test .taken) (sym (c .before .is-other .ensures) ∙ (c .if1 .taken))), c .before .before .before .before .loop .inv .0))
-    (λ c. search needs)
-    (λ c. search needs)
-    (λ c. search needs)
-    (λ c κs. search needs)
-    (λ c. before-next (c .before .before .before .before .before .before .before .before .before .before .before .before .args .keys .now) (c .before .before .before .before .before .before .before .before .before .before .before .before .args .links .now) (c .before .before .before .before .before .before .before .before .before .before .before .before .args .i) (c .before .before .before .before .before .before .before .before .before .before .before .before .pre .3) (c .wide2 .result) (c .before .before .before .before .before .before .before .before .before .before .before .before .pre .0) (c .before .before .before .before .before .before .loop .j) (c .before .before .before .before .before .loop-test .taken) (c .before .before .before .before .before .before .loop .inv) (sym (c .before .before .before .is-other .ensures) ∙ (c .before .before .if1 .left)) (c .wide2 .ensures .0) .0)
-    (λ c. before-next (c .before .before .before .before .before .before .before .before .before .before .before .before .args .keys .now) (c .before .before .before .before .before .before .before .before .before .before .before .before .args .links .now) (c .before .before .before .before .before .before .before .before .before .before .before .before .args .i) (c .before .before .before .before .before .before .before .before .before .before .before .before .pre .3) (c .wide2 .result) (c .before .before .before .before .before .before .before .before .before .before .before .before .pre .0) (c .before .before .before .before .before .before .loop .j) (c .before .before .before .before .before .loop-test .taken) (c .before .before .before .before .before .before .loop .inv) (sym (c .before .before .before .is-other .ensures) ∙ (c .before .before .if1 .left)) (c .wide2 .ensures .0) .1)
-    (λ c. (sym (c .before .loop .inv .1 ∙ ap (previous (others (c .before .before .before .before .before .before .before .args .keys .now) (c .before .before .before .before .before .before .before .args .i))) (let z : c .before .loop .j ≡ 0 = omega (arith, (c .loop-test .left)) in z) ∙ previous-none (others (c .before .before .before .before .before .before .before .args .keys .now) (c .before .before .before .before .before .before .before .args .i))), search needs)))
+    -- by search: mul-key 65:15, shared-slice-read-key 65:15, mul-wide 66:29, shared-slice-read-wide 66:29,
+    -- wide-requires 66:9
+    (λ c. search needs) (λ c. search needs) (λ c. search needs) (λ c. search needs) (λ c κs. search needs)
+    loop-holds
+    -- by search: sub-is-other 68:37, mul-is-other 68:32, shared-slice-read-is-other 68:32, is-other-requires 68:12
+    (λ c. search needs) (λ c. search needs) (λ c. search needs) (λ c κs. search needs)
+    returns
+    -- by search: sub-wide 71:31, mul-wide-2 71:25, shared-slice-read-wide-2 71:25, wide-requires-2 71:9
+    (λ c. search needs) (λ c. search needs) (λ c. search needs) (λ c κs. search needs)
+    loop-less
+    loop-again
+    returns-2)

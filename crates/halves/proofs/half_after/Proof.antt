@@ -5,13 +5,28 @@ use borrow.Author.Needs.{needs}
 use Rattle.halves.proofs.half_after.Statement.{statement}
 use Rattle.halves.proofs.half_after.Tie as tie
 
+-- src/lib.rt:55:9
+returns : tie.Need-returns
+returns c =
+    let start = c .before .before .before .before in
+    let pre = start .pre in (
+      sym (no-half-after (start .args .keys .now) (start .args .i) pre
+          (sym (c .before .half-of .ensures) ∙ c .if1 .taken)),
+      omega (arith, pre),
+      omega arith,
+    )
+
+-- src/lib.rt:50:1
+returns-2 : tie.Need-returns-2
+returns-2 c = c .scan-after .ensures
+
 pub half-after-spec : {M : Type 1} → statement M
 half-after-spec =
     tie.close
     (tie.spec
-    (λ c. search needs)
-    (λ c. search needs)
+    -- by search: mul-half-of 54:22, shared-slice-read-half-of 54:22, half-of-requires 54:8
+    (λ c. search needs) (λ c. search needs) (λ c κs. search needs)
+    returns
+    -- by search: scan-after-requires 57:5
     (λ c κs. search needs)
-    (λ c. (sym (no-half-after (c .before .before .before .before .args .keys .now) (c .before .before .before .before .args .i) (c .before .before .before .before .pre) (sym (c .before .half-of .ensures) ∙ (c .if1 .taken))), omega (arith, (c .before .before .before .before .pre)), omega arith))
-    (λ c κs. search needs)
-    (λ c. c .scan-after .ensures))
+    returns-2)

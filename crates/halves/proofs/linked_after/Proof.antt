@@ -5,13 +5,23 @@ use borrow.Author.Needs.{needs}
 use Rattle.halves.proofs.linked_after.Statement.{statement}
 use Rattle.halves.proofs.linked_after.Tie as tie
 
+-- src/lib.rt:109:9
+returns : tie.Need-returns
+returns c =
+    let start = c .before .before .before .before .before in
+    let pre = start .pre in (
+      sym (no-half-after (start .args .keys .now) (start .args .i) (pre .3)
+          (sym (c .before .half-of .ensures) ∙ c .if1 .taken)),
+      omega (arith, pre .3),
+      omega arith,
+    )
+
 pub linked-after-spec : {M : Type 1} → statement M
 linked-after-spec =
     tie.close
     (tie.spec
-    (λ c. search needs)
-    (λ c. search needs)
-    (λ c κs. search needs)
-    (λ c. (sym (no-half-after (c .before .before .before .before .before .args .keys .now) (c .before .before .before .before .before .args .i) (c .before .before .before .before .before .pre .3) (sym (c .before .half-of .ensures) ∙ (c .if1 .taken))), omega (arith, c .before .before .before .before .before .pre .3), omega arith))
-    (λ c κs. search needs)
-    (λ c. search needs))
+    -- by search: mul-half-of 108:22, shared-slice-read-half-of 108:22, half-of-requires 108:8
+    (λ c. search needs) (λ c. search needs) (λ c κs. search needs)
+    returns
+    -- by search: follow-after-requires 111:5, returns-2 104:1
+    (λ c κs. search needs) (λ c. search needs))

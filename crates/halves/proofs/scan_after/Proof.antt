@@ -15,6 +15,61 @@ Inv-loop keys i j₀ j = (i < j) × (j ≤ length keys) × (half-after keys i �
 abbrev μ-loop : tie.MeasureT-loop
 μ-loop keys i j₀ j = length keys - j
 
+-- src/lib.rt:29:5
+loop-holds : tie.Need-loop-holds Inv-loop μ-loop
+unfolding half-after
+loop-holds c =
+    let args = c .before .args in
+    let keys = args .keys .now in
+    let i = args .i in (
+      search needs,
+      search needs,
+      ap (λ (k : ℕ). next (others keys i) k (length keys - k)) (let z : suc i ≡ i + 1 = omega arith in z),
+    )
+
+-- src/lib.rt:31:13
+returns : tie.Need-returns Inv-loop μ-loop
+unfolding half-after
+returns c =
+    let after-loop = c .before .before .before .before .before in
+    let args = after-loop .before .before .args in
+    let keys = args .keys .now in
+    let loop = after-loop .loop in
+    let inv = loop .inv in
+    let loop-test = c .before .before .before .before .loop-test in (
+      sym (inv .2
+          ∙ next-hit (others keys (args .i)) (length keys) (loop .j) (loop-test .taken)
+          (sym (c .before .is-other .ensures) ∙ c .if1 .taken)),
+      inv .0,
+      inv .1,
+    )
+
+-- src/lib.rt:29:5
+loop-again : tie.Need-loop-again Inv-loop μ-loop
+unfolding half-after
+loop-again c =
+    let after-loop = c .before .before .before .before .before in
+    let args = after-loop .before .before .args in
+    let keys = args .keys .now in
+    let loop = after-loop .loop in
+    let loop-test = c .before .before .before .before .loop-test in (
+      search needs,
+      search needs,
+      loop .inv .2
+          ∙ next-miss (others keys (args .i)) (length keys) (loop .j) (loop-test .taken)
+          (sym (c .before .is-other .ensures) ∙ c .if1 .left),
+    )
+
+-- src/lib.rt:24:1
+returns-2 : tie.Need-returns-2 Inv-loop μ-loop
+unfolding half-after
+returns-2 c =
+    let args = c .before .before .before .args in
+    let keys = args .keys .now in
+    let loop = c .before .loop in
+    let inv = loop .inv in
+    (sym (inv .2 ∙ next-end (others keys (args .i)) (length keys) (loop .j) (c .loop-test .left)), inv .0, inv .1)
+
 pub scan-after-spec : {M : Type 1} → statement M
 unfolding half-after
 scan-after-spec =
@@ -22,15 +77,14 @@ scan-after-spec =
     (tie.spec
     Inv-loop
     μ-loop
+    -- by search: add-j 28:17
     (λ c. search needs)
-    (λ c. (search needs, search needs, ap (λ (k : ℕ). next (others (c .before .args .keys .now) (c .before .args .i)) k (length (c .before .args .keys .now) - k)) (let z : suc (c .before .args .i) ≡ (c .before .args .i) + 1 = omega arith in z)))
-    (λ c. search needs)
-    (λ c. search needs)
-    (λ c. search needs)
-    (λ c. search needs)
-    (λ c κs. search needs)
-    (λ c. (sym (c .before .before .before .before .before .loop .inv .2 ∙ next-hit (others (c .before .before .before .before .before .before .before .args .keys .now) (c .before .before .before .before .before .before .before .args .i)) (length (c .before .before .before .before .before .before .before .args .keys .now)) (c .before .before .before .before .before .loop .j) (c .before .before .before .before .loop-test .taken) (sym (c .before .is-other .ensures) ∙ (c .if1 .taken))), c .before .before .before .before .before .loop .inv .0, c .before .before .before .before .before .loop .inv .1))
-    (λ c. search needs)
-    (λ c. search needs)
-    (λ c. (search needs, search needs, c .before .before .before .before .before .loop .inv .2 ∙ next-miss (others (c .before .before .before .before .before .before .before .args .keys .now) (c .before .before .before .before .before .before .before .args .i)) (length (c .before .before .before .before .before .before .before .args .keys .now)) (c .before .before .before .before .before .loop .j) (c .before .before .before .before .loop-test .taken) (sym (c .before .is-other .ensures) ∙ (c .if1 .left))))
-    (λ c. (sym (c .before .loop .inv .2 ∙ next-end (others (c .before .before .before .args .keys .now) (c .before .before .before .args .i)) (length (c .before .before .before .args .keys .now)) (c .before .loop .j) (c .loop-test .left)), c .before .loop .inv .0, c .before .loop .inv .1)))
+    loop-holds
+    -- by search: mul-is-other 30:27, shared-slice-read-is-other 30:27, mul-is-other-2 30:36,
+    -- shared-slice-read-is-other-2 30:36, is-other-requires 30:12
+    (λ c. search needs) (λ c. search needs) (λ c. search needs) (λ c. search needs) (λ c κs. search needs)
+    returns
+    -- by search: add-j-2 33:9, loop-less 29:5
+    (λ c. search needs) (λ c. search needs)
+    loop-again
+    returns-2)

@@ -14,6 +14,48 @@ Inv-loop keys i j₀ j = (j ≤ i) × (half-before keys i ≡ previous (others k
 abbrev μ-loop : tie.MeasureT-loop
 μ-loop keys i j₀ j = j
 
+-- src/lib.rt:16:13
+returns : tie.Need-returns Inv-loop μ-loop
+unfolding half-before
+returns c =
+    let after-loop = c .before .before .before .before .before in
+    let args = after-loop .before .before .args in
+    let loop = after-loop .loop in
+    let loop-test = c .before .before .before .before .loop-test in (
+      sym (loop .inv .1
+          ∙ previous-hit (others (args .keys .now) (args .i)) (loop .j) (loop-test .taken)
+          (sym (c .before .is-other .ensures) ∙ c .if1 .taken)),
+      loop .inv .0,
+    )
+
+-- src/lib.rt:14:5
+loop-again : tie.Need-loop-again Inv-loop μ-loop
+unfolding half-before
+loop-again c =
+    let after-loop = c .before .before .before .before .before in
+    let args = after-loop .before .before .args in
+    let loop = after-loop .loop in
+    let loop-test = c .before .before .before .before .loop-test in (
+      search needs,
+      loop .inv .1
+          ∙ previous-miss (others (args .keys .now) (args .i)) (loop .j) (loop-test .taken)
+          (sym (c .before .is-other .ensures) ∙ c .if1 .left),
+    )
+
+-- src/lib.rt:9:1
+returns-2 : tie.Need-returns-2 Inv-loop μ-loop
+unfolding half-before
+returns-2 c =
+    let args = c .before .before .before .args in
+    let keys = args .keys .now in
+    let i = args .i in
+    let loop = c .before .loop in (
+      sym (loop .inv .1
+          ∙ ap (previous (others keys i)) (let z : loop .j ≡ 0 = omega (arith, c .loop-test .left) in z)
+          ∙ previous-none (others keys i)),
+      search needs,
+    )
+
 pub scan-before-spec : {M : Type 1} → statement M
 unfolding half-before
 scan-before-spec =
@@ -21,15 +63,12 @@ scan-before-spec =
     (tie.spec
     Inv-loop
     μ-loop
-    (λ c. (search needs, refl))
-    (λ c. search needs)
-    (λ c. search needs)
-    (λ c. search needs)
-    (λ c. search needs)
-    (λ c. search needs)
-    (λ c κs. search needs)
-    (λ c. (sym (c .before .before .before .before .before .loop .inv .1 ∙ previous-hit (others (c .before .before .before .before .before .before .before .args .keys .now) (c .before .before .before .before .before .before .before .args .i)) (c .before .before .before .before .before .loop .j) (c .before .before .before .before .loop-test .taken) (sym (c .before .is-other .ensures) ∙ (c .if1 .taken))), c .before .before .before .before .before .loop .inv .0))
-    (λ c. search needs)
-    (λ c. search needs)
-    (λ c. (search needs, c .before .before .before .before .before .loop .inv .1 ∙ previous-miss (others (c .before .before .before .before .before .before .before .args .keys .now) (c .before .before .before .before .before .before .before .args .i)) (c .before .before .before .before .before .loop .j) (c .before .before .before .before .loop-test .taken) (sym (c .before .is-other .ensures) ∙ (c .if1 .left))))
-    (λ c. (sym (c .before .loop .inv .1 ∙ ap (previous (others (c .before .before .before .args .keys .now) (c .before .before .before .args .i))) (let z : c .before .loop .j ≡ 0 = omega (arith, (c .loop-test .left)) in z) ∙ previous-none (others (c .before .before .before .args .keys .now) (c .before .before .before .args .i))), search needs)))
+    -- by one step: loop-holds 14:5, mul-is-other 15:27, shared-slice-read-is-other 15:27, sub-is-other 15:41,
+    -- mul-is-other-2 15:36, shared-slice-read-is-other-2 15:36, is-other-requires 15:12
+    (λ c. (search needs, refl)) (λ c. search needs) (λ c. search needs) (λ c. search needs) (λ c. search needs)
+    (λ c. search needs) (λ c κs. search needs)
+    returns
+    -- by search: sub-j 18:9, loop-less 14:5
+    (λ c. search needs) (λ c. search needs)
+    loop-again
+    returns-2)

@@ -11,26 +11,43 @@ Inv-loop keys links₀ heads₀ n i₀ links heads i = LinkedDownTo keys i links
 abbrev μ-loop : tie.MeasureT-loop
 μ-loop keys links₀ heads₀ n i₀ links heads i = i
 
+-- src/lib.rt:52:5
+loop-holds : tie.Need-loop-holds Inv-loop μ-loop
+loop-holds c =
+    let args = c .before .before .args in
+    down-to-start (args .keys .now) (args .links .now) (c .before .before .pre .1)
+
+-- src/lib.rt:52:5
+loop-again : tie.Need-loop-again Inv-loop μ-loop
+loop-again c =
+    let start = c .before .before .before .before .before .before in
+    let loop = c .before .before .before .loop in
+    down-to-next (start .args .keys .now) (loop .links) (loop .heads) (loop .i) (c .group-of .result)
+    (c .before .before .loop-test .taken) (start .pre .0) (c .group-of .ensures) (loop .inv)
+
+-- src/lib.rt:45:1
+returns : tie.Need-returns Inv-loop μ-loop
+returns c =
+    let keys = c .before .before .before .before .args .keys .now in
+    let loop = c .before .loop in (
+      down-to-end keys (loop .links) (loop .heads) (loop .i) (omega (arith, c .loop-test .left)) (loop .inv),
+      loop .inv .1,
+    )
+
 pub link-after-spec : {M : Type 1} → statement M
 link-after-spec =
     tie.close
     (tie.spec
     Inv-loop
     μ-loop
-    (λ c. down-to-start (c .before .before .args .keys .now) (c .before .before .args .links .now) (c .before .before .pre .1))
+    loop-holds
+    -- by search: sub-i 53:9, mul-group-of 54:26, shared-slice-read-group-of 54:26, group-of-requires 54:13,
+    -- mul-links 55:20, array-read-links 55:20, mul-links-2 55:9, slice-write-links 55:9, sub-heads 56:21,
+    -- cast-heads 56:20, mul-heads 56:9, array-write-heads 56:9, loop-less 52:5
+    (λ c. search needs) (λ c. search needs) (λ c. search needs) (λ c κs. search needs) (λ c. search needs)
+    (λ c. search needs) (λ c. search needs) (λ c. search needs) (λ c. search needs) (λ c. search needs)
+    (λ c. search needs) (λ c. search needs) (λ c. search needs)
+    loop-again
+    -- by search: same-length 45:1
     (λ c. search needs)
-    (λ c. search needs)
-    (λ c. search needs)
-    (λ c κs. search needs)
-    (λ c. search needs)
-    (λ c. search needs)
-    (λ c. search needs)
-    (λ c. search needs)
-    (λ c. search needs)
-    (λ c. search needs)
-    (λ c. search needs)
-    (λ c. search needs)
-    (λ c. search needs)
-    (λ c. down-to-next (c .before .before .before .before .before .before .args .keys .now) (c .before .before .before .loop .links) (c .before .before .before .loop .heads) (c .before .before .before .loop .i) (c .group-of .result) (c .before .before .loop-test .taken) (c .before .before .before .before .before .before .pre .0) (c .group-of .ensures) (c .before .before .before .loop .inv))
-    (λ c. search needs)
-    (λ c. (down-to-end (c .before .before .before .before .args .keys .now) (c .before .loop .links) (c .before .loop .heads) (c .before .loop .i) (omega (arith, c .loop-test .left)) (c .before .loop .inv), c .before .loop .inv .1)))
+    returns)

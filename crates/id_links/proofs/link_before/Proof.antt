@@ -11,19 +11,37 @@ Inv-loop keys links₀ heads₀ i₀ links heads i = LinkedUpTo keys i links hea
 abbrev μ-loop : tie.MeasureT-loop
 μ-loop keys links₀ heads₀ i₀ links heads i = length keys - i
 
+-- src/lib.rt:38:5
+loop-again : tie.Need-loop-again Inv-loop μ-loop
+loop-again c =
+    let start = c .before .before .before .before .before .before .before .before .before .before .before .before
+    .before in
+    let loop = c .before .before .before .before .before .before .before .before .before .loop in
+    let loop-test = c .before .before .before .before .before .before .before .before .loop-test in
+    let link = c .before .before .before .before .link in
+    up-to-next (start .args .keys .now) (loop .links) (loop .heads) (link .last .0) (link .last .1 .0) (loop .i)
+    (loop-test .taken) (start .pre .0) (loop .inv) (link .ensures .0) (link .ensures .1)
+
+-- src/lib.rt:33:1
+returns : tie.Need-returns Inv-loop μ-loop
+returns c =
+    let keys = c .before .before .before .before .before .args .keys .now in
+    let loop = c .before .loop in
+    let inv = loop .inv in
+    let e = up-to-end keys (loop .links) (loop .heads) (loop .i) (c .loop-test .left) inv in
+    (e .0, e .1, inv .1, inv .2)
+
 pub link-before-spec : {M : Type 1} → statement M
 link-before-spec =
     tie.close
     (tie.spec
     Inv-loop
     μ-loop
+    -- by search: loop-holds 38:5, mul-link 39:31, shared-slice-read-link 39:31, link-requires 39:9, add-i 40:9,
+    -- loop-less 38:5
+    (λ c. search needs) (λ c. search needs) (λ c. search needs) (λ c κs. search needs) (λ c. search needs)
     (λ c. search needs)
-    (λ c. search needs)
-    (λ c. search needs)
-    (λ c κs. search needs)
-    (λ c. search needs)
-    (λ c. search needs)
-    (λ c. up-to-next (c .before .before .before .before .before .before .before .before .before .before .before .before .before .args .keys .now) (c .before .before .before .before .before .before .before .before .before .loop .links) (c .before .before .before .before .before .before .before .before .before .loop .heads) (c .before .before .before .before .link .last .0) (c .before .before .before .before .link .last .1 .0) (c .before .before .before .before .before .before .before .before .before .loop .i) (c .before .before .before .before .before .before .before .before .loop-test .taken) (c .before .before .before .before .before .before .before .before .before .before .before .before .before .pre .0) (c .before .before .before .before .before .before .before .before .before .loop .inv) (c .before .before .before .before .link .ensures .0) (c .before .before .before .before .link .ensures .1))
-    (λ c. search needs)
-    (λ c. search needs)
-    (λ c. let e = up-to-end (c .before .before .before .before .before .args .keys .now) (c .before .loop .links) (c .before .loop .heads) (c .before .loop .i) (c .loop-test .left) (c .before .loop .inv) in (e .0, e .1, c .before .loop .inv .1, c .before .loop .inv .2)))
+    loop-again
+    -- by search: same-length 33:1, same-length-2 33:1
+    (λ c. search needs) (λ c. search needs)
+    returns)

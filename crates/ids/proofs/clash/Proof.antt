@@ -16,26 +16,82 @@ Inv-loop keys links heads k j₀ j = Searched (clashTest k) keys (group k) j
 abbrev μ-loop : tie.MeasureT-loop
 μ-loop keys links heads k j₀ j = j
 
+-- src/lib.rt:139:5
+loop-holds : tie.Need-loop-holds Inv-loop μ-loop
+loop-holds c =
+    let start = c .before .before .before .before .before .before in
+    let args = start .args in
+    let k = args .k in
+    let keys = args .keys .now in
+    let heads = args .heads .now in
+    subst (Searched (clashTest k) keys (group k))
+    (sym (c .wide .ensures ∙ ap (λ (g : ℕ). getD heads g 0) (c .before .before .group-of .ensures .0)))
+    (search-start (clashTest k) keys (group k) heads (clash-grouped k (group k) keys refl) (start .pre .0 .3)
+    (omega arith))
+
+-- src/lib.rt:141:13
+returns : tie.Need-returns Inv-loop μ-loop
+returns c =
+    let args = c .before .before .before .before .before .before .before .before .before .before .before .args in
+    let k = args .k in
+    let loop = c .before .before .before .before .loop in
+    let loop-test = c .before .before .before .loop-test in
+    sym (search-hit (clashTest k) (args .keys .now) (group k) (loop .j) (loop .inv) (loop-test .taken)
+    (sym (c .before .clash-with .ensures) ∙ c .if1 .taken))
+
+-- src/lib.rt:139:5
+loop-less : tie.Need-loop-less Inv-loop μ-loop
+loop-less c =
+    let after-loop-test = c .before .before .before .before .before in
+    let start = after-loop-test .before .before .before .before .before .before .before .before in
+    let args = start .args in
+    let k = args .k in
+    let keys = args .keys .now in
+    let loop = after-loop-test .before .loop in
+    let loop-test = after-loop-test .loop-test in
+    subst (λ (x : ℕ). x < loop .j) (sym (c .wide2 .ensures))
+    (search-less (clashTest k) keys (group k) (args .links .now) (loop .j) (clash-grouped k (group k) keys refl)
+    (start .pre .0 .2) (loop .inv) (loop-test .taken))
+
+-- src/lib.rt:139:5
+loop-again : tie.Need-loop-again Inv-loop μ-loop
+loop-again c =
+    let after-loop-test = c .before .before .before .before .before in
+    let start = after-loop-test .before .before .before .before .before .before .before .before in
+    let args = start .args in
+    let k = args .k in
+    let keys = args .keys .now in
+    let loop = after-loop-test .before .loop in
+    let loop-test = after-loop-test .loop-test in
+    let clash-with = c .before .before .before .clash-with in
+    subst (Searched (clashTest k) keys (group k)) (sym (c .wide2 .ensures))
+    (search-on (clashTest k) keys (group k) (args .links .now) (loop .j) (clash-grouped k (group k) keys refl)
+    (start .pre .0 .2) (loop .inv) (loop-test .taken) (sym (clash-with .ensures) ∙ c .before .before .if1 .left))
+
+-- src/lib.rt:134:1
+returns-2 : tie.Need-returns-2 Inv-loop μ-loop
+returns-2 c =
+    let args = c .before .before .before .before .before .before .before .before .args in
+    let k = args .k in
+    let loop = c .before .loop in
+    sym
+    (search-end (clashTest k) (args .keys .now) (group k) (loop .j) (loop .inv) (omega (arith, c .loop-test .left)))
+
 pub clash-spec : {M : Type 1} → statement M
 clash-spec =
     tie.close
     (tie.spec
     Inv-loop
     μ-loop
-    (λ c κs. search needs)
-    (λ c. search needs)
-    (λ c. search needs)
-    (λ c κs. search needs)
-    (λ c. subst (Searched (clashTest (c .before .before .before .before .before .before .args .k)) (c .before .before .before .before .before .before .args .keys .now) (group (c .before .before .before .before .before .before .args .k))) (sym (c .wide .ensures ∙ ap (λ (g : ℕ). getD (c .before .before .before .before .before .before .args .heads .now) g 0) (c .before .before .group-of .ensures .0))) (search-start (clashTest (c .before .before .before .before .before .before .args .k)) (c .before .before .before .before .before .before .args .keys .now) (group (c .before .before .before .before .before .before .args .k)) (c .before .before .before .before .before .before .args .heads .now) (clash-grouped (c .before .before .before .before .before .before .args .k) (group (c .before .before .before .before .before .before .args .k)) (c .before .before .before .before .before .before .args .keys .now) refl) (c .before .before .before .before .before .before .pre .0 .3) (omega arith)))
-    (λ c. search needs)
-    (λ c. search needs)
-    (λ c. search needs)
-    (λ c κs. search needs)
-    (λ c. sym (search-hit (clashTest (c .before .before .before .before .before .before .before .before .before .before .before .args .k)) (c .before .before .before .before .before .before .before .before .before .before .before .args .keys .now) (group (c .before .before .before .before .before .before .before .before .before .before .before .args .k)) (c .before .before .before .before .loop .j) (c .before .before .before .before .loop .inv) (c .before .before .before .loop-test .taken) (sym (c .before .clash-with .ensures) ∙ (c .if1 .taken))))
-    (λ c. search needs)
-    (λ c. search needs)
-    (λ c. search needs)
-    (λ c κs. search needs)
-    (λ c. subst (λ (x : ℕ). x < c .before .before .before .before .before .before .loop .j) (sym (c .wide2 .ensures)) (search-less (clashTest (c .before .before .before .before .before .before .before .before .before .before .before .before .before .args .k)) (c .before .before .before .before .before .before .before .before .before .before .before .before .before .args .keys .now) (group (c .before .before .before .before .before .before .before .before .before .before .before .before .before .args .k)) (c .before .before .before .before .before .before .before .before .before .before .before .before .before .args .links .now) (c .before .before .before .before .before .before .loop .j) (clash-grouped (c .before .before .before .before .before .before .before .before .before .before .before .before .before .args .k) (group (c .before .before .before .before .before .before .before .before .before .before .before .before .before .args .k)) (c .before .before .before .before .before .before .before .before .before .before .before .before .before .args .keys .now) refl) (c .before .before .before .before .before .before .before .before .before .before .before .before .before .pre .0 .2) (c .before .before .before .before .before .before .loop .inv) (c .before .before .before .before .before .loop-test .taken)))
-    (λ c. subst (Searched (clashTest (c .before .before .before .before .before .before .before .before .before .before .before .before .before .args .k)) (c .before .before .before .before .before .before .before .before .before .before .before .before .before .args .keys .now) (group (c .before .before .before .before .before .before .before .before .before .before .before .before .before .args .k))) (sym (c .wide2 .ensures)) (search-on (clashTest (c .before .before .before .before .before .before .before .before .before .before .before .before .before .args .k)) (c .before .before .before .before .before .before .before .before .before .before .before .before .before .args .keys .now) (group (c .before .before .before .before .before .before .before .before .before .before .before .before .before .args .k)) (c .before .before .before .before .before .before .before .before .before .before .before .before .before .args .links .now) (c .before .before .before .before .before .before .loop .j) (clash-grouped (c .before .before .before .before .before .before .before .before .before .before .before .before .before .args .k) (group (c .before .before .before .before .before .before .before .before .before .before .before .before .before .args .k)) (c .before .before .before .before .before .before .before .before .before .before .before .before .before .args .keys .now) refl) (c .before .before .before .before .before .before .before .before .before .before .before .before .before .pre .0 .2) (c .before .before .before .before .before .before .loop .inv) (c .before .before .before .before .before .loop-test .taken) (sym (c .before .before .before .clash-with .ensures) ∙ (c .before .before .if1 .left))))
-    (λ c. sym (search-end (clashTest (c .before .before .before .before .before .before .before .before .args .k)) (c .before .before .before .before .before .before .before .before .args .keys .now) (group (c .before .before .before .before .before .before .before .before .args .k)) (c .before .loop .j) (c .before .loop .inv) (omega (arith, (c .loop-test .left))))))
+    -- by search: group-of-requires 138:38, mul-wide 138:32, shared-slice-read-wide 138:32, wide-requires 138:9
+    (λ c κs. search needs) (λ c. search needs) (λ c. search needs) (λ c κs. search needs)
+    loop-holds
+    -- by search: sub-clash-with 140:31, mul-clash-with 140:26, shared-slice-read-clash-with 140:26,
+    -- clash-with-requires 140:12
+    (λ c. search needs) (λ c. search needs) (λ c. search needs) (λ c κs. search needs)
+    returns
+    -- by search: sub-wide 143:34, mul-wide-2 143:28, shared-slice-read-wide-2 143:28, wide-requires-2 143:9
+    (λ c. search needs) (λ c. search needs) (λ c. search needs) (λ c κs. search needs)
+    loop-less
+    loop-again
+    returns-2)

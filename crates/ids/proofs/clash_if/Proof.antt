@@ -3,10 +3,19 @@ use borrow.Author.Needs.{needs}
 use Rattle.ids.proofs.clash_if.Statement.{statement}
 use Rattle.ids.proofs.clash_if.Tie as tie
 
+-- src/lib.rt:153:9
+returns : tie.Need-returns
+returns c = simp (eq-eqb _ _ (c .if1 .taken))
+
+-- src/lib.rt:148:1
+returns-2 : tie.Need-returns-2
+returns-2 c = simp (ne-eqb _ _ (c .before .if1 .left), c .clash .ensures)
+
 pub clash-if-spec : {M : Type 1} → statement M
 clash-if-spec =
     tie.close
     (tie.spec
-    (λ c. simp (eq-eqb _ _ (c .if1 .taken)))
+    returns
+    -- by search: clash-requires 155:5
     (λ c κs. search needs)
-    (λ c. simp (ne-eqb _ _ (c .before .if1 .left), c .clash .ensures)))
+    returns-2)

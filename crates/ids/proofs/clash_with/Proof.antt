@@ -2,9 +2,17 @@ use borrow.Author.Tests.{eq-eqb, ne-eqb}
 use Rattle.ids.proofs.clash_with.Statement.{statement}
 use Rattle.ids.proofs.clash_with.Tie as tie
 
+-- src/lib.rt:126:9
+returns : tie.Need-returns
+returns c = simp (ne-eqb _ _ (c .if1 .taken))
+
+-- src/lib.rt:122:1
+returns-2 : tie.Need-returns-2
+returns-2 c = simp (eq-eqb _ _ (c .if1 .left))
+
 pub clash-with-spec : {M : Type 1} → statement M
 clash-with-spec =
     tie.close
     (tie.spec
-    (λ c. simp (ne-eqb _ _ (c .if1 .taken)))
-    (λ c. simp (eq-eqb _ _ (c .if1 .left))))
+    returns
+    returns-2)

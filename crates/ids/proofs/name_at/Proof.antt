@@ -14,14 +14,40 @@ use borrow.Author.Needs.{needs}
 use Rattle.ids.proofs.name_at.Statement.{statement}
 use Rattle.ids.proofs.name_at.Tie as tie
 
+-- src/lib.rt:107:9
+returns : tie.Need-returns
+unfolding item-at
+returns c =
+    let args = c .before .before .before .before .args in
+    let at₀ = args .at in
+    let t = args .t .now in
+    let known-at = c .before .known-at in
+    λ rs a l p.
+    c .key-of .ensures (body (drop at₀ t)) at₀
+    ∙ ap (found-at of-source (λ q. of-target) head-name (λ q at. []) start-name no-name (owner (args .o)) at₀)
+    (known-read t at₀ rs (known-at .result) a l (known-at .ensures) .0)
+
+-- src/lib.rt:102:1
+returns-2 : tie.Need-returns-2
+unfolding item-at
+returns-2 c =
+    let start = c .before .before .before .before in
+    let args = start .args in
+    let at₀ = args .at in
+    let o = args .o in
+    let pre = start .pre in
+    λ rs a l p.
+    ap (λ (k : ℕ). named k at₀) (c .name-by .ensures ∙ ap (nameBy o) (c .before .key-at .ensures))
+    ∙ name-other (read (drop at₀ (args .t .now))) o at₀ (pre .0) (pre .1) (p (c .before .before .if1 .left))
+
 pub name-at-spec : {M : Type 1} → statement M
 unfolding item-at
 name-at-spec =
     tie.close
     (tie.spec
-    (λ c κs. search needs)
-    (λ c κs. search needs)
-    (λ c. λ rs a l p. c .key-of .ensures (body (drop (c .before .before .before .before .args .at) (c .before .before .before .before .args .t .now))) (c .before .before .before .before .args .at) ∙ ap (found-at of-source (λ q. of-target) head-name (λ q at. []) start-name no-name (owner (c .before .before .before .before .args .o)) (c .before .before .before .before .args .at)) (known-read (c .before .before .before .before .args .t .now) (c .before .before .before .before .args .at) rs (c .before .known-at .result) a l (c .before .known-at .ensures) .0))
-    (λ c κs. search needs)
-    (λ c κs. search needs)
-    (λ c. λ rs a l p. ap (λ (k : ℕ). named k (c .before .before .before .before .args .at)) (c .name-by .ensures ∙ ap (nameBy (c .before .before .before .before .args .o)) (c .before .key-at .ensures)) ∙ name-other (read (drop (c .before .before .before .before .args .at) (c .before .before .before .before .args .t .now))) (c .before .before .before .before .args .o) (c .before .before .before .before .args .at) (c .before .before .before .before .pre .0) (c .before .before .before .before .pre .1) (p (c .before .before .if1 .left))))
+    -- by search: known-at-requires 107:26, key-of-requires 107:9
+    (λ c κs. search needs) (λ c κs. search needs)
+    returns
+    -- by search: key-at-requires 109:16, name-by-requires 109:5
+    (λ c κs. search needs) (λ c κs. search needs)
+    returns-2)

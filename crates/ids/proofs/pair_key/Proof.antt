@@ -5,13 +5,25 @@ use borrow.Author.Needs.{needs}
 use Rattle.ids.proofs.pair_key.Statement.{statement}
 use Rattle.ids.proofs.pair_key.Tie as tie
 
+-- src/lib.rt:34:1
+returns : tie.Need-returns
+unfolding start-name class half id-of
+returns c =
+    let start = c .before .before .before in
+    rw (c .before .enum-told .given .1)
+    (λ w at. named-some (start .args .o) _ (c .key .result) at (start .pre .0) (c .key .ensures))
+
+-- src/lib.rt:34:1
+returns-2 : tie.Need-returns-2
+unfolding start-name class half id-of
+returns-2 c = rw (c .enum-told2 .given .1) (λ w at. named-none at)
+
 pub pair-key-spec : {M : Type 1} → statement M
 unfolding start-name class half id-of
 pair-key-spec =
     tie.close
     (tie.spec
-    (λ c. search needs)
-    (λ c κs. search needs)
-    (λ c. search needs)
-    (λ c. rw (c .before .enum-told .given .1) (λ w at. named-some (c .before .before .before .args .o) _ (c .key .result) at (c .before .before .before .pre .0) (c .key .ensures)))
-    (λ c. rw (c .enum-told2 .given .1) (λ w at. named-none at)))
+    -- by search: enum-told 39:24, key-requires 39:24, enum-told-2 40:22
+    (λ c. search needs) (λ c κs. search needs) (λ c. search needs)
+    returns
+    returns-2)

@@ -11,17 +11,57 @@ use borrow.Author.Needs.{needs}
 use Rattle.job.proofs.answer_request.Statement.{statement}
 use Rattle.job.proofs.answer_request.Tie as tie
 
+-- src/lib.rt:40:33
+slice-aggregate-perform : tie.Need-slice-aggregate-perform
+unfolding left
+slice-aggregate-perform c =
+    let start = c .before .before .before .before in
+    let pre = start .pre in
+    sym (length-take-le (start .args .n) (start .args .table .now) (omega (arith, pre .0, pre .1)))
+
+-- src/lib.rt:42:9
+keep-requires : tie.Need-keep-requires
+unfolding left
+keep-requires c κs =
+    let after-perform = c .before .before .before .before .before .before in
+    let pre = after-perform .before .before .before .before .before .before .pre in
+    let perform = after-perform .perform in (
+      pre .0,
+      pre .1,
+      perform .ensures .1,
+      answer-fits _ (perform .result) _ _ (perform .ensures .0) refl (perform .ensures .1),
+    )
+
+-- src/lib.rt:35:1
+returns : tie.Need-returns
+unfolding left
+returns c =
+    let after-put-line = c .before .before .before .before .before .before .before in
+    let args = after-put-line .before .before .before .before .before .before .before .before .args in
+    let perform = after-put-line .before .before .perform in
+    let put-line = after-put-line .put-line in
+    let keep = c .before .before .keep in
+    let e = perform .ensures .0 .0 in
+    record {
+      prints = put-line .ensures .0 ∙ ap (λ (x : spec.Answer). length (line x)) e;
+      wrote = put-line .ensures .1 ∙ ap (λ (x : spec.Answer). lead (line x) (args .out .now)) e;
+      short = put-line .ensures .2;
+      leaves = keep .ensures .0
+          ∙ answer-keeps _ (perform .result) (args .n) (args .table .now) _ _ (perform .ensures .0);
+      fits = keep .ensures .1;
+    }
+
 pub answer-request-spec : {M : Type 1} → statement M
 unfolding left
 answer-request-spec =
     tie.close
     (tie.spec
+    -- by search: slice-reshare-prefix-perform 40:33
     (λ c. search needs)
-    (λ c. sym (length-take-le (c .before .before .before .before .args .n) (c .before .before .before .before .args .table .now) (omega (arith, c .before .before .before .before .pre .0, c .before .before .before .before .pre .1))))
-    (λ c κs. search needs)
-    (λ c κs. search needs)
-    (λ c. search needs)
-    (λ c κs. (c .before .before .before .before .before .before .before .before .before .before .before .before .pre .0, c .before .before .before .before .before .before .before .before .before .before .before .before .pre .1, c .before .before .before .before .before .before .perform .ensures .1, answer-fits _ (c .before .before .before .before .before .before .perform .result) _ _ (c .before .before .before .before .before .before .perform .ensures .0) refl (c .before .before .before .before .before .before .perform .ensures .1)))
-    (λ c. search needs)
-    (λ c. search needs)
-    (λ c. let e = c .before .before .before .before .before .before .before .before .before .perform .ensures .0 .0 in record { prints = c .before .before .before .before .before .before .before .put-line .ensures .0 ∙ ap (λ (x : spec.Answer). length (line x)) e; wrote = c .before .before .before .before .before .before .before .put-line .ensures .1 ∙ ap (λ (x : spec.Answer). lead (line x) (c .before .before .before .before .before .before .before .before .before .before .before .before .before .before .before .args .out .now)) e; short = c .before .before .before .before .before .before .before .put-line .ensures .2; leaves = c .before .before .keep .ensures .0 ∙ answer-keeps _ (c .before .before .before .before .before .before .before .before .before .perform .result) (c .before .before .before .before .before .before .before .before .before .before .before .before .before .before .before .args .n) (c .before .before .before .before .before .before .before .before .before .before .before .before .before .before .before .args .table .now) _ _ (c .before .before .before .before .before .before .before .before .before .perform .ensures .0); fits = c .before .before .keep .ensures .1 }))
+    slice-aggregate-perform
+    -- by search: perform-requires 40:9, put-line-requires 41:9, slice-aggregate-keep 42:36
+    (λ c κs. search needs) (λ c κs. search needs) (λ c. search needs)
+    keep-requires
+    -- by search: same-length 35:1, same-length-2 35:1
+    (λ c. search needs) (λ c. search needs)
+    returns)

@@ -6,14 +6,57 @@ use borrow.Author.Needs.{needs}
 use Rattle.job.proofs.keep.Statement.{statement}
 use Rattle.job.proofs.keep.Tie as tie
 
+-- src/lib.rt:29:51
+slice-aggregate-put : tie.Need-slice-aggregate-put
+slice-aggregate-put c =
+    let start = c .before .before .before .before .before .before .before in
+    let pre = start .pre in
+    let a = c .before .before .before .a in
+    let f = rw (a .given .1) at (pre .3) in
+    sym (length-take-le _ (start .args .result .now) (omega (arith, f, pre .2)))
+
+-- src/lib.rt:29:32
+put-requires : tie.Need-put-requires
+put-requires c κs =
+    let start = c .before .before .before .before .before .before .before in
+    let pre = start .pre in
+    let a = c .before .before .before .a in
+    let f = rw (a .given .1) at (pre .3) in
+    omega (
+      arith,
+      f,
+      pre .2,
+      pre .1,
+      length-take-le (a .given .0 .0) (start .args .result .now) (omega (arith, f, pre .2)),
+    )
+
+-- src/lib.rt:24:1
+returns : tie.Need-returns
+returns c =
+    let after-a = c .before .before .before .before .before .before in
+    let start = after-a .before .before .before .before in
+    let pre = start .pre in
+    let a = after-a .a in
+    let put = c .before .before .put in
+    let f = rw (a .given .1) at (pre .3) in
+    rw (a .given .1) (put-keeps (start .args .table .now) (start .args .result .now) (put .last .0) (a .given .0 .0)
+    (put .result) (omega (arith, f, pre .2)) (pre .2) (put .ensures .0) (put .ensures .1))
+
+-- src/lib.rt:24:1
+returns-2 : tie.Need-returns-2
+returns-2 c =
+    let pre = c .before .before .before .before .pre in
+    rw (c .enum-told .given .1) (refl, pre .0)
+
 pub keep-spec : {M : Type 1} → statement M
 keep-spec =
     tie.close
     (tie.spec
+    -- by search: enum-known-a 29:26
     (λ c. search needs)
-    (λ c. let f = rw (c .before .before .before .a .given .1) at (c .before .before .before .before .before .before .before .pre .3) in sym (length-take-le _ (c .before .before .before .before .before .before .before .args .result .now) (omega (arith, f, c .before .before .before .before .before .before .before .pre .2))))
-    (λ c κs. let f = rw (c .before .before .before .a .given .1) at (c .before .before .before .before .before .before .before .pre .3) in omega (arith, f, c .before .before .before .before .before .before .before .pre .2, c .before .before .before .before .before .before .before .pre .1, length-take-le (c .before .before .before .a .given .0 .0) (c .before .before .before .before .before .before .before .args .result .now) (omega (arith, f, c .before .before .before .before .before .before .before .pre .2))))
-    (λ c. search needs)
-    (λ c. search needs)
-    (λ c. let f = rw (c .before .before .before .before .before .before .a .given .1) at (c .before .before .before .before .before .before .before .before .before .before .pre .3) in rw (c .before .before .before .before .before .before .a .given .1) (put-keeps (c .before .before .before .before .before .before .before .before .before .before .args .table .now) (c .before .before .before .before .before .before .before .before .before .before .args .result .now) (c .before .before .put .last .0) (c .before .before .before .before .before .before .a .given .0 .0) (c .before .before .put .result) (omega (arith, f, c .before .before .before .before .before .before .before .before .before .before .pre .2)) (c .before .before .before .before .before .before .before .before .before .before .pre .2) (c .before .before .put .ensures .0) (c .before .before .put .ensures .1)))
-    (λ c. rw (c .enum-told .given .1) (refl, c .before .before .before .before .pre .0)))
+    slice-aggregate-put
+    put-requires
+    -- by search: enum-told 30:34, same-length 24:1
+    (λ c. search needs) (λ c. search needs)
+    returns
+    returns-2)

@@ -10,14 +10,56 @@ use borrow.Author.Needs.{needs}
 use Rattle.job.proofs.put_accepted.Statement.{statement}
 use Rattle.job.proofs.put_accepted.Tie as tie
 
+-- src/lib.rt:89:37
+slice-aggregate-put-2 : tie.Need-slice-aggregate-put-2
+slice-aggregate-put-2 c =
+    let start = c .before .before .before .before in
+    sym (length-take-le (start .args .n) (start .args .job .now) (start .pre .0))
+
+-- src/lib.rt:89:9
+put-requires : tie.Need-put-requires
+put-requires c κs =
+    let start = c .before .before .before .before in
+    let pre = start .pre in
+    omega (arith, length-take-le (start .args .n) (start .args .job .now) (pre .0), pre .1)
+
+-- src/lib.rt:90:5
+put-requests-requires : tie.Need-put-requests-requires
+put-requests-requires c κs =
+    let start = c .before .before .before .before .before .before .before .before in
+    let pre = start .pre in
+    let put = c .before .before .before .put in
+    let l = put .ensures .0 ∙ length-take-le (start .args .n) (start .args .job .now) (pre .0) in
+    (omega (arith, l, pre .0), omega (arith, l, pre .1), pre .2, put .kept .0, pre .3)
+
+-- src/lib.rt:84:1
+returns : tie.Need-returns
+returns c =
+    let after-put = c .before .before .before .before .before .before .before in
+    let start = after-put .before .before .before .before .before in
+    let args = start .args in
+    let n = args .n in
+    let job = args .job .now in
+    let put = after-put .put in
+    let put-requests = c .before .before .before .put-requests in
+    let l = put .ensures .0 ∙ length-take-le n job (start .pre .0) in
+    let e = same-requests job (put .last .0) (put .result) n l
+    (head-by (take n job) _ (put .last .0) (put .result) (put .ensures .0) (put .ensures .1)) in (
+      put-requests .ensures .0 ∙ ap length e,
+      put-requests .ensures .1 ∙ ap (λ (x : List ℕ). lead x (args .out .now)) e,
+    )
+
 pub put-accepted-spec : {M : Type 1} → statement M
 put-accepted-spec =
     tie.close
     (tie.spec
+    -- by search: slice-aggregate-put 89:25
     (λ c. search needs)
-    (λ c. sym (length-take-le (c .before .before .before .before .args .n) (c .before .before .before .before .args .job .now) (c .before .before .before .before .pre .0)))
-    (λ c κs. omega (arith, length-take-le (c .before .before .before .before .args .n) (c .before .before .before .before .args .job .now) (c .before .before .before .before .pre .0), c .before .before .before .before .pre .1))
+    slice-aggregate-put-2
+    put-requires
+    -- by search: slice-aggregate-put-requests 90:26
     (λ c. search needs)
-    (λ c κs. let l = c .before .before .before .put .ensures .0 ∙ length-take-le (c .before .before .before .before .before .before .before .before .args .n) (c .before .before .before .before .before .before .before .before .args .job .now) (c .before .before .before .before .before .before .before .before .pre .0) in (omega (arith, l, c .before .before .before .before .before .before .before .before .pre .0), omega (arith, l, c .before .before .before .before .before .before .before .before .pre .1), c .before .before .before .before .before .before .before .before .pre .2, c .before .before .before .put .kept .0, c .before .before .before .before .before .before .before .before .pre .3))
+    put-requests-requires
+    -- by search: same-length 84:1
     (λ c. search needs)
-    (λ c. let l = c .before .before .before .before .before .before .before .put .ensures .0 ∙ length-take-le (c .before .before .before .before .before .before .before .before .before .before .before .before .args .n) (c .before .before .before .before .before .before .before .before .before .before .before .before .args .job .now) (c .before .before .before .before .before .before .before .before .before .before .before .before .pre .0) in let e = same-requests (c .before .before .before .before .before .before .before .before .before .before .before .before .args .job .now) (c .before .before .before .before .before .before .before .put .last .0) (c .before .before .before .before .before .before .before .put .result) (c .before .before .before .before .before .before .before .before .before .before .before .before .args .n) l (head-by (take (c .before .before .before .before .before .before .before .before .before .before .before .before .args .n) (c .before .before .before .before .before .before .before .before .before .before .before .before .args .job .now)) _ (c .before .before .before .before .before .before .before .put .last .0) (c .before .before .before .before .before .before .before .put .result) (c .before .before .before .before .before .before .before .put .ensures .0) (c .before .before .before .before .before .before .before .put .ensures .1)) in (c .before .before .before .put-requests .ensures .0 ∙ ap length e, c .before .before .before .put-requests .ensures .1 ∙ ap (λ (x : List ℕ). lead x (c .before .before .before .before .before .before .before .before .before .before .before .before .args .out .now)) e)))
+    returns)

@@ -10,15 +10,54 @@ use borrow.Author.Needs.{needs}
 use Rattle.job.proofs.put_answers.Statement.{statement}
 use Rattle.job.proofs.put_answers.Tie as tie
 
+-- src/lib.rt:98:32
+put-accepted-requires : tie.Need-put-accepted-requires
+put-accepted-requires c κs =
+    let start = c .before .before .before .before .before in
+    let args = start .args in
+    let n = args .n in
+    let job = args .job .now in
+    let pre = start .pre in
+    let v = accepted-small (take n job) _ (rw (c .before .enum-told .given .1) at (pre .4)) in
+    (pre .1, omega (arith, v, length-take-le n job (pre .1)), pre .2, pre .3)
+
+-- src/lib.rt:93:1
+returns : tie.Need-returns
+returns c =
+    let start = c .before .before .before .before .before .before .before .before in
+    let args = start .args in
+    let pre = start .pre in
+    let enum-told-call = c .before .before .before .before .enum-told in
+    let put-accepted = c .before .before .put-accepted in
+    let e = job-accepted (args .job .now) (args .n) (pre .0) _ (rw (enum-told-call .given .1) at (pre .4)) in (
+      put-accepted .ensures .0 ∙ ap length (sym e),
+      put-accepted .ensures .1 ∙ ap (λ (l : List ℕ). lead l (args .out .now)) (sym e),
+    )
+
+-- src/lib.rt:93:1
+returns-2 : tie.Need-returns-2
+returns-2 c =
+    let after-a = c .before .before .before .before .before in
+    let start = after-a .before .before .before .before in
+    let args = start .args in
+    let pre = start .pre in
+    let a = after-a .a in
+    let put-line = c .before .before .put-line in
+    let e = job-refused (args .job .now) (args .n) (pre .0) _ _ (rw (a .given .1) at (pre .4)) in (
+      put-line .ensures .0 ∙ ap length (sym e),
+      put-line .ensures .1 ∙ ap (λ (l : List ℕ). lead l (args .out .now)) (sym e),
+    )
+
 pub put-answers-spec : {M : Type 1} → statement M
 put-answers-spec =
     tie.close
     (tie.spec
+    -- by search: enum-told 98:53
     (λ c. search needs)
-    (λ c κs. let v = accepted-small (take (c .before .before .before .before .before .args .n) (c .before .before .before .before .before .args .job .now)) _ (rw (c .before .enum-told .given .1) at (c .before .before .before .before .before .pre .4)) in (c .before .before .before .before .before .pre .1, omega (arith, v, length-take-le (c .before .before .before .before .before .args .n) (c .before .before .before .before .before .args .job .now) (c .before .before .before .before .before .pre .1)), c .before .before .before .before .before .pre .2, c .before .before .before .before .before .pre .3))
+    put-accepted-requires
+    -- by search: enum-known-a 99:25, put-line-requires 99:35, same-length 93:1
+    (λ c. search needs) (λ c κs. search needs) (λ c. search needs)
+    returns
+    -- by search: same-length-2 93:1
     (λ c. search needs)
-    (λ c κs. search needs)
-    (λ c. search needs)
-    (λ c. let e = job-accepted (c .before .before .before .before .before .before .before .before .args .job .now) (c .before .before .before .before .before .before .before .before .args .n) (c .before .before .before .before .before .before .before .before .pre .0) _ (rw (c .before .before .before .before .enum-told .given .1) at (c .before .before .before .before .before .before .before .before .pre .4)) in (c .before .before .put-accepted .ensures .0 ∙ ap length (sym e), c .before .before .put-accepted .ensures .1 ∙ ap (λ (l : List ℕ). lead l (c .before .before .before .before .before .before .before .before .args .out .now)) (sym e)))
-    (λ c. search needs)
-    (λ c. let e = job-refused (c .before .before .before .before .before .before .before .before .before .args .job .now) (c .before .before .before .before .before .before .before .before .before .args .n) (c .before .before .before .before .before .before .before .before .before .pre .0) _ _ (rw (c .before .before .before .before .before .a .given .1) at (c .before .before .before .before .before .before .before .before .before .pre .4)) in (c .before .before .put-line .ensures .0 ∙ ap length (sym e), c .before .before .put-line .ensures .1 ∙ ap (λ (l : List ℕ). lead l (c .before .before .before .before .before .before .before .before .before .args .out .now)) (sym e))))
+    returns-2)

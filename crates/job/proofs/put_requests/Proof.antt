@@ -20,48 +20,236 @@ Inv-loop job n table₀ out₀ at₀ m₀ k₀ table out at m k =
 abbrev μ-loop : tie.MeasureT-loop
 μ-loop job n table₀ out₀ at₀ m₀ k₀ table out at m k = length job - at
 
+-- src/lib.rt:67:5
+loop-holds : tie.Need-loop-holds Inv-loop μ-loop
+loop-holds c =
+    let start = c .before .before .before in
+    let args = start .args in
+    let pre = start .pre in (
+      pre .0,
+      pre .1,
+      omega arith,
+      pre .3,
+      pre .4,
+      printed-start (args .job .now) (args .table .now) (args .n) (args .out .now),
+    )
+
+-- src/lib.rt:70:21
+answer-request-requires : tie.Need-answer-request-requires Inv-loop μ-loop
+answer-request-requires c κs =
+    let after-request-of = c .before .before .before .before .before .before in
+    let pre = after-request-of .before .before .before .before .before .before .before .pre in
+    let loop = after-request-of .before .before .before .loop in
+    let inv = loop .inv in
+    let request-of = after-request-of .request-of in
+    let r = c .before .before .before .before .r in
+    let z = rw (r .given .1) at (request-of .ensures) in (
+      inv .1,
+      inv .3,
+      omega (
+        arith,
+        ap length (tail-is (loop .k) (loop .out)),
+        length-drop (loop .k) (loop .out),
+        inv .2,
+        inv .0,
+        inv .4,
+        pre .2,
+      ),
+      z .1 .1,
+    )
+
+-- src/lib.rt:73:17
+add-at : tie.Need-add-at Inv-loop μ-loop
+add-at c =
+    let after-r = c .before .before .before .before .before .before .before .before .before .before .before in
+    let after-loop = after-r .before .before .before .before .before in
+    let start = after-loop .before .before .before .before in
+    let loop = after-loop .loop in
+    let request-of = after-r .before .before .request-of in
+    let r = after-r .r in
+    let e = simp tail-is at (request-of .ensures) in
+    let z = rw (r .given .1) at e in
+    omega (arith, z .1 .1, c .size-of .ensures, length-drop (loop .at) (start .args .job .now), start .pre .2)
+
+-- src/lib.rt:67:5
+loop-less : tie.Need-loop-less Inv-loop μ-loop
+loop-less c =
+    let after-r = c .before .before .before .before .before .before .before .before .before .before .before in
+    let after-loop = after-r .before .before .before .before .before in
+    let job = after-loop .before .before .before .before .args .job .now in
+    let loop = after-loop .loop in
+    let request-of = after-r .before .before .request-of in
+    let r = after-r .r in
+    let e = simp tail-is at (request-of .ensures) in
+    let z = rw (r .given .1) at e in
+    omega (arith, z .1 .0, z .1 .1, c .size-of .ensures, length-drop (loop .at) job)
+
+-- src/lib.rt:67:5
+loop-again : tie.Need-loop-again Inv-loop μ-loop
+loop-again c =
+    let after-answer-request = c .before .before .before .before .before .before in
+    let after-r = after-answer-request .before .before .before .before .before in
+    let after-loop = after-r .before .before .before .before .before in
+    let start = after-loop .before .before .before .before in
+    let args = start .args in
+    let job = args .job .now in
+    let loop = after-loop .loop in
+    let at-now = loop .at in
+    let inv = loop .inv in
+    let loop-test = after-r .before .before .before .before .loop-test in
+    let request-of = after-r .before .before .request-of in
+    let r = after-r .r in
+    let answer-request = after-answer-request .answer-request in
+    let size-of = c .size-of in
+    let e = simp tail-is at (request-of .ensures) in
+    let z = rw (r .given .1) at e in
+    let w = rw (tail-is at-now job) at (answer-request .ensures) in (
+      omega (arith, z .1 .1, size-of .ensures, length-drop at-now job, inv .0),
+      w .fits,
+      omega (arith, w .short, z .1 .0, size-of .ensures, inv .2),
+      answer-request .kept .1 .1 .0 ∙ inv .3,
+      back-length (loop .out) (answer-request .last .1 .1 .1 .1 .0) (loop .k)
+          (omega (arith, inv .2, inv .0, start .pre .2, inv .4)) (answer-request .kept .1 .1 .1 .1 .0)
+          ∙ inv .4,
+      printed-on job (args .table .now) (args .n) (args .out .now) (loop .out) (loop .table) at-now (loop .m)
+          (loop .k) (inv .5) _ (answer-request .last .1 .1 .0) (answer-request .last .1 .1 .1 .1 .0) _ _
+          (size-of .result) (size-of .ensures) (loop-test .taken) (z .1 .0) (z .0) (w .prints) (w .wrote)
+          (w .leaves),
+    )
+
+-- src/lib.rt:76:62
+slice-aggregate-put-unreadable : tie.Need-slice-aggregate-put-unreadable Inv-loop μ-loop
+slice-aggregate-put-unreadable c =
+    let loop = c .before .before .before .before .before .before .before .loop in
+    sym (length-take-le (loop .m) (loop .table) (omega (arith, loop .inv .1, loop .inv .3)))
+
+-- src/lib.rt:76:28
+put-unreadable-requires : tie.Need-put-unreadable-requires Inv-loop μ-loop
+put-unreadable-requires c κs =
+    let after-loop = c .before .before .before .before .before .before .before in
+    let pre = after-loop .before .before .before .before .pre in
+    let loop = after-loop .loop in
+    let inv = loop .inv in (
+      omega (arith, length-take-le (loop .m) (loop .table) (omega (arith, inv .1, inv .3)), inv .1),
+      omega (
+        arith,
+        ap length (tail-is (loop .k) (loop .out)),
+        length-drop (loop .k) (loop .out),
+        inv .2,
+        inv .0,
+        inv .4,
+        pre .2,
+      ),
+    )
+
+-- src/lib.rt:76:17
+returns : tie.Need-returns Inv-loop μ-loop
+returns c =
+    let after-enum-told = c .before .before .before .before .before in
+    let after-loop = after-enum-told .before .before .before .before .before in
+    let args = after-loop .before .before .before .before .args in
+    let loop = after-loop .loop in
+    let loop-test = after-enum-told .before .before .before .before .loop-test in
+    let request-of = after-enum-told .before .before .request-of in
+    let enum-told-call = after-enum-told .enum-told in
+    let put-unreadable = c .before .before .put-unreadable in
+    let e = simp tail-is at (request-of .ensures) in
+    let z = rw (enum-told-call .given .1) at e in
+    printed-stop (args .job .now) (args .table .now) (args .n) (args .out .now) (loop .out) (loop .table) (loop .at)
+    (loop .m) (loop .k) (loop .inv .5) (put-unreadable .last .0) (put-unreadable .result) _
+    (put-unreadable .ensures .0) (put-unreadable .ensures .1) (loop-test .taken) (z .0) refl
+
+-- src/lib.rt:80:41
+slice-aggregate-put-table : tie.Need-slice-aggregate-put-table Inv-loop μ-loop
+slice-aggregate-put-table c =
+    let loop = c .before .before .before .loop in
+    sym (length-take-le (loop .m) (loop .table) (omega (arith, loop .inv .1, loop .inv .3)))
+
+-- src/lib.rt:80:9
+put-table-requires : tie.Need-put-table-requires Inv-loop μ-loop
+put-table-requires c κs =
+    let pre = c .before .before .before .before .before .before .before .pre in
+    let loop = c .before .before .before .loop in
+    let inv = loop .inv in
+    let the-length-take-le = length-take-le (loop .m) (loop .table) (omega (arith, inv .1, inv .3)) in (
+      omega (arith, the-length-take-le, inv .1),
+      omega (
+        arith,
+        the-length-take-le,
+        inv .1,
+        ap length (tail-is (loop .k) (loop .out)),
+        length-drop (loop .k) (loop .out),
+        inv .2,
+        inv .0,
+        inv .4,
+        pre .2,
+      ),
+    )
+
+-- src/lib.rt:80:5
+add-result-2 : tie.Need-add-result-2 Inv-loop μ-loop
+add-result-2 c =
+    let after-loop = c .before .before .before .before .before .before in
+    let pre = after-loop .before .before .before .before .pre in
+    let loop = after-loop .loop in
+    let inv = loop .inv in
+    omega (
+      arith,
+      c .before .before .put-table .ensures .0,
+      table-line-length (take (loop .m) (loop .table)),
+      length-take-le (loop .m) (loop .table) (omega (arith, inv .1, inv .3)),
+      inv .1,
+      inv .2,
+      inv .0,
+      pre .2,
+    )
+
+-- src/lib.rt:60:1
+returns-2 : tie.Need-returns-2 Inv-loop μ-loop
+returns-2 c =
+    let after-loop-test = c .before .before .before .before .before in
+    let args = after-loop-test .before .before .before .before .before .args in
+    let loop = after-loop-test .before .loop in
+    let loop-test = after-loop-test .loop-test in
+    let put-table = c .before .before .put-table in
+    printed-end (args .job .now) (args .table .now) (args .n) (args .out .now) (loop .out) (loop .table) (loop .at)
+    (loop .m) (loop .k) (loop .inv .5) (put-table .last .0) (put-table .result) _ (put-table .ensures .0)
+    (put-table .ensures .1) (loop-test .left) refl
+
 pub put-requests-spec : {M : Type 1} → statement M
 put-requests-spec =
     tie.close
     (tie.spec
     Inv-loop
     μ-loop
-    (λ c. (c .before .before .before .pre .0, c .before .before .before .pre .1, omega arith, c .before .before .before .pre .3, c .before .before .before .pre .4, printed-start (c .before .before .before .args .job .now) (c .before .before .before .args .table .now) (c .before .before .before .args .n) (c .before .before .before .args .out .now)))
+    loop-holds
+    -- by search: sub-request-of 68:36, part-request-of-start 68:36, part-request-of-end 68:36,
+    -- request-of-requires 68:15, enum-known-r 69:29, sub-answer-request 70:43, part-answer-request-start 70:43,
+    -- part-answer-request-end 70:43, sub-answer-request-2 70:65, part-answer-request-start-2 70:65,
+    -- part-answer-request-end-2 70:65
+    (λ c. search needs) (λ c. search needs) (λ c. search needs) (λ c κs. search needs) (λ c. search needs)
+    (λ c. search needs) (λ c. search needs) (λ c. search needs) (λ c. search needs) (λ c. search needs)
     (λ c. search needs)
-    (λ c. search needs)
-    (λ c. search needs)
-    (λ c κs. search needs)
-    (λ c. search needs)
-    (λ c. search needs)
-    (λ c. search needs)
-    (λ c. search needs)
-    (λ c. search needs)
-    (λ c. search needs)
-    (λ c. search needs)
-    (λ c κs. let z = rw (c .before .before .before .before .r .given .1) at (c .before .before .before .before .before .before .request-of .ensures) in (c .before .before .before .before .before .before .before .before .before .loop .inv .1, c .before .before .before .before .before .before .before .before .before .loop .inv .3, omega (arith, ap length (tail-is (c .before .before .before .before .before .before .before .before .before .loop .k) (c .before .before .before .before .before .before .before .before .before .loop .out)), length-drop (c .before .before .before .before .before .before .before .before .before .loop .k) (c .before .before .before .before .before .before .before .before .before .loop .out), c .before .before .before .before .before .before .before .before .before .loop .inv .2, c .before .before .before .before .before .before .before .before .before .loop .inv .0, c .before .before .before .before .before .before .before .before .before .loop .inv .4, c .before .before .before .before .before .before .before .before .before .before .before .before .before .pre .2), z .1 .1))
-    (λ c. search needs)
-    (λ c κs. search needs)
-    (λ c. let e = simp tail-is at (c .before .before .before .before .before .before .before .before .before .before .before .before .before .request-of .ensures) in let z = rw (c .before .before .before .before .before .before .before .before .before .before .before .r .given .1) at e in omega (arith, z .1 .1, c .size-of .ensures, length-drop (c .before .before .before .before .before .before .before .before .before .before .before .before .before .before .before .before .loop .at) (c .before .before .before .before .before .before .before .before .before .before .before .before .before .before .before .before .before .before .before .before .args .job .now), c .before .before .before .before .before .before .before .before .before .before .before .before .before .before .before .before .before .before .before .before .pre .2))
-    (λ c. let e = simp tail-is at (c .before .before .before .before .before .before .before .before .before .before .before .before .before .request-of .ensures) in let z = rw (c .before .before .before .before .before .before .before .before .before .before .before .r .given .1) at e in omega (arith, z .1 .0, z .1 .1, c .size-of .ensures, length-drop (c .before .before .before .before .before .before .before .before .before .before .before .before .before .before .before .before .loop .at) (c .before .before .before .before .before .before .before .before .before .before .before .before .before .before .before .before .before .before .before .before .args .job .now)))
-    (λ c. let e = simp tail-is at (c .before .before .before .before .before .before .before .before .before .before .before .before .before .request-of .ensures) in let z = rw (c .before .before .before .before .before .before .before .before .before .before .before .r .given .1) at e in let w = rw (tail-is (c .before .before .before .before .before .before .before .before .before .before .before .before .before .before .before .before .loop .at) (c .before .before .before .before .before .before .before .before .before .before .before .before .before .before .before .before .before .before .before .before .args .job .now)) at (c .before .before .before .before .before .before .answer-request .ensures) in (omega (arith, z .1 .1, c .size-of .ensures, length-drop (c .before .before .before .before .before .before .before .before .before .before .before .before .before .before .before .before .loop .at) (c .before .before .before .before .before .before .before .before .before .before .before .before .before .before .before .before .before .before .before .before .args .job .now), c .before .before .before .before .before .before .before .before .before .before .before .before .before .before .before .before .loop .inv .0), w .fits, omega (arith, w .short, z .1 .0, c .size-of .ensures, c .before .before .before .before .before .before .before .before .before .before .before .before .before .before .before .before .loop .inv .2), c .before .before .before .before .before .before .answer-request .kept .1 .1 .0 ∙ c .before .before .before .before .before .before .before .before .before .before .before .before .before .before .before .before .loop .inv .3, back-length (c .before .before .before .before .before .before .before .before .before .before .before .before .before .before .before .before .loop .out) (c .before .before .before .before .before .before .answer-request .last .1 .1 .1 .1 .0) (c .before .before .before .before .before .before .before .before .before .before .before .before .before .before .before .before .loop .k) (omega (arith, c .before .before .before .before .before .before .before .before .before .before .before .before .before .before .before .before .loop .inv .2, c .before .before .before .before .before .before .before .before .before .before .before .before .before .before .before .before .loop .inv .0, c .before .before .before .before .before .before .before .before .before .before .before .before .before .before .before .before .before .before .before .before .pre .2, c .before .before .before .before .before .before .before .before .before .before .before .before .before .before .before .before .loop .inv .4)) (c .before .before .before .before .before .before .answer-request .kept .1 .1 .1 .1 .0) ∙ c .before .before .before .before .before .before .before .before .before .before .before .before .before .before .before .before .loop .inv .4, printed-on (c .before .before .before .before .before .before .before .before .before .before .before .before .before .before .before .before .before .before .before .before .args .job .now) (c .before .before .before .before .before .before .before .before .before .before .before .before .before .before .before .before .before .before .before .before .args .table .now) (c .before .before .before .before .before .before .before .before .before .before .before .before .before .before .before .before .before .before .before .before .args .n) (c .before .before .before .before .before .before .before .before .before .before .before .before .before .before .before .before .before .before .before .before .args .out .now) (c .before .before .before .before .before .before .before .before .before .before .before .before .before .before .before .before .loop .out) (c .before .before .before .before .before .before .before .before .before .before .before .before .before .before .before .before .loop .table) (c .before .before .before .before .before .before .before .before .before .before .before .before .before .before .before .before .loop .at) (c .before .before .before .before .before .before .before .before .before .before .before .before .before .before .before .before .loop .m) (c .before .before .before .before .before .before .before .before .before .before .before .before .before .before .before .before .loop .k) (c .before .before .before .before .before .before .before .before .before .before .before .before .before .before .before .before .loop .inv .5) _ (c .before .before .before .before .before .before .answer-request .last .1 .1 .0) (c .before .before .before .before .before .before .answer-request .last .1 .1 .1 .1 .0) _ _ (c .size-of .result) (c .size-of .ensures) ((c .before .before .before .before .before .before .before .before .before .before .before .before .before .before .before .loop-test .taken)) (z .1 .0) (z .0) (w .prints) (w .wrote) (w .leaves)))
-    (λ c. search needs)
-    (λ c. search needs)
-    (λ c. search needs)
-    (λ c. search needs)
-    (λ c. search needs)
-    (λ c. sym (length-take-le (c .before .before .before .before .before .before .before .loop .m) (c .before .before .before .before .before .before .before .loop .table) (omega (arith, c .before .before .before .before .before .before .before .loop .inv .1, c .before .before .before .before .before .before .before .loop .inv .3))))
-    (λ c κs. (omega (arith, length-take-le (c .before .before .before .before .before .before .before .loop .m) (c .before .before .before .before .before .before .before .loop .table) (omega (arith, c .before .before .before .before .before .before .before .loop .inv .1, c .before .before .before .before .before .before .before .loop .inv .3)), c .before .before .before .before .before .before .before .loop .inv .1), omega (arith, ap length (tail-is (c .before .before .before .before .before .before .before .loop .k) (c .before .before .before .before .before .before .before .loop .out)), length-drop (c .before .before .before .before .before .before .before .loop .k) (c .before .before .before .before .before .before .before .loop .out), c .before .before .before .before .before .before .before .loop .inv .2, c .before .before .before .before .before .before .before .loop .inv .0, c .before .before .before .before .before .before .before .loop .inv .4, c .before .before .before .before .before .before .before .before .before .before .before .pre .2)))
-    (λ c. search needs)
-    (λ c. search needs)
-    (λ c. search needs)
-    (λ c. let e = simp tail-is at (c .before .before .before .before .before .before .before .request-of .ensures) in let z = rw (c .before .before .before .before .before .enum-told .given .1) at e in printed-stop (c .before .before .before .before .before .before .before .before .before .before .before .before .before .before .args .job .now) (c .before .before .before .before .before .before .before .before .before .before .before .before .before .before .args .table .now) (c .before .before .before .before .before .before .before .before .before .before .before .before .before .before .args .n) (c .before .before .before .before .before .before .before .before .before .before .before .before .before .before .args .out .now) (c .before .before .before .before .before .before .before .before .before .before .loop .out) (c .before .before .before .before .before .before .before .before .before .before .loop .table) (c .before .before .before .before .before .before .before .before .before .before .loop .at) (c .before .before .before .before .before .before .before .before .before .before .loop .m) (c .before .before .before .before .before .before .before .before .before .before .loop .k) (c .before .before .before .before .before .before .before .before .before .before .loop .inv .5) (c .before .before .put-unreadable .last .0) (c .before .before .put-unreadable .result) _ (c .before .before .put-unreadable .ensures .0) (c .before .before .put-unreadable .ensures .1) ((c .before .before .before .before .before .before .before .before .before .loop-test .taken)) (z .0) refl)
-    (λ c. search needs)
-    (λ c. search needs)
-    (λ c. search needs)
-    (λ c. search needs)
-    (λ c. sym (length-take-le (c .before .before .before .loop .m) (c .before .before .before .loop .table) (omega (arith, c .before .before .before .loop .inv .1, c .before .before .before .loop .inv .3))))
-    (λ c κs. (omega (arith, length-take-le (c .before .before .before .loop .m) (c .before .before .before .loop .table) (omega (arith, c .before .before .before .loop .inv .1, c .before .before .before .loop .inv .3)), c .before .before .before .loop .inv .1), omega (arith, length-take-le (c .before .before .before .loop .m) (c .before .before .before .loop .table) (omega (arith, c .before .before .before .loop .inv .1, c .before .before .before .loop .inv .3)), c .before .before .before .loop .inv .1, ap length (tail-is (c .before .before .before .loop .k) (c .before .before .before .loop .out)), length-drop (c .before .before .before .loop .k) (c .before .before .before .loop .out), c .before .before .before .loop .inv .2, c .before .before .before .loop .inv .0, c .before .before .before .loop .inv .4, c .before .before .before .before .before .before .before .pre .2)))
-    (λ c. omega (arith, c .before .before .put-table .ensures .0, table-line-length (take (c .before .before .before .before .before .before .loop .m) (c .before .before .before .before .before .before .loop .table)), length-take-le (c .before .before .before .before .before .before .loop .m) (c .before .before .before .before .before .before .loop .table) (omega (arith, c .before .before .before .before .before .before .loop .inv .1, c .before .before .before .before .before .before .loop .inv .3)), c .before .before .before .before .before .before .loop .inv .1, c .before .before .before .before .before .before .loop .inv .2, c .before .before .before .before .before .before .loop .inv .0, c .before .before .before .before .before .before .before .before .before .before .pre .2))
-    (λ c. search needs)
-    (λ c. search needs)
-    (λ c. printed-end (c .before .before .before .before .before .before .before .before .before .before .args .job .now) (c .before .before .before .before .before .before .before .before .before .before .args .table .now) (c .before .before .before .before .before .before .before .before .before .before .args .n) (c .before .before .before .before .before .before .before .before .before .before .args .out .now) (c .before .before .before .before .before .before .loop .out) (c .before .before .before .before .before .before .loop .table) (c .before .before .before .before .before .before .loop .at) (c .before .before .before .before .before .before .loop .m) (c .before .before .before .before .before .before .loop .k) (c .before .before .before .before .before .before .loop .inv .5) (c .before .before .put-table .last .0) (c .before .before .put-table .result) _ (c .before .before .put-table .ensures .0) (c .before .before .put-table .ensures .1) ((c .before .before .before .before .before .loop-test .left)) refl))
+    answer-request-requires
+    -- by search: add-k 71:17, size-of-requires 73:23
+    (λ c. search needs) (λ c κs. search needs)
+    add-at
+    loop-less
+    loop-again
+    -- by search: enum-told 76:43, sub-put-unreadable 76:43, part-put-unreadable-start 76:43,
+    -- part-put-unreadable-end 76:43, slice-reshare-prefix-put-unreadable 76:62
+    (λ c. search needs) (λ c. search needs) (λ c. search needs) (λ c. search needs) (λ c. search needs)
+    slice-aggregate-put-unreadable
+    put-unreadable-requires
+    -- by search: add-result 76:24, same-length 76:17, same-length-2 76:17
+    (λ c. search needs) (λ c. search needs) (λ c. search needs)
+    returns
+    -- by search: sub-put-table 80:26, part-put-table-start 80:26, part-put-table-end 80:26,
+    -- slice-reshare-prefix-put-table 80:41
+    (λ c. search needs) (λ c. search needs) (λ c. search needs) (λ c. search needs)
+    slice-aggregate-put-table
+    put-table-requires
+    add-result-2
+    -- by search: same-length-3 60:1, same-length-4 60:1
+    (λ c. search needs) (λ c. search needs)
+    returns-2)

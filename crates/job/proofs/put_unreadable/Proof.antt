@@ -8,15 +8,45 @@ use borrow.Author.Needs.{needs}
 use Rattle.job.proofs.put_unreadable.Statement.{statement}
 use Rattle.job.proofs.put_unreadable.Tie as tie
 
+-- src/lib.rt:55:5
+add-result : tie.Need-add-result
+add-result c =
+    let after-put-line = c .before .before .before .before .before .before in
+    let start = after-put-line .before .before .before .before in
+    let put-line = after-put-line .put-line in
+    omega (
+      arith,
+      put-line .ensures .2,
+      c .before .before .put-table .ensures .0,
+      table-line-length (start .args .t .now),
+      start .pre .0,
+    )
+
+-- src/lib.rt:50:1
+returns : tie.Need-returns
+returns c =
+    let after-put-line = c .before .before .before .before .before .before in
+    let start = after-put-line .before .before .before .before in
+    let args = start .args in
+    let at₀ = args .at in
+    let t = args .t .now in
+    let put-line = after-put-line .put-line in
+    let put-table = c .before .before .put-table in (
+      omega
+          (arith, put-line .ensures .0, put-table .ensures .0, length-append (line (refused 2 at₀)) (table-line t)),
+      two-back (args .out .now) (line (refused 2 at₀)) (table-line t) (put-line .last .0) (put-table .last .0)
+          (put-line .result) (put-line .ensures .0) (put-line .ensures .1) (put-table .ensures .1),
+      omega (arith, put-line .ensures .2, put-table .ensures .0, table-line-length t, start .pre .0),
+    )
+
 pub put-unreadable-spec : {M : Type 1} → statement M
 put-unreadable-spec =
     tie.close
     (tie.spec
-    (λ c κs. search needs)
+    -- by search: put-line-requires 54:9, sub-put-table 55:26, part-put-table-start 55:26,
+    -- part-put-table-end 55:26, put-table-requires 55:9
+    (λ c κs. search needs) (λ c. search needs) (λ c. search needs) (λ c. search needs) (λ c κs. search needs)
+    add-result
+    -- by search: same-length 50:1
     (λ c. search needs)
-    (λ c. search needs)
-    (λ c. search needs)
-    (λ c κs. search needs)
-    (λ c. omega (arith, c .before .before .before .before .before .before .put-line .ensures .2, c .before .before .put-table .ensures .0, table-line-length (c .before .before .before .before .before .before .before .before .before .before .args .t .now), c .before .before .before .before .before .before .before .before .before .before .pre .0))
-    (λ c. search needs)
-    (λ c. (omega (arith, c .before .before .before .before .before .before .put-line .ensures .0, c .before .before .put-table .ensures .0, length-append (line (refused 2 (c .before .before .before .before .before .before .before .before .before .before .args .at))) (table-line (c .before .before .before .before .before .before .before .before .before .before .args .t .now))), two-back (c .before .before .before .before .before .before .before .before .before .before .args .out .now) (line (refused 2 (c .before .before .before .before .before .before .before .before .before .before .args .at))) (table-line (c .before .before .before .before .before .before .before .before .before .before .args .t .now)) (c .before .before .before .before .before .before .put-line .last .0) (c .before .before .put-table .last .0) (c .before .before .before .before .before .before .put-line .result) (c .before .before .before .before .before .before .put-line .ensures .0) (c .before .before .before .before .before .before .put-line .ensures .1) (c .before .before .put-table .ensures .1), omega (arith, c .before .before .before .before .before .before .put-line .ensures .2, c .before .before .put-table .ensures .0, table-line-length (c .before .before .before .before .before .before .before .before .before .before .args .t .now), c .before .before .before .before .before .before .before .before .before .before .pre .0))))
+    returns)

@@ -11,13 +11,52 @@ use borrow.Author.Needs.{needs}
 use Rattle.job.proofs.run.Statement.{statement}
 use Rattle.job.proofs.run.Tie as tie
 
+-- src/lib.rt:117:24
+slice-aggregate-run-job : tie.Need-slice-aggregate-run-job
+unfolding desk
+slice-aggregate-run-job c =
+    let job = c .before .before .before .args .job .now in
+    sym (length-take-le 65535 job (omega (arith, c .before .if1 .taken)))
+
+-- src/lib.rt:117:9
+run-job-requires : tie.Need-run-job-requires
+unfolding desk
+run-job-requires c κs =
+    let job = c .before .before .before .before .args .job .now in
+    (omega (arith, length-take-le 65535 job (omega (arith, c .before .before .if1 .taken))), search needs)
+
+-- src/lib.rt:117:9
+returns : tie.Need-returns
+unfolding desk
+returns c =
+    let args = c .before .before .before .before .before .args in
+    let run-job = c .run-job in (
+      (run-job .ensures .0, run-job .ensures .1),
+      within (desk-job (take 65535 (args .job .now))) (args .out .now) (run-job .last .1 .0) (run-job .result)
+          (run-job .ensures .0) (run-job .ensures .1),
+    )
+
+-- src/lib.rt:112:1
+returns-2 : tie.Need-returns-2
+unfolding desk
+returns-2 c =
+    let args = c .before .before .before .before .args in
+    let job = args .job .now in
+    let out = args .out .now in
+    let run-job2 = c .run-job2 in
+    let e = take-all 65535 job (c .before .before .if1 .left) in
+    let a = run-job2 .ensures .0 ∙ ap (λ (l : List ℕ). length (desk-job l)) (sym e) in
+    let b = run-job2 .ensures .1 ∙ ap (λ (l : List ℕ). lead (desk-job l) out) (sym e) in
+    ((a, b), within (desk-job (take 65535 job)) out (run-job2 .last .1 .0) (run-job2 .result) a b)
+
 pub run-spec : {M : Type 1} → statement M
 unfolding desk
 run-spec =
     tie.close
     (tie.spec
-    (λ c. sym (length-take-le 65535 (c .before .before .before .args .job .now) (omega (arith, (c .before .if1 .taken)))))
-    (λ c κs. (omega (arith, length-take-le 65535 (c .before .before .before .before .args .job .now) (omega (arith, (c .before .before .if1 .taken)))), search needs))
-    (λ c. ((c .run-job .ensures .0, c .run-job .ensures .1), within (desk-job (take 65535 (c .before .before .before .before .before .args .job .now))) (c .before .before .before .before .before .args .out .now) (c .run-job .last .1 .0) (c .run-job .result) (c .run-job .ensures .0) (c .run-job .ensures .1)))
+    slice-aggregate-run-job
+    run-job-requires
+    returns
+    -- by search: run-job-requires-2 119:5
     (λ c κs. search needs)
-    (λ c. let e = take-all 65535 (c .before .before .before .before .args .job .now) ((c .before .before .if1 .left)) in let a = c .run-job2 .ensures .0 ∙ ap (λ (l : List ℕ). length (desk-job l)) (sym e) in let b = c .run-job2 .ensures .1 ∙ ap (λ (l : List ℕ). lead (desk-job l) (c .before .before .before .before .args .out .now)) (sym e) in ((a, b), within (desk-job (take 65535 (c .before .before .before .before .args .job .now))) (c .before .before .before .before .args .out .now) (c .run-job2 .last .1 .0) (c .run-job2 .result) a b)))
+    returns-2)

@@ -5,15 +5,45 @@ use borrow.Author.Needs.{needs}
 use Rattle.join.proofs.join_checked.Statement.{statement}
 use Rattle.join.proofs.join_checked.Tie as tie
 
+-- src/lib.rt:77:53
+part-at-requires : tie.Need-part-at-requires
+unfolding join
+part-at-requires c κs =
+    let start = c .before .before .before .before in
+    let table = start .args .table .now in
+    let known = c .before .before .before .shared-slice-known .given in
+    table-passes table known (accepted-none table _ (rw (c .enum-told .given .1) at (start .pre .0)))
+
+-- src/lib.rt:77:32
+join-found-requires : tie.Need-join-found-requires
+unfolding join
+join-found-requires c κs =
+    let start = c .before .before .before .before .before .before in
+    let pre = start .pre in (
+      accepted-none (start .args .table .now) _ (rw (c .before .before .enum-told .given .1) at (pre .0)),
+      c .before .part-at .ensures,
+      pre .1,
+    )
+
+-- src/lib.rt:72:1
+returns-2 : tie.Need-returns-2
+unfolding join
+returns-2 c =
+    let start = c .before .before .before .before .before in
+    let args = start .args in
+    let table = args .table .now in
+    answers-refused _ _ _ (args .out .now)
+    (on-refused table _ _ _ _ (refused-some table _ _ (rw (c .before .a .given .1) at (start .pre .0))))
+
 pub join-checked-spec : {M : Type 1} → statement M
 unfolding join
 join-checked-spec =
     tie.close
     (tie.spec
+    -- by search: enum-told 77:53
     (λ c. search needs)
-    (λ c κs. table-passes (c .before .before .before .before .args .table .now) (c .before .before .before .shared-slice-known .given) (accepted-none (c .before .before .before .before .args .table .now) _ (rw (c .enum-told .given .1) at (c .before .before .before .before .pre .0))))
-    (λ c κs. ((accepted-none (c .before .before .before .before .before .before .args .table .now) _ (rw (c .before .before .enum-told .given .1) at (c .before .before .before .before .before .before .pre .0))), c .before .part-at .ensures, c .before .before .before .before .before .before .pre .1))
-    (λ c. search needs)
-    (λ c. search needs)
-    (λ c. search needs)
-    (λ c. answers-refused _ _ _ (c .before .before .before .before .before .args .out .now) (on-refused (c .before .before .before .before .before .args .table .now) _ _ _ _ (refused-some (c .before .before .before .before .before .args .table .now) _ _ (rw (c .before .a .given .1) at (c .before .before .before .before .before .pre .0))))))
+    part-at-requires
+    join-found-requires
+    -- by search: enum-known-a 78:25, same-length 72:1, returns 72:1
+    (λ c. search needs) (λ c. search needs) (λ c. search needs)
+    returns-2)

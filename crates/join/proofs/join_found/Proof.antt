@@ -5,13 +5,29 @@ use borrow.Author.Needs.{needs}
 use Rattle.join.proofs.join_found.Statement.{statement}
 use Rattle.join.proofs.join_found.Tie as tie
 
+-- src/lib.rt:67:29
+join-next-requires : tie.Need-join-next-requires
+join-next-requires c κs =
+    let pre = c .before .before .before .before .before .before .pre in
+    ((pre .0, rw (c .before .before .found .given .1) at (pre .1)), pre .2)
+
+-- src/lib.rt:62:1
+returns-2 : tie.Need-returns-2
+returns-2 c =
+    let start = c .before .before .before .before in
+    let args = start .args in
+    let out = args .out .now in
+    let pre = start .pre in
+    answers-refused _ 11 0 out
+    (no-part (args .table .now) (args .n) (length out) (pre .0) (rw (c .enum-told .given .1) at (pre .1)))
+
 pub join-found-spec : {M : Type 1} → statement M
 join-found-spec =
     tie.close
     (tie.spec
+    -- by search: enum-known-found 67:23
     (λ c. search needs)
-    (λ c κs. ((c .before .before .before .before .before .before .pre .0, rw (c .before .before .found .given .1) at (c .before .before .before .before .before .before .pre .1)), c .before .before .before .before .before .before .pre .2))
-    (λ c. search needs)
-    (λ c. search needs)
-    (λ c. search needs)
-    (λ c. answers-refused _ 11 0 (c .before .before .before .before .args .out .now) (no-part (c .before .before .before .before .args .table .now) (c .before .before .before .before .args .n) (length (c .before .before .before .before .args .out .now)) (c .before .before .before .before .pre .0) (rw (c .enum-told .given .1) at (c .before .before .before .before .pre .1)))))
+    join-next-requires
+    -- by search: enum-told 68:31, same-length 62:1, returns 62:1
+    (λ c. search needs) (λ c. search needs) (λ c. search needs)
+    returns-2)

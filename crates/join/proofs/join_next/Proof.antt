@@ -7,15 +7,68 @@ use borrow.Author.Needs.{needs}
 use Rattle.join.proofs.join_next.Statement.{statement}
 use Rattle.join.proofs.join_next.Tie as tie
 
+-- src/lib.rt:56:11
+part-at-requires : tie.Need-part-at-requires
+part-at-requires c κs =
+    let (pl, small) = c .before .before .pre in
+    let (v, st) = pl in
+    table-passes (c .before .before .args .table .now) (c .before .shared-slice-known .given) v
+
+-- src/lib.rt:57:29
+join-pair-requires : tie.Need-join-pair-requires
+join-pair-requires c κs =
+    let start = c .before .before .before .before .before .before .before in
+    let args = start .args in
+    let part-at = c .before .before .before .before .part-at in
+    let y = c .before .before .y in
+    let (pl, small) = start .pre in
+    let (v, st) = pl in
+    let (b, p, a, f, s) = st in
+    let (c2, q, d, g, u) = rw (y .given .1) at (part-at .ensures) in
+    let k = next-part (args .table .now) (args .n) (args .x) (y .given .0 .0) b p a f s c2 q d g u in
+    (v, k .before, k .first, k .second, k .after, k .beside)
+
+-- src/lib.rt:52:1
+returns : tie.Need-returns
+returns c =
+    let after-y = c .before .before .before .before .before in
+    let start = after-y .before .before .before .before .before in
+    let args = start .args in
+    let n = args .n in
+    let part-at = after-y .before .before .part-at in
+    let y = after-y .y in
+    let (pl, small) = start .pre in
+    let (v, st) = pl in
+    let (b, p, a, f, s) = st in
+    let (c2, q, d, g, u) = rw (y .given .1) at (part-at .ensures) in
+    let k = next-part (args .table .now) n (args .x) (y .given .0 .0) b p a f s c2 q d g u in
+    c .before .before .join-pair .ensures n (k .before) (k .first) (k .second) (k .after) (k .is) (k .beside)
+
+-- src/lib.rt:52:1
+returns-2 : tie.Need-returns-2
+returns-2 c =
+    let start = c .before .before .before .before .before in
+    let args = start .args in
+    let out = args .out .now in
+    let n = args .n in
+    let (pl, small) = start .pre in
+    let (v, st) = pl in
+    let (b, p, a, f, s) = st in
+    answers-refused _ 11 0 out
+    (no-next (args .table .now) n (length out) v b p
+    (last-part _ n b p a f (rw (c .enum-told .given .1) at (c .before .before .part-at .ensures))))
+
 pub join-next-spec : {M : Type 1} → statement M
 join-next-spec =
     tie.close
     (tie.spec
+    -- by search: add-part-at 56:35
     (λ c. search needs)
-    (λ c κs. let (pl, small) = (c .before .before .pre) in let (v, st) = pl in let (b, p, a, f, s) = st in table-passes (c .before .before .args .table .now) (c .before .shared-slice-known .given) v)
+    part-at-requires
+    -- by search: enum-known-y 57:23
     (λ c. search needs)
-    (λ c κs. let (pl, small) = (c .before .before .before .before .before .before .before .pre) in let (v, st) = pl in let (b, p, a, f, s) = st in let (c2, q, d, g, u) = rw (c .before .before .y .given .1) at (c .before .before .before .before .part-at .ensures) in let k = next-part (c .before .before .before .before .before .before .before .args .table .now) (c .before .before .before .before .before .before .before .args .n) (c .before .before .before .before .before .before .before .args .x) (c .before .before .y .given .0 .0) b p a f s c2 q d g u in (v, k .before, k .first, k .second, k .after, k .beside))
-    (λ c. search needs)
-    (λ c. search needs)
-    (λ c. let (pl, small) = (c .before .before .before .before .before .before .before .before .before .before .pre) in let (v, st) = pl in let (b, p, a, f, s) = st in let (c2, q, d, g, u) = rw (c .before .before .before .before .before .y .given .1) at (c .before .before .before .before .before .before .before .part-at .ensures) in let k = next-part (c .before .before .before .before .before .before .before .before .before .before .args .table .now) (c .before .before .before .before .before .before .before .before .before .before .args .n) (c .before .before .before .before .before .before .before .before .before .before .args .x) (c .before .before .before .before .before .y .given .0 .0) b p a f s c2 q d g u in c .before .before .join-pair .ensures (c .before .before .before .before .before .before .before .before .before .before .args .n) (k .before) (k .first) (k .second) (k .after) (k .is) (k .beside))
-    (λ c. let (pl, small) = (c .before .before .before .before .before .pre) in let (v, st) = pl in let (b, p, a, f, s) = st in answers-refused _ 11 0 (c .before .before .before .before .before .args .out .now) (no-next (c .before .before .before .before .before .args .table .now) (c .before .before .before .before .before .args .n) (length (c .before .before .before .before .before .args .out .now)) v b p (last-part _ (c .before .before .before .before .before .args .n) b p a f (rw (c .enum-told .given .1) at (c .before .before .part-at .ensures))))))
+    join-pair-requires
+    -- by search: enum-told 58:31, same-length 52:1
+    (λ c. search needs) (λ c. search needs)
+    returns
+    returns-2)

@@ -9,16 +9,85 @@ use borrow.Author.Needs.{needs}
 use Rattle.join.proofs.join_pair.Statement.{statement}
 use Rattle.join.proofs.join_pair.Tie as tie
 
+-- src/lib.rt:40:9
+returns : tie.Need-returns
+returns c =
+    let start = c .before .before .before .before in
+    let args = start .args in
+    let out = args .out .now in
+    λ n b p q a f s.
+    answers-refused _ 12 0 out
+    (first-closed (args .table .now) n (length out) (start .pre .0) b p q a f
+    (sym (c .before .is-closed .ensures b p (q ∷ a) (s .first)) ∙ c .if1 .taken))
+
+-- src/lib.rt:43:9
+returns-2 : tie.Need-returns-2
+returns-2 c =
+    let start = c .before .before .before .before .before .before in
+    let args = start .args in
+    let out = args .out .now in
+    let is-closed = c .before .before .before .is-closed in
+    λ n b p q a f s.
+    answers-refused _ 12 0 out
+    (second-closed (args .table .now) n (length out) (start .pre .0) b p q a f
+    (sym (is-closed .ensures b p (q ∷ a) (s .first)) ∙ c .before .before .if1 .left)
+    (sym (c .before .is-closed2 .ensures (b ++ (p ∷ [])) q a (s .second)) ∙ c .if2 .taken))
+
+-- src/lib.rt:46:9
+returns-3 : tie.Need-returns-3
+returns-3 c =
+    let after-is-closed = c .before .before .before .before .before in
+    let start = after-is-closed .before .before .before in
+    let args = start .args in
+    let out = args .out .now in
+    let table = args .table .now in
+    let is-closed = after-is-closed .is-closed in
+    let if1 = c .before .before .before .before .if1 in
+    let is-closed2 = c .before .before .before .is-closed2 in
+    λ n b p q a f s.
+    answers-refused _ 16 0 out
+    (refused-16 table n (length out) (start .pre .0) b p q a f
+    (sym (is-closed .ensures b p (q ∷ a) (s .first)) ∙ if1 .left)
+    (sym (is-closed2 .ensures (b ++ (p ∷ [])) q a (s .second)) ∙ c .before .before .if2 .left)
+    (sym (c .before .bad-orders .ensures table b p (q ∷ a) (b ++ (p ∷ [])) q a (s .first) (s .second))
+    ∙ c .if3 .taken))
+
+-- src/lib.rt:35:1
+returns-4 : tie.Need-returns-4
+returns-4 c =
+    let after-bad-orders = c .before .before .before .before .before in
+    let start = after-bad-orders .before .before .before .before .before .before .before in
+    let args = start .args in
+    let out = args .out .now in
+    let table = args .table .now in
+    let is-closed = after-bad-orders .before .before .before .before .is-closed in
+    let if1 = after-bad-orders .before .before .before .if1 in
+    let is-closed2 = after-bad-orders .before .before .is-closed2 in
+    let if2 = after-bad-orders .before .if2 in
+    let bad-orders = after-bad-orders .bad-orders in
+    let if3 = c .before .before .before .before .if3 in
+    let join-ended = c .before .before .join-ended in
+    λ n b p q a f s.
+    subst (λ (o : Outcome). Answers o (join-ended .result) out (join-ended .last .1 .1 .1 .0))
+    (sym (ends table n (length out) (start .pre .0) b p q a f
+    (sym (is-closed .ensures b p (q ∷ a) (s .first)) ∙ if1 .left)
+    (sym (is-closed2 .ensures (b ++ (p ∷ [])) q a (s .second)) ∙ if2 .left)
+    (sym (bad-orders .ensures table b p (q ∷ a) (b ++ (p ∷ [])) q a (s .first) (s .second)) ∙ if3 .left)))
+    (join-ended .ensures b p q a s)
+
 pub join-pair-spec : {M : Type 1} → statement M
 join-pair-spec =
     tie.close
     (tie.spec
+    -- by search: is-closed-requires 39:8
     (λ c κs. search needs)
-    (λ c. λ n b p q a f s. answers-refused _ 12 0 (c .before .before .before .before .args .out .now) (first-closed (c .before .before .before .before .args .table .now) n (length (c .before .before .before .before .args .out .now)) (c .before .before .before .before .pre .0) b p q a f (sym (c .before .is-closed .ensures b p (q ∷ a) (s .first)) ∙ (c .if1 .taken))))
+    returns
+    -- by search: is-closed-requires-2 42:8
     (λ c κs. search needs)
-    (λ c. λ n b p q a f s. answers-refused _ 12 0 (c .before .before .before .before .before .before .args .out .now) (second-closed (c .before .before .before .before .before .before .args .table .now) n (length (c .before .before .before .before .before .before .args .out .now)) (c .before .before .before .before .before .before .pre .0) b p q a f (sym (c .before .before .before .is-closed .ensures b p (q ∷ a) (s .first)) ∙ (c .before .before .if1 .left)) (sym (c .before .is-closed2 .ensures (b ++ (p ∷ [])) q a (s .second)) ∙ (c .if2 .taken))))
+    returns-2
+    -- by search: bad-orders-requires 45:8
     (λ c κs. search needs)
-    (λ c. λ n b p q a f s. answers-refused _ 16 0 (c .before .before .before .before .before .before .before .before .args .out .now) (refused-16 (c .before .before .before .before .before .before .before .before .args .table .now) n (length (c .before .before .before .before .before .before .before .before .args .out .now)) (c .before .before .before .before .before .before .before .before .pre .0) b p q a f (sym (c .before .before .before .before .before .is-closed .ensures b p (q ∷ a) (s .first)) ∙ (c .before .before .before .before .if1 .left)) (sym (c .before .before .before .is-closed2 .ensures (b ++ (p ∷ [])) q a (s .second)) ∙ (c .before .before .if2 .left)) (sym (c .before .bad-orders .ensures (c .before .before .before .before .before .before .before .before .args .table .now) b p (q ∷ a) (b ++ (p ∷ [])) q a (s .first) (s .second)) ∙ (c .if3 .taken))))
-    (λ c κs. search needs)
-    (λ c. search needs)
-    (λ c. λ n b p q a f s. subst (λ (o : Outcome). Answers o (c .before .before .join-ended .result) (c .before .before .before .before .before .before .before .before .before .before .before .before .args .out .now) (c .before .before .join-ended .last .1 .1 .1 .0)) (sym (ends (c .before .before .before .before .before .before .before .before .before .before .before .before .args .table .now) n (length (c .before .before .before .before .before .before .before .before .before .before .before .before .args .out .now)) (c .before .before .before .before .before .before .before .before .before .before .before .before .pre .0) b p q a f (sym (c .before .before .before .before .before .before .before .before .before .is-closed .ensures b p (q ∷ a) (s .first)) ∙ (c .before .before .before .before .before .before .before .before .if1 .left)) (sym (c .before .before .before .before .before .before .before .is-closed2 .ensures (b ++ (p ∷ [])) q a (s .second)) ∙ (c .before .before .before .before .before .before .if2 .left)) (sym (c .before .before .before .before .before .bad-orders .ensures (c .before .before .before .before .before .before .before .before .before .before .before .before .args .table .now) b p (q ∷ a) (b ++ (p ∷ [])) q a (s .first) (s .second)) ∙ (c .before .before .before .before .if3 .left)))) (c .before .before .join-ended .ensures b p q a s)))
+    returns-3
+    -- by search: join-ended-requires 48:5, same-length 35:1
+    (λ c κs. search needs) (λ c. search needs)
+    returns-4)

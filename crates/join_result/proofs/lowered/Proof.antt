@@ -5,10 +5,19 @@ use borrow.Author.Needs.{needs}
 use Rattle.join_result.proofs.lowered.Statement.{statement}
 use Rattle.join_result.proofs.lowered.Tie as tie
 
+-- src/lib.rt:11:9
+returns : tie.Need-returns
+returns c = moved-below false (c .before .args .q) (c .before .args .n) (c .if1 .taken)
+
+-- src/lib.rt:7:1
+returns-2 : tie.Need-returns-2
+returns-2 c = moved-down false (c .before .args .q) (c .before .args .n) refl (c .if1 .left)
+
 pub lowered-spec : {M : Type 1} → statement M
 lowered-spec =
     tie.close
     (tie.spec
-    (λ c. moved-below false (c .before .args .q) (c .before .args .n) (c .if1 .taken))
+    returns
+    -- by search: sub-result 13:5
     (λ c. search needs)
-    (λ c. moved-down false (c .before .args .q) (c .before .args .n) refl (c .if1 .left)))
+    returns-2)

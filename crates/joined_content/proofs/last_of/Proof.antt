@@ -13,10 +13,97 @@ use Rattle.joined_content.proofs.last_of.Statement.{statement}
 use Rattle.joined_content.proofs.last_of.Tie as tie
 
 abbrev Inv-loop : tie.InvT-loop
-Inv-loop c at₀ next₀ at next = (at < length c) × ((at < next) × (next ≤ length c)) × (next ≡ at + widthAt (drop at c)) × ((rs : List Record) → Of c rs → Stands c rs at)
+Inv-loop c at₀ next₀ at next =
+    (at < length c)
+    × ((at < next) × (next ≤ length c))
+    × (next ≡ at + widthAt (drop at c))
+    × ((rs : List Record) → Of c rs → Stands c rs at)
 
 abbrev μ-loop : tie.MeasureT-loop
 μ-loop c at₀ next₀ at next = length c - next
+
+-- src/lib.rt:15:9
+width-of-requires : tie.Need-width-of-requires Inv-loop μ-loop
+width-of-requires c κs =
+    let c₀ = c .before .args .c .now in
+    let pre = c .before .pre in
+    let (rs, o) = pre .0 in
+    let n = stands-next c₀ rs 0 (pre .1) (stands-start c₀ rs o) in
+    n .enough
+
+-- src/lib.rt:16:5
+loop-holds : tie.Need-loop-holds Inv-loop μ-loop
+loop-holds c =
+    let c₀ = c .before .before .args .c .now in
+    let pre = c .before .before .pre in
+    let (rs, o) = pre .0 in
+    let n = stands-next c₀ rs 0 (pre .1) (stands-start c₀ rs o) in (
+      pre .1,
+      (omega (arith, c .width-of .ensures, n .least), omega (arith, c .width-of .ensures, n .fit)),
+      omega (arith, c .width-of .ensures),
+      λ rs o. stands-start c₀ rs o,
+    )
+
+-- src/lib.rt:18:21
+width-of-requires-2 : tie.Need-width-of-requires-2 Inv-loop μ-loop
+width-of-requires-2 c κs =
+    let start = c .before .before .before .before .before in
+    let c₀ = start .args .c .now in
+    let loop = c .before .before .loop in
+    let (rs, o) = start .pre .0 in
+    let m = stands-on c₀ rs (loop .at) (loop .next) (omega arith) (loop .inv .2) (loop .inv .3 rs o) in
+    let n = stands-next c₀ rs (loop .next) (c .before .loop-test .taken) m in
+    simp tail-is (n .enough)
+
+-- src/lib.rt:18:16
+add-next : tie.Need-add-next Inv-loop μ-loop
+add-next c =
+    let start = c .before .before .before .before .before .before in
+    let c₀ = start .args .c .now in
+    let loop = c .before .before .before .loop in
+    let (rs, o) = start .pre .0 in
+    let m = stands-on c₀ rs (loop .at) (loop .next) (omega arith) (loop .inv .2) (loop .inv .3 rs o) in
+    let n = stands-next c₀ rs (loop .next) (c .before .before .loop-test .taken) m in
+    let e = simp tail-is at (c .width-of2 .ensures) in
+    omega (arith, n .fit)
+
+-- src/lib.rt:16:5
+loop-less : tie.Need-loop-less Inv-loop μ-loop
+loop-less c =
+    let start = c .before .before .before .before .before .before in
+    let c₀ = start .args .c .now in
+    let loop = c .before .before .before .loop in
+    let (rs, o) = start .pre .0 in
+    let m = stands-on c₀ rs (loop .at) (loop .next) (omega arith) (loop .inv .2) (loop .inv .3 rs o) in
+    let n = stands-next c₀ rs (loop .next) (c .before .before .loop-test .taken) m in
+    let e = simp tail-is at (c .width-of2 .ensures) in
+    omega (arith, n .fit, n .least)
+
+-- src/lib.rt:16:5
+loop-again : tie.Need-loop-again Inv-loop μ-loop
+loop-again c =
+    let start = c .before .before .before .before .before .before in
+    let c₀ = start .args .c .now in
+    let loop = c .before .before .before .loop in
+    let next = loop .next in
+    let inv = loop .inv in
+    let loop-test = c .before .before .loop-test in
+    let (rs, o) = start .pre .0 in
+    let m = stands-on c₀ rs (loop .at) next (omega arith) (inv .2) (inv .3 rs o) in
+    let n = stands-next c₀ rs next (loop-test .taken) m in
+    let e = simp tail-is at (c .width-of2 .ensures) in (
+      loop-test .taken,
+      (omega (arith, n .least), omega (arith, n .fit)),
+      omega arith,
+      λ rs o. stands-on c₀ rs (loop .at) next (inv .0) (inv .2) (inv .3 rs o),
+    )
+
+-- src/lib.rt:10:1
+returns : tie.Need-returns Inv-loop μ-loop
+returns c =
+    let c₀ = c .before .before .before .before .args .c .now in
+    let loop = c .before .loop in
+    λ rs o. stands-last c₀ rs (loop .at) (loop .inv .0) (omega arith) (loop .inv .3 rs o)
 
 pub last-of-spec : {M : Type 1} → statement M
 last-of-spec =
@@ -24,13 +111,12 @@ last-of-spec =
     (tie.spec
     Inv-loop
     μ-loop
-    (λ c κs. let (rs, o) = c .before .pre .0 in let n = stands-next (c .before .args .c .now) rs 0 (c .before .pre .1) (stands-start (c .before .args .c .now) rs o) in n .enough)
-    (λ c. let (rs, o) = c .before .before .pre .0 in let n = stands-next (c .before .before .args .c .now) rs 0 (c .before .before .pre .1) (stands-start (c .before .before .args .c .now) rs o) in (c .before .before .pre .1, (omega (arith, c .width-of .ensures, n .least), omega (arith, c .width-of .ensures, n .fit)), omega (arith, c .width-of .ensures), λ rs o. stands-start (c .before .before .args .c .now) rs o))
-    (λ c. search needs)
-    (λ c. search needs)
-    (λ c. search needs)
-    (λ c κs. let (rs, o) = c .before .before .before .before .before .pre .0 in let m = stands-on (c .before .before .before .before .before .args .c .now) rs (c .before .before .loop .at) (c .before .before .loop .next) (omega arith) (c .before .before .loop .inv .2) (c .before .before .loop .inv .3 rs o) in let n = stands-next (c .before .before .before .before .before .args .c .now) rs (c .before .before .loop .next) ((c .before .loop-test .taken)) m in simp tail-is (n .enough))
-    (λ c. let (rs, o) = c .before .before .before .before .before .before .pre .0 in let m = stands-on (c .before .before .before .before .before .before .args .c .now) rs (c .before .before .before .loop .at) (c .before .before .before .loop .next) (omega arith) (c .before .before .before .loop .inv .2) (c .before .before .before .loop .inv .3 rs o) in let n = stands-next (c .before .before .before .before .before .before .args .c .now) rs (c .before .before .before .loop .next) ((c .before .before .loop-test .taken)) m in let e = simp tail-is at (c .width-of2 .ensures) in omega (arith, n .fit))
-    (λ c. let (rs, o) = c .before .before .before .before .before .before .pre .0 in let m = stands-on (c .before .before .before .before .before .before .args .c .now) rs (c .before .before .before .loop .at) (c .before .before .before .loop .next) (omega arith) (c .before .before .before .loop .inv .2) (c .before .before .before .loop .inv .3 rs o) in let n = stands-next (c .before .before .before .before .before .before .args .c .now) rs (c .before .before .before .loop .next) ((c .before .before .loop-test .taken)) m in let e = simp tail-is at (c .width-of2 .ensures) in omega (arith, n .fit, n .least))
-    (λ c. let (rs, o) = c .before .before .before .before .before .before .pre .0 in let m = stands-on (c .before .before .before .before .before .before .args .c .now) rs (c .before .before .before .loop .at) (c .before .before .before .loop .next) (omega arith) (c .before .before .before .loop .inv .2) (c .before .before .before .loop .inv .3 rs o) in let n = stands-next (c .before .before .before .before .before .before .args .c .now) rs (c .before .before .before .loop .next) ((c .before .before .loop-test .taken)) m in let e = simp tail-is at (c .width-of2 .ensures) in ((c .before .before .loop-test .taken), (omega (arith, n .least), omega (arith, n .fit)), omega arith, λ rs o. stands-on (c .before .before .before .before .before .before .args .c .now) rs (c .before .before .before .loop .at) (c .before .before .before .loop .next) (c .before .before .before .loop .inv .0) (c .before .before .before .loop .inv .2) (c .before .before .before .loop .inv .3 rs o)))
-    (λ c. λ rs o. stands-last (c .before .before .before .before .args .c .now) rs (c .before .loop .at) (c .before .loop .inv .0) (omega arith) (c .before .loop .inv .3 rs o)))
+    width-of-requires
+    loop-holds
+    -- by search: sub-width-of 18:36, part-width-of-start 18:36, part-width-of-end 18:36
+    (λ c. search needs) (λ c. search needs) (λ c. search needs)
+    width-of-requires-2
+    add-next
+    loop-less
+    loop-again
+    returns)

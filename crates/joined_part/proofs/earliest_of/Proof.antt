@@ -4,12 +4,23 @@ use borrow.Author.Needs.{needs}
 use Rattle.joined_part.proofs.earliest_of.Statement.{statement}
 use Rattle.joined_part.proofs.earliest_of.Tie as tie
 
+-- src/lib.rt:32:1
+returns : tie.Need-returns
+unfolding earliest
+returns c = simp (← c .before .before .rank-of .ensures, ← c .before .rank-of2 .ensures, le-leb _ _ (c .if1 .taken))
+
+-- src/lib.rt:32:1
+returns-2 : tie.Need-returns-2
+unfolding earliest
+returns-2 c =
+    simp (← c .before .before .rank-of .ensures, ← c .before .rank-of2 .ensures, lt-leb _ _ (c .if1 .left))
+
 pub earliest-of-spec : {M : Type 1} → statement M
 unfolding earliest
 earliest-of-spec =
     tie.close
     (tie.spec
-    (λ c κs. search needs)
-    (λ c κs. search needs)
-    (λ c. simp (← c .before .before .rank-of .ensures, ← c .before .rank-of2 .ensures, le-leb _ _ (c .if1 .taken)))
-    (λ c. simp (← c .before .before .rank-of .ensures, ← c .before .rank-of2 .ensures, lt-leb _ _ (c .if1 .left))))
+    -- by search: rank-of-requires 35:8, rank-of-requires-2 35:22
+    (λ c κs. search needs) (λ c κs. search needs)
+    returns
+    returns-2)

@@ -1,8 +1,8 @@
 use Rattle.kept_codes.proofs.LostLaws.{has-on, has-here, any-end}
 use Rattle.kept_codes.specs.Lost.{is-code-at}
 use Rattle.xliff.proofs.lists.Slices.{tail-is}
-use Rattle.walk.proofs.WalkLaws.{Rest, rest-start, next, rest-end}
-use Rattle.walk.specs.Kept.{Of, items}
+use Rattle.walk.proofs.WalkLaws.{rest-start, next, rest-end}
+use Rattle.walk.specs.Kept.{Of, items, Rest}
 use Rattle.xliff.specs.Encode.{Record, spell}
 use Rattle.xliff.specs.Bytes.{any}
 use lib.ListN.{length}

@@ -2,8 +2,8 @@ use Rattle.kept_codes.proofs.LostLaws.{lost-on, lost-here, any-end}
 use Rattle.kept_codes.specs.Lost.{lostAt}
 use Rattle.cut.proofs.HalfLaws.{items-of}
 use Rattle.xliff.proofs.lists.Slices.{tail-is}
-use Rattle.walk.proofs.WalkLaws.{Rest, rest-start, next, rest-end}
-use Rattle.walk.specs.Kept.{Holds, items}
+use Rattle.walk.proofs.WalkLaws.{rest-start, next, rest-end}
+use Rattle.walk.specs.Kept.{Holds, items, Rest}
 use Rattle.xliff.specs.SetTarget.{is-lost}
 use Rattle.xliff.specs.Encode.{Record, spell, content-records}
 use Rattle.xliff.specs.Item.{Content}

@@ -12,10 +12,43 @@ use Rattle.keys.proofs.keys_at.Statement.{statement}
 use Rattle.keys.proofs.keys_at.Tie as tie
 
 abbrev Inv-loop : tie.InvT-loop
-Inv-loop t os out₀ i₀ out i = (i ≤ length os) × (length out ≡ length out₀) × (take i out ≡ map (λ (o : ℕ). key (item-at t o)) (take i os))
+Inv-loop t os out₀ i₀ out i =
+    (i ≤ length os) × (length out ≡ length out₀) × (take i out ≡ map (λ (o : ℕ). key (item-at t o)) (take i os))
 
 abbrev μ-loop : tie.MeasureT-loop
 μ-loop t os out₀ i₀ out i = length os - i
+
+-- src/lib.rt:194:5
+loop-holds : tie.Need-loop-holds Inv-loop μ-loop
+loop-holds c = (omega arith, refl, refl)
+
+-- src/lib.rt:194:5
+loop-again : tie.Need-loop-again Inv-loop μ-loop
+loop-again c =
+    let args = c .before .before .before .before .before .before .before .before .args in
+    let t = args .t .now in
+    let loop = c .before .before .before .before .loop in
+    let i = loop .i in (
+      omega arith,
+      simp length-set (loop .inv .1),
+      ap (λ (k : ℕ). take (i + 1) (set (loop .out) i k))
+          (c .key-at .ensures ∙ ap (λ (k : ℕ). key (item-at t k)) (c .before .wide .ensures .0))
+          ∙ filled-next (λ (o : ℕ). key (item-at t o)) (args .os .now) (loop .out) i (omega arith) (omega arith)
+          (loop .inv .2),
+    )
+
+-- src/lib.rt:189:1
+returns : tie.Need-returns Inv-loop μ-loop
+returns c =
+    let args = c .before .before .before .before .before .args in
+    let t = args .t .now in
+    let os = args .os .now in
+    let loop = c .before .loop in (
+      omega arith,
+      filled-all (λ (o : ℕ). key (item-at t o)) os (loop .out) (loop .i) (omega arith) (loop .inv .2)
+          ∙ keys-each t os,
+      loop .inv .1,
+    )
 
 pub keys-at-spec : {M : Type 1} → statement M
 keys-at-spec =
@@ -23,15 +56,12 @@ keys-at-spec =
     (tie.spec
     Inv-loop
     μ-loop
-    (λ c. (omega arith, refl, refl))
+    loop-holds
+    -- by search: mul-wide 195:40, shared-slice-read-wide 195:40, wide-requires 195:28, key-at-requires 195:18,
+    -- mul-out 195:9, slice-write-out 195:9, add-i 196:9, loop-less 194:5
+    (λ c. search needs) (λ c. search needs) (λ c κs. search needs) (λ c κs. search needs) (λ c. search needs)
+    (λ c. search needs) (λ c. search needs) (λ c. search needs)
+    loop-again
+    -- by search: same-length 189:1
     (λ c. search needs)
-    (λ c. search needs)
-    (λ c κs. search needs)
-    (λ c κs. search needs)
-    (λ c. search needs)
-    (λ c. search needs)
-    (λ c. search needs)
-    (λ c. search needs)
-    (λ c. (omega arith, simp length-set (c .before .before .before .before .loop .inv .1), ap (λ (k : ℕ). take (c .before .before .before .before .loop .i + 1) (set (c .before .before .before .before .loop .out) (c .before .before .before .before .loop .i) k)) (c .key-at .ensures ∙ ap (λ (k : ℕ). key (item-at (c .before .before .before .before .before .before .before .before .args .t .now) k)) (c .before .wide .ensures .0)) ∙ filled-next (λ (o : ℕ). key (item-at (c .before .before .before .before .before .before .before .before .args .t .now) o)) (c .before .before .before .before .before .before .before .before .args .os .now) (c .before .before .before .before .loop .out) (c .before .before .before .before .loop .i) (omega arith) (omega arith) (c .before .before .before .before .loop .inv .2)))
-    (λ c. search needs)
-    (λ c. (omega arith, filled-all (λ (o : ℕ). key (item-at (c .before .before .before .before .before .args .t .now) o)) (c .before .before .before .before .before .args .os .now) (c .before .loop .out) (c .before .loop .i) (omega arith) (c .before .loop .inv .2) ∙ keys-each (c .before .before .before .before .before .args .t .now) (c .before .before .before .before .before .args .os .now), c .before .loop .inv .1)))
+    returns)

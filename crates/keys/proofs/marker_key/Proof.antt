@@ -7,20 +7,64 @@ use borrow.Author.Needs.{needs}
 use Rattle.keys.proofs.marker_key.Statement.{statement}
 use Rattle.keys.proofs.marker_key.Tie as tie
 
+-- src/lib.rt:145:9
+returns : tie.Need-returns
+unfolding markerKey keyBy
+returns c = simp (lt-leb _ _ (c .if1 .taken))
+
+-- src/lib.rt:149:9
+returns-2 : tie.Need-returns-2
+unfolding markerKey keyBy
+returns-2 c =
+    let if1 = c .before .before .before .before .if1 in
+    simp (le-leb _ _ (if1 .left), ← c .before .low-of .ensures .0, eq-eqb _ _ (c .if2 .taken))
+
+-- src/lib.rt:152:9
+returns-3 : tie.Need-returns-3
+unfolding markerKey keyBy
+returns-3 c =
+    let if1 = c .before .before .before .before .before .before .if1 in
+    let low-of = c .before .before .before .low-of in
+    let marker-good = c .before .marker-good in
+    simp (
+      le-leb _ _ (if1 .left),
+      ← low-of .ensures .0,
+      ne-eqb _ _ (c .before .before .if2 .left),
+      ← marker-good .ensures,
+      not-true (marker-good .result) (c .if3 .taken),
+    )
+
+-- src/lib.rt:141:1
+returns-4 : tie.Need-returns-4
+unfolding markerKey keyBy
+returns-4 c =
+    let after-low-of = c .before .before .before .before .before in
+    let if1 = after-low-of .before .before .before .if1 in
+    let low-of = after-low-of .low-of in
+    let if2 = c .before .before .before .before .if2 in
+    let marker-good = c .before .before .before .marker-good in
+    simp (
+      le-leb _ _ (if1 .left),
+      ← low-of .ensures .0,
+      ne-eqb _ _ (if2 .left),
+      ← marker-good .ensures,
+      not-false (marker-good .result) (c .before .before .if3 .left),
+      c .wide .ensures .0,
+      c .before .number-at .ensures,
+    )
+
 pub marker-key-spec : {M : Type 1} → statement M
 unfolding markerKey keyBy
 marker-key-spec =
     tie.close
     (tie.spec
-    (λ c. simp (lt-leb _ _ (c .if1 .taken)))
-    (λ c. search needs)
-    (λ c. search needs)
+    returns
+    -- by search: shared-slice-read-low-of 147:22, shared-slice-read-low-of-2 147:28, low-of-requires 147:9
+    (λ c. search needs) (λ c. search needs) (λ c κs. search needs)
+    returns-2
+    -- by search: marker-good-requires 151:9
     (λ c κs. search needs)
-    (λ c. simp (le-leb _ _ (c .before .before .before .before .if1 .left), ← c .before .low-of .ensures .0, eq-eqb _ _ (c .if2 .taken)))
-    (λ c κs. search needs)
-    (λ c. simp (le-leb _ _ (c .before .before .before .before .before .before .if1 .left), ← c .before .before .before .low-of .ensures .0, ne-eqb _ _ (c .before .before .if2 .left), ← c .before .marker-good .ensures, not-true (c .before .marker-good .result) (c .if3 .taken)))
-    (λ c κs. search needs)
-    (λ c κs. search needs)
-    (λ c. search needs)
-    (λ c. search needs)
-    (λ c. simp (le-leb _ _ (c .before .before .before .before .before .before .before .before .if1 .left), ← c .before .before .before .before .before .low-of .ensures .0, ne-eqb _ _ (c .before .before .before .before .if2 .left), ← c .before .before .before .marker-good .ensures, not-false (c .before .before .before .marker-good .result) (c .before .before .if3 .left), c .wide .ensures .0, c .before .number-at .ensures)))
+    returns-3
+    -- by search: number-at-requires 154:10, wide-requires 154:5, mul-result 154:5, add-result 154:5
+    (λ c κs. search needs) (λ c κs. search needs) (λ c. search needs) (λ c. search needs)
+    returns-4)

@@ -5,12 +5,21 @@ use borrow.Author.Needs.{needs}
 use Rattle.keys.proofs.start_good.Statement.{statement}
 use Rattle.keys.proofs.start_good.Tie as tie
 
+-- src/lib.rt:108:9
+returns : tie.Need-returns
+returns c = simp (lt-leb _ _ (c .if1 .taken))
+
+-- src/lib.rt:104:1
+returns-2 : tie.Need-returns-2
+returns-2 c =
+    let if1 = c .before .before .before .if1 in
+    simp (c .yes-no-none .ensures, c .before .before .number-at .ensures, le-leb _ _ (if1 .left))
+
 pub start-good-spec : {M : Type 1} → statement M
 start-good-spec =
     tie.close
     (tie.spec
-    (λ c. simp (lt-leb _ _ (c .if1 .taken)))
-    (λ c κs. search needs)
-    (λ c. search needs)
-    (λ c κs. search needs)
-    (λ c. simp (c .yes-no-none .ensures, c .before .before .number-at .ensures, le-leb _ _ (c .before .before .before .if1 .left))))
+    returns
+    -- by search: number-at-requires 110:7, shared-slice-read-yes-no-none 110:57, yes-no-none-requires 110:38
+    (λ c κs. search needs) (λ c. search needs) (λ c κs. search needs)
+    returns-2)

@@ -2,9 +2,16 @@ use borrow.Author.Needs.{needs}
 use Rattle.letters.proofs.bad_alone.Statement.{statement}
 use Rattle.letters.proofs.bad_alone.Tie as tie
 
+-- src/lib.rt:48:1
+returns : tie.Need-returns
+returns c =
+    let is-code = c .before .before .before .before .before .is-code in
+    simp (is-code .ensures)
+
 pub bad-alone-spec : {M : Type 1} → statement M
 bad-alone-spec =
     tie.close
     (tie.spec
+    -- by search: is-code-requires 51:9
     (λ c κs. search needs)
-    (λ c. simp (c .before .before .before .before .before .is-code .ensures)))
+    returns)

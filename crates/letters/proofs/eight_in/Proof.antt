@@ -22,10 +22,98 @@ use Rattle.letters.proofs.eight_in.Statement.{statement}
 use Rattle.letters.proofs.eight_in.Tie as tie
 
 abbrev Inv-loop : tie.InvT-loop
-Inv-loop t source os keys best₀ led₀ i₀ best led i = (i ≤ length os) × (led ≡ any is-F (earlier (marker-at t os) i)) × (toward 8 best₀ (blamed (bad-8 source) [] (placed-at t os)) ≡ toward 8 best (blamed (bad-8 source) (earlier (marker-at t os) i) (placed-at t (drop i os))))
+Inv-loop t source os keys best₀ led₀ i₀ best led i =
+    (i ≤ length os)
+    × (led ≡ any is-F (earlier (marker-at t os) i))
+    × (toward 8 best₀ (blamed (bad-8 source) [] (placed-at t os))
+    ≡ toward 8 best (blamed (bad-8 source) (earlier (marker-at t os) i) (placed-at t (drop i os))))
 
 abbrev μ-loop : tie.MeasureT-loop
 μ-loop t source os keys best₀ led₀ i₀ best led i = length os - i
+
+-- src/lib.rt:85:5
+loop-holds : tie.Need-loop-holds Inv-loop μ-loop
+unfolding earlier any
+loop-holds c = (search needs, refl, refl)
+
+-- src/lib.rt:87:38
+shared-slice-read-view-at : tie.Need-shared-slice-read-view-at Inv-loop μ-loop
+unfolding earlier any
+shared-slice-read-view-at c =
+    let start = c .before .before .before .before .before .before .before .before in
+    let loop-test = c .before .before .before .loop-test in
+    omega
+    (arith, ap length (start .pre), length-keys (start .args .t .now) (start .args .os .now), loop-test .taken)
+
+-- src/lib.rt:87:13
+view-at-requires : tie.Need-view-at-requires Inv-loop μ-loop
+unfolding earlier any
+view-at-requires c κs =
+    let start = c .before .before .before .before .before .before .before .before in
+    let args = start .args in
+    let t = args .t .now in
+    let loop = c .before .before .before .before .loop in
+    let loop-test = c .before .before .before .loop-test in
+    ap (λ (l : List ℕ). getD l (loop .i) 0) (start .pre)
+    ∙ key-at t (args .os .now) (loop .i) (loop-test .taken)
+    ∙ ap (λ (k : ℕ). key (item-at t k)) (sym (c .before .wide .ensures .0))
+
+-- src/lib.rt:88:19
+ill-ended-requires : tie.Need-ill-ended-requires Inv-loop μ-loop
+unfolding earlier any
+ill-ended-requires c κs =
+    let start = c .before .before .before .before .before .before .before .before .before in
+    let loop-test = c .before .before .before .before .loop-test in (
+      start .pre,
+      loop-test .taken,
+      c .view-at .ensures
+          ∙ ap (λ (k : ℕ). viewOf (item-at (start .args .t .now) k)) (c .before .before .wide .ensures .0),
+    )
+
+-- src/lib.rt:85:5
+loop-again : tie.Need-loop-again Inv-loop μ-loop
+unfolding earlier any
+loop-again c =
+    let after-wide = c .before .before .before .before .before .before in
+    let args = after-wide .before .before .before .before .before .before .before .args in
+    let t = args .t .now in
+    let os = args .os .now in
+    let source = args .source in
+    let loop = after-wide .before .before .before .loop in
+    let led = loop .led in
+    let i = loop .i in
+    let inv = loop .inv in
+    let loop-test = after-wide .before .before .loop-test in
+    let wide = after-wide .wide in
+    let view-at = c .before .before .before .before .view-at in
+    let ill-ended = c .before .before .before .ill-ended in
+    let bad-alone = c .before .before .bad-alone in
+    let lower-if = c .before .lower-if in (
+      search needs,
+      ap (λ (b : Bool). b || led) (c .is-leading .ensures)
+          ∙ led-on t os i (view-at .result) led
+          (view-at .ensures ∙ ap (λ (k : ℕ). viewOf (item-at t k)) (wide .ensures .0)) (inv .1),
+      inv .2
+          ∙ blamed-step 8 (bad-8 source) t os i (loop .best) (ill-ended .result || bad-alone .result) (wide .result)
+          (lower-if .result) (loop-test .taken) (wide .ensures .0)
+          (ap₂ _||_ (ill-ended .ensures)
+          (bad-alone .ensures
+          ∙ ap (badAlone source led) (view-at .ensures ∙ ap (λ (k : ℕ). viewOf (item-at t k)) (wide .ensures .0)))
+          ∙ eight-is source (earlier (marker-at t os) i) (marker-at t os i) (items (placed-at t (drop (suc i) os)))
+          led (inv .1)) (lower-if .ensures),
+    )
+
+-- src/lib.rt:78:1
+returns : tie.Need-returns Inv-loop μ-loop
+unfolding earlier any
+returns c =
+    let args = c .before .before .before .before .before .args in
+    let t = args .t .now in
+    let os = args .os .now in
+    let loop = c .before .loop in
+    sym (loop .inv .2
+    ∙ blamed-end (bad-8 (args .source)) t os (earlier (marker-at t os) (loop .i)) (loop .i) (loop .best) 8
+    (c .loop-test .left))
 
 pub eight-in-spec : {M : Type 1} → statement M
 unfolding earlier any
@@ -34,18 +122,14 @@ eight-in-spec =
     (tie.spec
     Inv-loop
     μ-loop
-    (λ c. (search needs, refl, refl))
-    (λ c. search needs)
-    (λ c. search needs)
-    (λ c κs. search needs)
-    (λ c. search needs)
-    (λ c. omega (arith, ap length (c .before .before .before .before .before .before .before .before .pre), length-keys (c .before .before .before .before .before .before .before .before .args .t .now) (c .before .before .before .before .before .before .before .before .args .os .now), c .before .before .before .loop-test .taken))
-    (λ c κs. ap (λ (l : List ℕ). getD l (c .before .before .before .before .loop .i) 0) (c .before .before .before .before .before .before .before .before .pre) ∙ key-at (c .before .before .before .before .before .before .before .before .args .t .now) (c .before .before .before .before .before .before .before .before .args .os .now) (c .before .before .before .before .loop .i) (c .before .before .before .loop-test .taken) ∙ ap (λ (k : ℕ). key (item-at (c .before .before .before .before .before .before .before .before .args .t .now) k)) (sym (c .before .wide .ensures .0)))
-    (λ c κs. ((c .before .before .before .before .before .before .before .before .before .pre), (c .before .before .before .before .loop-test .taken), (c .view-at .ensures ∙ ap (λ (k : ℕ). viewOf (item-at (c .before .before .before .before .before .before .before .before .before .args .t .now) k)) (c .before .before .wide .ensures .0))))
-    (λ c κs. search needs)
-    (λ c κs. search needs)
-    (λ c κs. search needs)
-    (λ c. search needs)
-    (λ c. search needs)
-    (λ c. (search needs, ap (λ (b : Bool). b || c .before .before .before .before .before .before .before .before .before .loop .led) (c .is-leading .ensures) ∙ led-on (c .before .before .before .before .before .before .before .before .before .before .before .before .before .args .t .now) (c .before .before .before .before .before .before .before .before .before .before .before .before .before .args .os .now) (c .before .before .before .before .before .before .before .before .before .loop .i) (c .before .before .before .before .view-at .result) (c .before .before .before .before .before .before .before .before .before .loop .led) (c .before .before .before .before .view-at .ensures ∙ ap (λ (k : ℕ). viewOf (item-at (c .before .before .before .before .before .before .before .before .before .before .before .before .before .args .t .now) k)) (c .before .before .before .before .before .before .wide .ensures .0)) (c .before .before .before .before .before .before .before .before .before .loop .inv .1), c .before .before .before .before .before .before .before .before .before .loop .inv .2 ∙ blamed-step 8 (bad-8 (c .before .before .before .before .before .before .before .before .before .before .before .before .before .args .source)) (c .before .before .before .before .before .before .before .before .before .before .before .before .before .args .t .now) (c .before .before .before .before .before .before .before .before .before .before .before .before .before .args .os .now) (c .before .before .before .before .before .before .before .before .before .loop .i) (c .before .before .before .before .before .before .before .before .before .loop .best) (c .before .before .before .ill-ended .result || c .before .before .bad-alone .result) (c .before .before .before .before .before .before .wide .result) (c .before .lower-if .result) (c .before .before .before .before .before .before .before .before .loop-test .taken) (c .before .before .before .before .before .before .wide .ensures .0) (ap₂ _||_ (c .before .before .before .ill-ended .ensures) (c .before .before .bad-alone .ensures ∙ ap (badAlone (c .before .before .before .before .before .before .before .before .before .before .before .before .before .args .source) (c .before .before .before .before .before .before .before .before .before .loop .led)) (c .before .before .before .before .view-at .ensures ∙ ap (λ (k : ℕ). viewOf (item-at (c .before .before .before .before .before .before .before .before .before .before .before .before .before .args .t .now) k)) (c .before .before .before .before .before .before .wide .ensures .0))) ∙ eight-is (c .before .before .before .before .before .before .before .before .before .before .before .before .before .args .source) (earlier (marker-at (c .before .before .before .before .before .before .before .before .before .before .before .before .before .args .t .now) (c .before .before .before .before .before .before .before .before .before .before .before .before .before .args .os .now)) (c .before .before .before .before .before .before .before .before .before .loop .i)) (marker-at (c .before .before .before .before .before .before .before .before .before .before .before .before .before .args .t .now) (c .before .before .before .before .before .before .before .before .before .before .before .before .before .args .os .now) (c .before .before .before .before .before .before .before .before .before .loop .i)) (items (placed-at (c .before .before .before .before .before .before .before .before .before .before .before .before .before .args .t .now) (drop (suc (c .before .before .before .before .before .before .before .before .before .loop .i)) (c .before .before .before .before .before .before .before .before .before .before .before .before .before .args .os .now)))) (c .before .before .before .before .before .before .before .before .before .loop .led) (c .before .before .before .before .before .before .before .before .before .loop .inv .1)) (c .before .lower-if .ensures)))
-    (λ c. sym (c .before .loop .inv .2 ∙ blamed-end (bad-8 (c .before .before .before .before .before .args .source)) (c .before .before .before .before .before .args .t .now) (c .before .before .before .before .before .args .os .now) (earlier (marker-at (c .before .before .before .before .before .args .t .now) (c .before .before .before .before .before .args .os .now)) (c .before .loop .i)) (c .before .loop .i) (c .before .loop .best) 8 (c .loop-test .left))))
+    loop-holds
+    -- by search: mul-wide 86:30, shared-slice-read-wide 86:30, wide-requires 86:13, mul-view-at 87:38
+    (λ c. search needs) (λ c. search needs) (λ c κs. search needs) (λ c. search needs)
+    shared-slice-read-view-at
+    view-at-requires
+    ill-ended-requires
+    -- by search: bad-alone-requires 88:50, lower-if-requires 89:9, is-leading-requires 90:15, add-i 91:9,
+    -- loop-less 85:5
+    (λ c κs. search needs) (λ c κs. search needs) (λ c κs. search needs) (λ c. search needs) (λ c. search needs)
+    loop-again
+    returns)

@@ -2,9 +2,17 @@ use borrow.Author.Tests.{eq-eqb, ne-eqb}
 use Rattle.letters.proofs.end_letter.Statement.{statement}
 use Rattle.letters.proofs.end_letter.Tie as tie
 
+-- src/lib.rt:23:1
+returns : tie.Need-returns
+returns c = simp (eq-eqb _ _ (c .if1 .taken))
+
+-- src/lib.rt:23:1
+returns-2 : tie.Need-returns-2
+returns-2 c = simp (ne-eqb _ _ (c .if1 .left))
+
 pub end-letter-spec : {M : Type 1} → statement M
 end-letter-spec =
     tie.close
     (tie.spec
-    (λ c. simp (eq-eqb _ _ (c .if1 .taken)))
-    (λ c. simp (ne-eqb _ _ (c .if1 .left))))
+    returns
+    returns-2)

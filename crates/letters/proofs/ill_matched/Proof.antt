@@ -2,9 +2,17 @@ use borrow.Author.Needs.{needs}
 use Rattle.letters.proofs.ill_matched.Statement.{statement}
 use Rattle.letters.proofs.ill_matched.Tie as tie
 
+-- src/lib.rt:30:1
+returns : tie.Need-returns
+returns c =
+    let end-letter = c .before .before .before .before .before .before .before .before .before .before .before
+    .end-letter in
+    simp (end-letter .ensures)
+
 pub ill-matched-spec : {M : Type 1} → statement M
 ill-matched-spec =
     tie.close
     (tie.spec
+    -- by search: end-letter-requires 33:9
     (λ c κs. search needs)
-    (λ c. simp (c .before .before .before .before .before .before .before .before .before .before .before .end-letter .ensures)))
+    returns)

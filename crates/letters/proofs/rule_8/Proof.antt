@@ -6,11 +6,23 @@ use borrow.Author.Needs.{needs}
 use Rattle.letters.proofs.rule_8.Statement.{statement}
 use Rattle.letters.proofs.rule_8.Tie as tie
 
+-- src/lib.rt:97:1
+returns : tie.Need-returns
+unfolding fault-8 offsets
+returns c =
+    let start = c .before .before .before .before .before .before .before in
+    let args = start .args in
+    let pre = start .pre in
+    let eight-in = c .before .eight-in in
+    two-sequences 8 bad-8-source bad-8-target on-8-source on-8-target (args .t .now) (args .src .now)
+    (args .tgt .now) (eight-in .result) (c .eight-in2 .result) (pre .0) (pre .1) (pre .3) (eight-in .ensures)
+    (c .eight-in2 .ensures)
+
 pub rule-8-spec : {M : Type 1} → statement M
 unfolding fault-8 offsets
 rule-8-spec =
     tie.close
     (tie.spec
-    (λ c κs. search needs)
-    (λ c κs. search needs)
-    (λ c. two-sequences 8 bad-8-source bad-8-target on-8-source on-8-target (c .before .before .before .before .before .before .before .args .t .now) (c .before .before .before .before .before .before .before .args .src .now) (c .before .before .before .before .before .before .before .args .tgt .now) (c .before .eight-in .result) (c .eight-in2 .result) (c .before .before .before .before .before .before .before .pre .0) (c .before .before .before .before .before .before .before .pre .1) (c .before .before .before .before .before .before .before .pre .3) (c .before .eight-in .ensures) (c .eight-in2 .ensures)))
+    -- by search: eight-in-requires 101:9, eight-in-requires-2 102:5
+    (λ c κs. search needs) (λ c κs. search needs)
+    returns)

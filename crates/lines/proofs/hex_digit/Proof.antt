@@ -5,12 +5,24 @@ use borrow.Author.Needs.{needs}
 use Rattle.lines.proofs.hex_digit.Statement.{statement}
 use Rattle.lines.proofs.hex_digit.Tie as tie
 
+-- src/lib.rt:74:9
+returns : tie.Need-returns
+unfolding hex-digit
+returns c = rw (lt-ltb _ 10 (c .if1 .taken)) refl
+
+-- src/lib.rt:69:1
+returns-2 : tie.Need-returns-2
+unfolding hex-digit
+returns-2 c = rw (le-ltb _ 10 (c .if1 .left)) refl
+
 pub hex-digit-spec : {M : Type 1} → statement M
 unfolding hex-digit
 hex-digit-spec =
     tie.close
     (tie.spec
+    -- by search: add-result 74:16
     (λ c. search needs)
-    (λ c. rw (lt-ltb _ 10 (c .if1 .taken)) refl)
+    returns
+    -- by search: add-result-2 76:5
     (λ c. search needs)
-    (λ c. rw (le-ltb _ 10 (c .if1 .left)) refl))
+    returns-2)

@@ -13,10 +13,68 @@ use Rattle.lines.proofs.put_decimal.Statement.{statement}
 use Rattle.lines.proofs.put_decimal.Tie as tie
 
 abbrev Inv-loop : tie.InvT-loop
-Inv-loop out n digits₀ k₀ m₀ digits k m = (k ≤ 20) × (1 ≤ k) × (m < ten k) × (length digits ≡ 20) × (decimal n ≡ spell-digits k m (drop k digits))
+Inv-loop out n digits₀ k₀ m₀ digits k m =
+    (k ≤ 20) × (1 ≤ k) × (m < ten k) × (length digits ≡ 20) × (decimal n ≡ spell-digits k m (drop k digits))
 
 abbrev μ-loop : tie.MeasureT-loop
 μ-loop out n digits₀ k₀ m₀ digits k m = m
+
+-- src/lib.rt:26:5
+loop-holds : tie.Need-loop-holds Inv-loop μ-loop
+unfolding decimal
+loop-holds c = (omega arith, omega arith, omega (arith, c .before .fits), refl, refl)
+
+-- src/lib.rt:26:5
+loop-again : tie.Need-loop-again Inv-loop μ-loop
+unfolding decimal
+loop-again c =
+    let loop = c .before .before .loop in
+    let digits = loop .digits in
+    let k = loop .k in
+    let inv = loop .inv in
+    let e = digit-more digits k (loop .m) (inv .1) (omega (arith, inv .0, inv .3)) (c .before .loop-test .taken)
+    (inv .2) in (
+      omega (arith, inv .0),
+      e .1,
+      e .2,
+      length-set digits (k - 1) _ ∙ inv .3,
+      inv .4
+          ∙ e .0
+          ∙ ap (λ (v : ℕ). spell-digits (k - 1) (loop .m / 10) (drop (k - 1) (set digits (k - 1) v)))
+          (sym (c .digit .ensures)),
+    )
+
+-- src/lib.rt:33:22
+part-put-end : tie.Need-part-put-end Inv-loop μ-loop
+unfolding decimal
+part-put-end c =
+    let loop = c .before .before .before .before .loop in
+    omega (arith, length-set (loop .digits) (loop .k - 1) (c .before .before .digit2 .result), loop .inv .3)
+
+-- src/lib.rt:19:1
+returns : tie.Need-returns Inv-loop μ-loop
+unfolding decimal
+returns c =
+    let after-digit2 = c .before .before .before .before .before .before in
+    let args = after-digit2 .before .before .before .before .args in
+    let loop = after-digit2 .before .before .loop in
+    let k = loop .k in
+    let digits = loop .digits in
+    let inv = loop .inv in
+    let loop-test = after-digit2 .before .loop-test in
+    let digit2 = after-digit2 .digit2 in
+    let the-set = set digits (k - 1) (digit2 .result) in
+    let the-drop = drop (k - 1) the-set in
+    let put = c .before .before .put in
+    let w : take (20 - (k - 1)) the-drop ≡ decimal (args .n) =
+    take-all (20 - (k - 1)) the-drop
+    (omega (arith, length-drop (k - 1) the-set, length-set digits (k - 1) (digit2 .result), inv .3))
+    ∙ ap (λ (v : ℕ). drop (k - 1) (set digits (k - 1) v)) (digit2 .ensures)
+    ∙ sym (inv .4 ∙ digit-last digits k (loop .m) (inv .1) (omega (arith, inv .0, inv .3)) (loop-test .left)) in (
+      put .ensures .0 ∙ ap length w,
+      put .ensures .1 ∙ ap (λ (l : List ℕ). lead l (args .out .now)) w,
+      omega (arith, put .ensures .0, length-take (20 - (k - 1)) the-drop),
+    )
 
 pub put-decimal-spec : {M : Type 1} → statement M
 unfolding decimal
@@ -25,18 +83,14 @@ put-decimal-spec =
     (tie.spec
     Inv-loop
     μ-loop
-    (λ c. (omega arith, omega arith, omega (arith, (c .before .fits)), refl, refl))
-    (λ c. search needs)
-    (λ c κs. search needs)
-    (λ c. search needs)
-    (λ c. search needs)
-    (λ c. let e = digit-more (c .before .before .loop .digits) (c .before .before .loop .k) (c .before .before .loop .m) (c .before .before .loop .inv .1) (omega (arith, c .before .before .loop .inv .0, c .before .before .loop .inv .3)) (c .before .loop-test .taken) (c .before .before .loop .inv .2) in (omega (arith, c .before .before .loop .inv .0), e .1, e .2, length-set (c .before .before .loop .digits) (c .before .before .loop .k - 1) _ ∙ c .before .before .loop .inv .3, c .before .before .loop .inv .4 ∙ e .0 ∙ ap (λ (v : ℕ). spell-digits (c .before .before .loop .k - 1) ((c .before .before .loop .m) / 10) (drop (c .before .before .loop .k - 1) (set (c .before .before .loop .digits) (c .before .before .loop .k - 1) v))) (sym (c .digit .ensures))))
-    (λ c. search needs)
-    (λ c κs. search needs)
-    (λ c. search needs)
-    (λ c. search needs)
-    (λ c. search needs)
-    (λ c. omega (arith, length-set (c .before .before .before .before .loop .digits) (c .before .before .before .before .loop .k - 1) (c .before .before .digit2 .result), c .before .before .before .before .loop .inv .3))
-    (λ c κs. search needs)
-    (λ c. search needs)
-    (λ c. let w : take (20 - (c .before .before .before .before .before .before .before .before .loop .k - 1)) (drop (c .before .before .before .before .before .before .before .before .loop .k - 1) (set (c .before .before .before .before .before .before .before .before .loop .digits) (c .before .before .before .before .before .before .before .before .loop .k - 1) (c .before .before .before .before .before .before .digit2 .result))) ≡ decimal (c .before .before .before .before .before .before .before .before .before .before .args .n) = take-all (20 - (c .before .before .before .before .before .before .before .before .loop .k - 1)) (drop (c .before .before .before .before .before .before .before .before .loop .k - 1) (set (c .before .before .before .before .before .before .before .before .loop .digits) (c .before .before .before .before .before .before .before .before .loop .k - 1) (c .before .before .before .before .before .before .digit2 .result))) (omega (arith, length-drop (c .before .before .before .before .before .before .before .before .loop .k - 1) (set (c .before .before .before .before .before .before .before .before .loop .digits) (c .before .before .before .before .before .before .before .before .loop .k - 1) (c .before .before .before .before .before .before .digit2 .result)), length-set (c .before .before .before .before .before .before .before .before .loop .digits) (c .before .before .before .before .before .before .before .before .loop .k - 1) (c .before .before .before .before .before .before .digit2 .result), c .before .before .before .before .before .before .before .before .loop .inv .3)) ∙ ap (λ (v : ℕ). drop (c .before .before .before .before .before .before .before .before .loop .k - 1) (set (c .before .before .before .before .before .before .before .before .loop .digits) (c .before .before .before .before .before .before .before .before .loop .k - 1) v)) (c .before .before .before .before .before .before .digit2 .ensures) ∙ sym (c .before .before .before .before .before .before .before .before .loop .inv .4 ∙ digit-last (c .before .before .before .before .before .before .before .before .loop .digits) (c .before .before .before .before .before .before .before .before .loop .k) (c .before .before .before .before .before .before .before .before .loop .m) (c .before .before .before .before .before .before .before .before .loop .inv .1) (omega (arith, c .before .before .before .before .before .before .before .before .loop .inv .0, c .before .before .before .before .before .before .before .before .loop .inv .3)) (c .before .before .before .before .before .before .before .loop-test .left)) in (c .before .before .put .ensures .0 ∙ ap length w, c .before .before .put .ensures .1 ∙ ap (λ (l : List ℕ). lead l (c .before .before .before .before .before .before .before .before .before .before .args .out .now)) w, omega (arith, c .before .before .put .ensures .0, length-take (20 - (c .before .before .before .before .before .before .before .before .loop .k - 1)) (drop (c .before .before .before .before .before .before .before .before .loop .k - 1) (set (c .before .before .before .before .before .before .before .before .loop .digits) (c .before .before .before .before .before .before .before .before .loop .k - 1) (c .before .before .before .before .before .before .digit2 .result)))))))
+    loop-holds
+    -- by search: sub-k 27:9, digit-requires 28:21, array-write-digits 28:9, loop-less 26:5
+    (λ c. search needs) (λ c κs. search needs) (λ c. search needs) (λ c. search needs)
+    loop-again
+    -- by search: sub-k-2 31:5, digit-requires-2 32:17, array-write-digits-2 32:5, sub-put 33:22,
+    -- part-put-start 33:22
+    (λ c. search needs) (λ c κs. search needs) (λ c. search needs) (λ c. search needs) (λ c. search needs)
+    part-put-end
+    -- by search: put-requires 33:5, same-length 19:1
+    (λ c κs. search needs) (λ c. search needs)
+    returns)

@@ -13,10 +13,65 @@ use Rattle.lines.proofs.put_hex.Statement.{statement}
 use Rattle.lines.proofs.put_hex.Tie as tie
 
 abbrev Inv-loop : tie.InvT-loop
-Inv-loop out₀ t i₀ at₀ out i at = (i ≤ length t) × (at ≡ 2 * i) × (length out ≡ length out₀) × (at ≡ length (hex (take i t))) × (out ≡ lead (hex (take i t)) out₀)
+Inv-loop out₀ t i₀ at₀ out i at =
+    (i ≤ length t)
+    × (at ≡ 2 * i)
+    × (length out ≡ length out₀)
+    × (at ≡ length (hex (take i t)))
+    × (out ≡ lead (hex (take i t)) out₀)
 
 abbrev μ-loop : tie.MeasureT-loop
 μ-loop out₀ t i₀ at₀ out i at = length t - i
+
+-- src/lib.rt:86:5
+loop-holds : tie.Need-loop-holds Inv-loop μ-loop
+unfolding hex gather
+loop-holds c = (omega arith, refl, refl, refl, refl)
+
+-- src/lib.rt:88:43
+hex-digit-requires : tie.Need-hex-digit-requires Inv-loop μ-loop
+unfolding hex gather
+hex-digit-requires c κs =
+    let loop = c .before .before .before .loop in
+    omega (arith, (c .before .shared-slice-known2 .given) (loop .i))
+
+-- src/lib.rt:86:5
+loop-again : tie.Need-loop-again Inv-loop μ-loop
+unfolding hex gather
+loop-again c =
+    let after-put-byte = c .before .before .before .before .before .before .before in
+    let after-loop = after-put-byte .before .before .before .before .before in
+    let args = after-loop .before .before .before .args in
+    let loop = after-loop .loop in
+    let inv = loop .inv in
+    let hex-digit = after-put-byte .before .hex-digit in
+    let put-byte = after-put-byte .put-byte in
+    let hex-digit2 = c .before .before .before .hex-digit2 in
+    let put-byte2 = c .before .before .put-byte2 in
+    let e = hex-next (args .t .now) (args .out .now) (loop .out) (put-byte .last .0) (put-byte2 .last .0) (loop .i)
+    (loop .at) (put-byte .result) (hex-digit .result) (hex-digit2 .result) (omega arith) (inv .3) (inv .4)
+    (hex-digit .ensures) (hex-digit2 .ensures) (put-byte .ensures .0) (put-byte .ensures .1)
+    (put-byte2 .ensures .1) in (
+      omega arith,
+      omega (arith, put-byte2 .ensures .0, put-byte .ensures .0, inv .1),
+      put-byte2 .kept .0 ∙ put-byte .kept .0 ∙ inv .2,
+      put-byte2 .ensures .0 ∙ e .0,
+      e .1,
+    )
+
+-- src/lib.rt:80:1
+returns : tie.Need-returns Inv-loop μ-loop
+unfolding hex gather
+returns c =
+    let args = c .before .before .before .before .args in
+    let t = args .t .now in
+    let loop = c .before .loop in
+    let inv = loop .inv in
+    let w : take (loop .i) t ≡ t = take-all (loop .i) t (omega arith) in (
+      inv .3 ∙ ap (λ (l : List ℕ). length (hex l)) w,
+      inv .4 ∙ ap (λ (l : List ℕ). lead (hex l) (args .out .now)) w,
+      omega (arith, inv .1, inv .0),
+    )
 
 pub put-hex-spec : {M : Type 1} → statement M
 unfolding hex gather
@@ -25,14 +80,14 @@ put-hex-spec =
     (tie.spec
     Inv-loop
     μ-loop
-    (λ c. (omega arith, refl, refl, refl, refl))
+    loop-holds
+    -- by search: shared-slice-read-b 87:17
     (λ c. search needs)
-    (λ c κs. omega (arith, (c .before .shared-slice-known2 .given) (c .before .before .before .loop .i)))
-    (λ c κs. search needs)
-    (λ c κs. search needs)
-    (λ c κs. search needs)
+    hex-digit-requires
+    -- by search: put-byte-requires 88:13, hex-digit-requires-2 89:39, put-byte-requires-2 89:9, add-i 90:9,
+    -- loop-less 86:5
+    (λ c κs. search needs) (λ c κs. search needs) (λ c κs. search needs) (λ c. search needs) (λ c. search needs)
+    loop-again
+    -- by search: same-length 80:1
     (λ c. search needs)
-    (λ c. search needs)
-    (λ c. let e = hex-next (c .before .before .before .before .before .before .before .before .before .before .before .before .before .before .before .args .t .now) (c .before .before .before .before .before .before .before .before .before .before .before .before .before .before .before .args .out .now) (c .before .before .before .before .before .before .before .before .before .before .before .before .loop .out) (c .before .before .before .before .before .before .before .put-byte .last .0) (c .before .before .put-byte2 .last .0) (c .before .before .before .before .before .before .before .before .before .before .before .before .loop .i) (c .before .before .before .before .before .before .before .before .before .before .before .before .loop .at) (c .before .before .before .before .before .before .before .put-byte .result) (c .before .before .before .before .before .before .before .before .hex-digit .result) (c .before .before .before .hex-digit2 .result) (omega arith) (c .before .before .before .before .before .before .before .before .before .before .before .before .loop .inv .3) (c .before .before .before .before .before .before .before .before .before .before .before .before .loop .inv .4) (c .before .before .before .before .before .before .before .before .hex-digit .ensures) (c .before .before .before .hex-digit2 .ensures) (c .before .before .before .before .before .before .before .put-byte .ensures .0) (c .before .before .before .before .before .before .before .put-byte .ensures .1) (c .before .before .put-byte2 .ensures .1) in (omega arith, omega (arith, c .before .before .put-byte2 .ensures .0, c .before .before .before .before .before .before .before .put-byte .ensures .0, c .before .before .before .before .before .before .before .before .before .before .before .before .loop .inv .1), c .before .before .put-byte2 .kept .0 ∙ c .before .before .before .before .before .before .before .put-byte .kept .0 ∙ c .before .before .before .before .before .before .before .before .before .before .before .before .loop .inv .2, c .before .before .put-byte2 .ensures .0 ∙ e .0, e .1))
-    (λ c. search needs)
-    (λ c. let w : take (c .before .loop .i) (c .before .before .before .before .args .t .now) ≡ (c .before .before .before .before .args .t .now) = take-all (c .before .loop .i) (c .before .before .before .before .args .t .now) (omega arith) in (c .before .loop .inv .3 ∙ ap (λ (l : List ℕ). length (hex l)) w, c .before .loop .inv .4 ∙ ap (λ (l : List ℕ). lead (hex l) (c .before .before .before .before .args .out .now)) w, omega (arith, c .before .loop .inv .1, c .before .loop .inv .0))))
+    returns)

@@ -2,16 +2,27 @@ use borrow.Author.Needs.{needs}
 use Rattle.lines.proofs.put_line.Statement.{statement}
 use Rattle.lines.proofs.put_line.Tie as tie
 
+-- src/lib.rt:59:1
+returns : tie.Need-returns
+returns c =
+    let a = c .before .before .before .before .before .a in
+    rw (a .given .1) (c .before .before .put-accepted .ensures)
+
+-- src/lib.rt:59:1
+returns-2 : tie.Need-returns-2
+returns-2 c =
+    let a2 = c .before .before .before .before .before .a2 in
+    rw (a2 .given .1) (c .before .before .put-refused .ensures)
+
 pub put-line-spec : {M : Type 1} → statement M
 put-line-spec =
     tie.close
     (tie.spec
+    -- by search: enum-known-a 64:26, put-accepted-requires 64:32, enum-known-a-2 65:25, cast-put-refused 65:52,
+    -- put-refused-requires 65:35, same-length 59:1
+    (λ c. search needs) (λ c κs. search needs) (λ c. search needs) (λ c. search needs) (λ c κs. search needs)
     (λ c. search needs)
-    (λ c κs. search needs)
+    returns
+    -- by search: same-length-2 59:1
     (λ c. search needs)
-    (λ c. search needs)
-    (λ c κs. search needs)
-    (λ c. search needs)
-    (λ c. rw (c .before .before .before .before .before .a .given .1) (c .before .before .put-accepted .ensures))
-    (λ c. search needs)
-    (λ c. rw (c .before .before .before .before .before .a2 .given .1) (c .before .before .put-refused .ensures)))
+    returns-2)

@@ -10,24 +10,52 @@ use borrow.Author.Needs.{needs}
 use Rattle.lines.proofs.put_refused.Statement.{statement}
 use Rattle.lines.proofs.put_refused.Tie as tie
 
+-- src/lib.rt:47:1
+returns : tie.Need-returns
+unfolding line
+returns c =
+    let after-put-decimal2 = c .before .before .before .before .before .before in
+    let after-put-decimal = after-put-decimal2 .before .before .before .before .before .before .before .before in
+    let args = after-put-decimal .before .before .before .before .before .before .before .before .args in
+    let out = args .out .now in
+    let n = args .n in
+    let at₀ = args .at in
+    let put = after-put-decimal .before .before .before .before .put in
+    let put-decimal = after-put-decimal .put-decimal in
+    let put-byte = after-put-decimal2 .before .before .before .before .put-byte in
+    let put-decimal2 = after-put-decimal2 .put-decimal2 in
+    let put-byte2 = c .before .before .put-byte2 in
+    let e = tail-byte out (78 ∷ 79 ∷ 32 ∷ []) (decimal n) (put .last .0) (put-decimal .last .0) (put-byte .last .0)
+    (put .result) (put-decimal .result) 32 (put .ensures .0) (put .ensures .1) (put-decimal .ensures .0)
+    (put-decimal .ensures .1) (put-byte .ensures .1) in
+    let l : put-byte .result ≡ length ((78 ∷ 79 ∷ 32 ∷ []) ++ decimal n ++ (32 ∷ [])) =
+    omega
+    (arith, put-byte .ensures .0, put .ensures .0, put-decimal .ensures .0, length-append (decimal n) (32 ∷ [])) in
+    let f = tail-byte out ((78 ∷ 79 ∷ 32 ∷ []) ++ decimal n ++ (32 ∷ [])) (decimal at₀) (put-byte .last .0)
+    (put-decimal2 .last .0) (put-byte2 .last .0) (put-byte .result) (put-decimal2 .result) 10 l e
+    (put-decimal2 .ensures .0) (put-decimal2 .ensures .1) (put-byte2 .ensures .1) in
+    refused-returns out n at₀ (put-byte2 .last .0) (put-byte .result) (put-decimal2 .result) (put-byte2 .result) l
+    (put-decimal2 .ensures .0) (put-byte2 .ensures .0) f
+    (omega (
+      arith,
+      put-byte2 .ensures .0,
+      put-byte .ensures .0,
+      put .ensures .0,
+      put-decimal .ensures .2,
+      put-decimal2 .ensures .2,
+    ))
+
 pub put-refused-spec : {M : Type 1} → statement M
 unfolding line
 put-refused-spec =
     tie.close
     (tie.spec
-    (λ c. search needs)
-    (λ c κs. search needs)
-    (λ c. search needs)
-    (λ c. search needs)
-    (λ c. search needs)
-    (λ c κs. search needs)
-    (λ c. search needs)
-    (λ c κs. search needs)
-    (λ c. search needs)
-    (λ c. search needs)
-    (λ c. search needs)
-    (λ c κs. search needs)
-    (λ c. search needs)
-    (λ c κs. search needs)
-    (λ c. search needs)
-    (λ c. let e = tail-byte (c .before .before .before .before .before .before .before .before .before .before .before .before .before .before .before .before .before .before .before .before .before .before .args .out .now) (78 ∷ 79 ∷ 32 ∷ []) (decimal (c .before .before .before .before .before .before .before .before .before .before .before .before .before .before .before .before .before .before .before .before .before .before .args .n)) (c .before .before .before .before .before .before .before .before .before .before .before .before .before .before .before .before .before .before .put .last .0) (c .before .before .before .before .before .before .before .before .before .before .before .before .before .before .put-decimal .last .0) (c .before .before .before .before .before .before .before .before .before .before .put-byte .last .0) (c .before .before .before .before .before .before .before .before .before .before .before .before .before .before .before .before .before .before .put .result) (c .before .before .before .before .before .before .before .before .before .before .before .before .before .before .put-decimal .result) 32 (c .before .before .before .before .before .before .before .before .before .before .before .before .before .before .before .before .before .before .put .ensures .0) (c .before .before .before .before .before .before .before .before .before .before .before .before .before .before .before .before .before .before .put .ensures .1) (c .before .before .before .before .before .before .before .before .before .before .before .before .before .before .put-decimal .ensures .0) (c .before .before .before .before .before .before .before .before .before .before .before .before .before .before .put-decimal .ensures .1) (c .before .before .before .before .before .before .before .before .before .before .put-byte .ensures .1) in let l : c .before .before .before .before .before .before .before .before .before .before .put-byte .result ≡ length ((78 ∷ 79 ∷ 32 ∷ []) ++ (decimal (c .before .before .before .before .before .before .before .before .before .before .before .before .before .before .before .before .before .before .before .before .before .before .args .n)) ++ (32 ∷ [])) = omega (arith, c .before .before .before .before .before .before .before .before .before .before .put-byte .ensures .0, c .before .before .before .before .before .before .before .before .before .before .before .before .before .before .before .before .before .before .put .ensures .0, c .before .before .before .before .before .before .before .before .before .before .before .before .before .before .put-decimal .ensures .0, length-append (decimal (c .before .before .before .before .before .before .before .before .before .before .before .before .before .before .before .before .before .before .before .before .before .before .args .n)) (32 ∷ [])) in let f = tail-byte (c .before .before .before .before .before .before .before .before .before .before .before .before .before .before .before .before .before .before .before .before .before .before .args .out .now) ((78 ∷ 79 ∷ 32 ∷ []) ++ (decimal (c .before .before .before .before .before .before .before .before .before .before .before .before .before .before .before .before .before .before .before .before .before .before .args .n)) ++ (32 ∷ [])) (decimal (c .before .before .before .before .before .before .before .before .before .before .before .before .before .before .before .before .before .before .before .before .before .before .args .at)) (c .before .before .before .before .before .before .before .before .before .before .put-byte .last .0) (c .before .before .before .before .before .before .put-decimal2 .last .0) (c .before .before .put-byte2 .last .0) (c .before .before .before .before .before .before .before .before .before .before .put-byte .result) (c .before .before .before .before .before .before .put-decimal2 .result) 10 l e (c .before .before .before .before .before .before .put-decimal2 .ensures .0) (c .before .before .before .before .before .before .put-decimal2 .ensures .1) (c .before .before .put-byte2 .ensures .1) in refused-returns (c .before .before .before .before .before .before .before .before .before .before .before .before .before .before .before .before .before .before .before .before .before .before .args .out .now) (c .before .before .before .before .before .before .before .before .before .before .before .before .before .before .before .before .before .before .before .before .before .before .args .n) (c .before .before .before .before .before .before .before .before .before .before .before .before .before .before .before .before .before .before .before .before .before .before .args .at) (c .before .before .put-byte2 .last .0) (c .before .before .before .before .before .before .before .before .before .before .put-byte .result) (c .before .before .before .before .before .before .put-decimal2 .result) (c .before .before .put-byte2 .result) l (c .before .before .before .before .before .before .put-decimal2 .ensures .0) (c .before .before .put-byte2 .ensures .0) f (omega (arith, c .before .before .put-byte2 .ensures .0, c .before .before .before .before .before .before .before .before .before .before .put-byte .ensures .0, c .before .before .before .before .before .before .before .before .before .before .before .before .before .before .before .before .before .before .put .ensures .0, c .before .before .before .before .before .before .before .before .before .before .before .before .before .before .put-decimal .ensures .2, c .before .before .before .before .before .before .put-decimal2 .ensures .2))))
+    -- by search: slice-aggregate-put 51:30, put-requires 51:9, sub-put-decimal 52:25,
+    -- part-put-decimal-start 52:25, part-put-decimal-end 52:25, put-decimal-requires 52:9, add-put-byte 53:35,
+    -- put-byte-requires 53:9, sub-put-decimal-2 54:25, part-put-decimal-start-2 54:25,
+    -- part-put-decimal-end-2 54:25, put-decimal-requires-2 54:9, add-put-byte-2 55:27, put-byte-requires-2 55:5,
+    -- same-length 47:1
+    (λ c. search needs) (λ c κs. search needs) (λ c. search needs) (λ c. search needs) (λ c. search needs)
+    (λ c κs. search needs) (λ c. search needs) (λ c κs. search needs) (λ c. search needs) (λ c. search needs)
+    (λ c. search needs) (λ c κs. search needs) (λ c. search needs) (λ c κs. search needs) (λ c. search needs)
+    returns)

@@ -10,12 +10,26 @@ use borrow.Author.Needs.{needs}
 use Rattle.lines.proofs.put_table.Statement.{statement}
 use Rattle.lines.proofs.put_table.Tie as tie
 
+-- src/lib.rt:96:1
+returns : tie.Need-returns
+unfolding table-line hex
+returns c =
+    let after-put-hex = c .before .before .before .before .before .before in
+    let args = after-put-hex .before .before .before .before .args in
+    let t = args .t .now in
+    let put-hex = after-put-hex .put-hex in
+    let put-byte = c .before .before .put-byte in (
+      omega (arith, put-byte .ensures .0, put-hex .ensures .0, length-append (hex t) (10 ∷ [])),
+      put-byte .ensures .1
+          ∙ over-lead (args .out .now) (hex t) (10 ∷ []) (put-hex .last .0) (put-hex .result) (put-hex .ensures .1)
+          (put-hex .ensures .0),
+    )
+
 pub put-table-spec : {M : Type 1} → statement M
 unfolding table-line hex
 put-table-spec =
     tie.close
     (tie.spec
-    (λ c κs. search needs)
-    (λ c κs. search needs)
-    (λ c. search needs)
-    (λ c. (omega (arith, c .before .before .put-byte .ensures .0, c .before .before .before .before .before .before .put-hex .ensures .0, length-append (hex (c .before .before .before .before .before .before .before .before .before .before .args .t .now)) (10 ∷ [])), c .before .before .put-byte .ensures .1 ∙ over-lead (c .before .before .before .before .before .before .before .before .before .before .args .out .now) (hex (c .before .before .before .before .before .before .before .before .before .before .args .t .now)) (10 ∷ []) (c .before .before .before .before .before .before .put-hex .last .0) (c .before .before .before .before .before .before .put-hex .result) (c .before .before .before .before .before .before .put-hex .ensures .1) (c .before .before .before .before .before .before .put-hex .ensures .0))))
+    -- by search: put-hex-requires 100:9, put-byte-requires 101:5, same-length 96:1
+    (λ c κs. search needs) (λ c κs. search needs) (λ c. search needs)
+    returns)

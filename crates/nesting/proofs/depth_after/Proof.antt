@@ -3,12 +3,26 @@ use borrow.Author.Needs.{needs}
 use Rattle.nesting.proofs.depth_after.Statement.{statement}
 use Rattle.nesting.proofs.depth_after.Tie as tie
 
+-- src/lib.rt:52:13
+returns : tie.Need-returns
+returns c = simp (eq-eqb _ _ (c .before .if1 .taken), eq-eqb _ _ (c .if2 .taken))
+
+-- src/lib.rt:54:9
+returns-2 : tie.Need-returns-2
+returns-2 c = simp (eq-eqb _ _ (c .before .if1 .taken), ne-eqb _ _ (c .if2 .left))
+
+-- src/lib.rt:46:1
+returns-3 : tie.Need-returns-3
+returns-3 c = simp (ne-eqb _ _ (c .if1 .left))
+
 pub depth-after-spec : {M : Type 1} → statement M
 depth-after-spec =
     tie.close
     (tie.spec
+    -- by search: add-result 52:20
     (λ c. search needs)
-    (λ c. simp (eq-eqb _ _ (c .before .if1 .taken), eq-eqb _ _ (c .if2 .taken)))
+    returns
+    -- by search: sub-result 54:16
     (λ c. search needs)
-    (λ c. simp (eq-eqb _ _ (c .before .if1 .taken), ne-eqb _ _ (c .if2 .left)))
-    (λ c. simp (ne-eqb _ _ (c .if1 .left))))
+    returns-2
+    returns-3)

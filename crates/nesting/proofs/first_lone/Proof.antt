@@ -15,10 +15,68 @@ use Rattle.nesting.proofs.first_lone.Statement.{statement}
 use Rattle.nesting.proofs.first_lone.Tie as tie
 
 abbrev Inv-loop : tie.InvT-loop
-Inv-loop t os keys stack₀ best₀ i₀ stack best i = (i ≤ length os) × (length stack ≡ 1024) × (first-of 7 (gather (blamed lone-P []) (placed-contents (located (unit t .parts)))) ≡ toward 7 best (lone-left t os i))
+Inv-loop t os keys stack₀ best₀ i₀ stack best i =
+    (i ≤ length os)
+    × (length stack ≡ 1024)
+    × (first-of 7 (gather (blamed lone-P []) (placed-contents (located (unit t .parts))))
+    ≡ toward 7 best (lone-left t os i))
 
 abbrev μ-loop : tie.MeasureT-loop
 μ-loop t os keys stack₀ best₀ i₀ stack best i = length os - i
+
+-- src/lib.rt:113:5
+loop-holds : tie.Need-loop-holds Inv-loop μ-loop
+loop-holds c =
+    let start = c .before .before .before in
+    let pre = start .pre in
+    (omega arith, refl, lone-start (start .args .t .now) (start .args .os .now) (pre .0) (pre .1))
+
+-- src/lib.rt:114:37
+slice-aggregate-is-lone : tie.Need-slice-aggregate-is-lone Inv-loop μ-loop
+slice-aggregate-is-lone c = sym (c .before .before .loop .inv .1)
+
+-- src/lib.rt:114:13
+is-lone-requires : tie.Need-is-lone-requires Inv-loop μ-loop
+is-lone-requires c κs =
+    let start = c .before .before .before .before .before .before in
+    let args = start .args in
+    let t = args .t .now in
+    let os = args .os .now in
+    let keys = args .keys .now in
+    let pre = start .pre in (
+      omega (arith, c .before .loop-test .taken, as-many t os keys (pre .2)),
+      omega (arith, as-many t os keys (pre .2), pre .3),
+      c .before .before .loop .inv .1,
+    )
+
+-- src/lib.rt:113:5
+loop-again : tie.Need-loop-again Inv-loop μ-loop
+loop-again c =
+    let after-loop-test = c .before .before .before .before .before .before in
+    let start = after-loop-test .before .before .before .before .before in
+    let args = start .args in
+    let t = args .t .now in
+    let os = args .os .now in
+    let loop = after-loop-test .before .loop in
+    let loop-test = after-loop-test .loop-test in
+    let is-lone = c .before .before .before .before .is-lone in
+    let wide = c .before .wide in (
+      omega (arith, loop-test .taken),
+      is-lone .ensures .1,
+      loop .inv .2
+          ∙ lone-on t os (args .keys .now) (start .pre .2) (loop .i) (loop .best) (is-lone .result) (wide .result)
+          (loop-test .taken) (is-lone .ensures .0) (wide .ensures .0)
+          ∙ ap (λ (p : Place). toward 7 p (lone-left t os (loop .i + 1))) (sym (c .lower-if .ensures)),
+    )
+
+-- src/lib.rt:106:1
+returns : tie.Need-returns Inv-loop μ-loop
+returns c =
+    let start = c .before .before .before .before .before in
+    let args = start .args in
+    let loop = c .before .loop in
+    lone-end (args .t .now) (args .os .now) (args .keys .now) (start .pre .2) (loop .i) (loop .best)
+    (c .loop-test .left) (loop .inv .2)
 
 pub first-lone-spec : {M : Type 1} → statement M
 first-lone-spec =
@@ -26,14 +84,12 @@ first-lone-spec =
     (tie.spec
     Inv-loop
     μ-loop
-    (λ c. (omega arith, refl, lone-start (c .before .before .before .args .t .now) (c .before .before .before .args .os .now) (c .before .before .before .pre .0) (c .before .before .before .pre .1)))
-    (λ c. sym (c .before .before .loop .inv .1))
-    (λ c κs. (omega (arith, (c .before .loop-test .taken), as-many (c .before .before .before .before .before .before .args .t .now) (c .before .before .before .before .before .before .args .os .now) (c .before .before .before .before .before .before .args .keys .now) (c .before .before .before .before .before .before .pre .2)), omega (arith, as-many (c .before .before .before .before .before .before .args .t .now) (c .before .before .before .before .before .before .args .os .now) (c .before .before .before .before .before .before .args .keys .now) (c .before .before .before .before .before .before .pre .2), c .before .before .before .before .before .before .pre .3), c .before .before .loop .inv .1))
+    loop-holds
+    slice-aggregate-is-lone
+    is-lone-requires
+    -- by search: mul-wide 115:58, shared-slice-read-wide 115:58, wide-requires 115:46, lower-if-requires 115:9,
+    -- add-i 116:9, loop-less 113:5
+    (λ c. search needs) (λ c. search needs) (λ c κs. search needs) (λ c κs. search needs) (λ c. search needs)
     (λ c. search needs)
-    (λ c. search needs)
-    (λ c κs. search needs)
-    (λ c κs. search needs)
-    (λ c. search needs)
-    (λ c. search needs)
-    (λ c. (omega (arith, (c .before .before .before .before .before .before .loop-test .taken)), c .before .before .before .before .is-lone .ensures .1, c .before .before .before .before .before .before .before .loop .inv .2 ∙ lone-on (c .before .before .before .before .before .before .before .before .before .before .before .args .t .now) (c .before .before .before .before .before .before .before .before .before .before .before .args .os .now) (c .before .before .before .before .before .before .before .before .before .before .before .args .keys .now) (c .before .before .before .before .before .before .before .before .before .before .before .pre .2) (c .before .before .before .before .before .before .before .loop .i) (c .before .before .before .before .before .before .before .loop .best) (c .before .before .before .before .is-lone .result) (c .before .wide .result) (c .before .before .before .before .before .before .loop-test .taken) (c .before .before .before .before .is-lone .ensures .0) (c .before .wide .ensures .0) ∙ ap (λ (p : Place). toward 7 p (lone-left (c .before .before .before .before .before .before .before .before .before .before .before .args .t .now) (c .before .before .before .before .before .before .before .before .before .before .before .args .os .now) (c .before .before .before .before .before .before .before .loop .i + 1))) (sym (c .lower-if .ensures))))
-    (λ c. lone-end (c .before .before .before .before .before .args .t .now) (c .before .before .before .before .before .args .os .now) (c .before .before .before .before .before .args .keys .now) (c .before .before .before .before .before .pre .2) (c .before .loop .i) (c .before .loop .best) (c .loop-test .left) (c .before .loop .inv .2)))
+    loop-again
+    returns)

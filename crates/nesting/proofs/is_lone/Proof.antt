@@ -9,14 +9,40 @@ use borrow.Author.Needs.{needs}
 use Rattle.nesting.proofs.is_lone.Statement.{statement}
 use Rattle.nesting.proofs.is_lone.Tie as tie
 
+-- src/lib.rt:99:9
+returns : tie.Need-returns
+returns c =
+    let start = c .before .before .before .before .before in
+    let args = start .args in
+    let i = args .i in
+    let keys = args .keys .now in (
+      lone-not (run (reverse (take i keys))) (getD keys i 0) (run (drop (i + 1) keys))
+          (sym (c .before .is-half-p .ensures) ∙ not-true _ (c .if1 .taken)),
+      start .pre .2,
+    )
+
+-- src/lib.rt:93:1
+returns-2 : tie.Need-returns-2
+returns-2 c =
+    let after-is-half-p = c .before .before .before .before .before in
+    let args = after-is-half-p .before .before .before .before .args in
+    let keys = args .keys .now in
+    let i = args .i in
+    let is-half-p = after-is-half-p .is-half-p in
+    let if1 = c .before .before .before .before .if1 in
+    let is-met = c .before .before .is-met in (
+      lone-scan keys i (getD keys i 0) (is-met .result) (sym (is-half-p .ensures) ∙ not-false _ (if1 .left))
+          (is-met .ensures .0),
+      is-met .ensures .1,
+    )
+
 pub is-lone-spec : {M : Type 1} → statement M
 is-lone-spec =
     tie.close
     (tie.spec
-    (λ c. search needs)
-    (λ c. search needs)
-    (λ c κs. search needs)
-    (λ c. (lone-not (run (reverse (take (c .before .before .before .before .before .args .i) (c .before .before .before .before .before .args .keys .now)))) (getD (c .before .before .before .before .before .args .keys .now) (c .before .before .before .before .before .args .i) 0) (run (drop (c .before .before .before .before .before .args .i + 1) (c .before .before .before .before .before .args .keys .now))) (sym (c .before .is-half-p .ensures) ∙ not-true _ (c .if1 .taken)), c .before .before .before .before .before .pre .2))
-    (λ c κs. search needs)
-    (λ c. search needs)
-    (λ c. (lone-scan (c .before .before .before .before .before .before .before .before .before .args .keys .now) (c .before .before .before .before .before .before .before .before .before .args .i) (getD (c .before .before .before .before .before .before .before .before .before .args .keys .now) (c .before .before .before .before .before .before .before .before .before .args .i) 0) (c .before .before .is-met .result) (sym (c .before .before .before .before .before .is-half-p .ensures) ∙ not-false _ (c .before .before .before .before .if1 .left)) (c .before .before .is-met .ensures .0), c .before .before .is-met .ensures .1)))
+    -- by search: mul-k 97:13, shared-slice-read-k 97:13, is-half-p-requires 98:9
+    (λ c. search needs) (λ c. search needs) (λ c κs. search needs)
+    returns
+    -- by search: is-met-requires 101:6, same-length 93:1
+    (λ c κs. search needs) (λ c. search needs)
+    returns-2)

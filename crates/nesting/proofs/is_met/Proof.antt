@@ -13,31 +13,178 @@ Inv-loop keys back i stack₀ n depth₀ j₀ stack depth j = Scan keys back i s
 abbrev μ-loop : tie.MeasureT-loop
 μ-loop keys back i stack₀ n depth₀ j₀ stack depth j = n - j
 
+-- src/lib.rt:69:5
+loop-holds : tie.Need-loop-holds Inv-loop μ-loop
+loop-holds c =
+    let start = c .before .before .before .before in
+    let args = start .args in
+    scan-start (args .keys .now) (args .back) (args .i) (args .stack .now) (start .pre .2)
+
+-- src/lib.rt:70:13
+key-away-requires : tie.Need-key-away-requires Inv-loop μ-loop
+key-away-requires c κs =
+    let pre = c .before .before .before .before .before .before .pre in
+    (pre .0, omega (arith, c .loop-test .taken, c .before .before .steps-away .ensures))
+
+-- src/lib.rt:71:23
+sub-x : tie.Need-sub-x Inv-loop μ-loop
+sub-x c = omega (arith, c .before .before .loop .inv .some-open)
+
+-- src/lib.rt:71:17
+mul-x : tie.Need-mul-x Inv-loop μ-loop
+mul-x c =
+    let pre = c .before .before .before .before .before .before .before .pre in
+    let steps-away = c .before .before .before .steps-away in
+    let loop = c .before .before .loop in
+    let inv = loop .inv in
+    omega (
+      arith,
+      inv .some-open,
+      inv .sized,
+      scan-room inv (pre .0) (pre .1) (omega (arith, c .before .loop-test .taken, steps-away .ensures)),
+    )
+
+-- src/lib.rt:71:17
+slice-read-x : tie.Need-slice-read-x Inv-loop μ-loop
+slice-read-x c =
+    let pre = c .before .before .before .before .before .before .before .before .pre in
+    let steps-away = c .before .before .before .before .steps-away in
+    let loop = c .before .before .before .loop in
+    omega (
+      arith,
+      loop .inv .some-open,
+      scan-room (loop .inv) (pre .0) (pre .1)
+          (omega (arith, c .before .before .loop-test .taken, steps-away .ensures)),
+    )
+
+-- src/lib.rt:73:13
+returns : tie.Need-returns Inv-loop μ-loop
+returns c =
+    let after-loop = c .before .before .before .before .before in
+    let pre = after-loop .before .before .before .before .before .pre in
+    let steps-away = after-loop .before .steps-away in
+    let loop = after-loop .loop in
+    let loop-test = c .before .before .before .before .loop-test in
+    let key-away = c .before .before .before .key-away in (
+      scan-none (loop .inv) (pre .0) (pre .1) (omega (arith, loop-test .taken, steps-away .ensures))
+          (key-away .ensures) (sym (c .before .is-apart .ensures) ∙ c .if1 .taken),
+      loop .inv .sized,
+    )
+
+-- src/lib.rt:75:9
+mul-stack-2 : tie.Need-mul-stack-2 Inv-loop μ-loop
+mul-stack-2 c =
+    let after-loop = c .before .before .before .before .before in
+    let pre = after-loop .before .before .before .before .before .pre in
+    let steps-away = after-loop .before .steps-away in
+    let loop = after-loop .loop in
+    let loop-test = c .before .before .before .before .loop-test in
+    omega (
+      arith,
+      loop .inv .sized,
+      scan-room (loop .inv) (pre .0) (pre .1) (omega (arith, loop-test .taken, steps-away .ensures)),
+    )
+
+-- src/lib.rt:75:9
+slice-write-stack-2 : tie.Need-slice-write-stack-2 Inv-loop μ-loop
+slice-write-stack-2 c =
+    let after-loop = c .before .before .before .before .before in
+    let pre = after-loop .before .before .before .before .before .pre in
+    let steps-away = after-loop .before .steps-away in
+    let loop = after-loop .loop in
+    let loop-test = c .before .before .before .before .loop-test in
+    scan-room (loop .inv) (pre .0) (pre .1) (omega (arith, loop-test .taken, steps-away .ensures))
+
+-- src/lib.rt:76:9
+depth-after-requires : tie.Need-depth-after-requires Inv-loop μ-loop
+depth-after-requires c κs =
+    let after-loop = c .before .before .before .before .before in
+    let pre = after-loop .before .before .before .before .before .pre in
+    let steps-away = after-loop .before .steps-away in
+    let loop = after-loop .loop in
+    let inv = loop .inv in
+    let loop-test = c .before .before .before .before .loop-test in (
+      inv .some-open,
+      omega (
+        arith,
+        inv .sized,
+        scan-room inv (pre .0) (pre .1) (omega (arith, loop-test .taken, steps-away .ensures)),
+      ),
+    )
+
+-- src/lib.rt:78:13
+same-length-2 : tie.Need-same-length-2 Inv-loop μ-loop
+same-length-2 c =
+    let after-key-away = c .before .before .before .before .before in
+    let pre = after-key-away .before .before .before .before .before .before .before .pre in
+    let loop = after-key-away .before .before .loop in
+    let key-away = after-key-away .key-away in
+    length-set (loop .stack) (loop .depth) (key-away .result) ∙ loop .inv .sized ∙ sym (pre .2)
+
+-- src/lib.rt:78:13
+returns-2 : tie.Need-returns-2 Inv-loop μ-loop
+returns-2 c =
+    let after-key-away = c .before .before .before .before .before in
+    let pre = after-key-away .before .before .before .before .before .before .before .pre in
+    let steps-away = after-key-away .before .before .before .steps-away in
+    let loop = after-key-away .before .before .loop in
+    let loop-test = after-key-away .before .loop-test in
+    let key-away = after-key-away .key-away in
+    let is-apart = c .before .before .before .is-apart in (
+      scan-met (loop .inv) (pre .0) (pre .1) (omega (arith, loop-test .taken, steps-away .ensures))
+          (key-away .ensures) (sym (is-apart .ensures) ∙ c .before .before .if1 .left)
+          (c .before .depth-after .ensures) (c .if2 .taken),
+      simp length-set (loop .inv .sized),
+    )
+
+-- src/lib.rt:69:5
+loop-again : tie.Need-loop-again Inv-loop μ-loop
+loop-again c =
+    let after-key-away = c .before .before .before .before .before in
+    let pre = after-key-away .before .before .before .before .before .before .before .pre in
+    let steps-away = after-key-away .before .before .before .steps-away in
+    let loop = after-key-away .before .before .loop in
+    let loop-test = after-key-away .before .loop-test in
+    let key-away = after-key-away .key-away in
+    let is-apart = c .before .before .before .is-apart in
+    scan-further (loop .inv) (pre .0) (pre .1) (omega (arith, loop-test .taken, steps-away .ensures))
+    (key-away .ensures) (sym (is-apart .ensures) ∙ c .before .before .if1 .left) (c .before .depth-after .ensures)
+    (c .if2 .left)
+
+-- src/lib.rt:61:1
+returns-3 : tie.Need-returns-3 Inv-loop μ-loop
+returns-3 c =
+    let pre = c .before .before .before .before .before .before .pre in
+    let loop = c .before .loop in (
+      scan-stop (loop .inv) (pre .0) (pre .1)
+          (omega (arith, c .loop-test .left, c .before .before .steps-away .ensures)),
+      loop .inv .sized,
+    )
+
 pub is-met-spec : {M : Type 1} → statement M
 is-met-spec =
     tie.close
     (tie.spec
     Inv-loop
     μ-loop
+    -- by search: mul-stack 65:16, shared-slice-read-stack 65:16, slice-write-stack 65:5, steps-away-requires 66:9
+    (λ c. search needs) (λ c. search needs) (λ c. search needs) (λ c κs. search needs)
+    loop-holds
+    key-away-requires
+    sub-x
+    mul-x
+    slice-read-x
+    -- by search: is-apart-requires 72:12, same-length 73:13
+    (λ c κs. search needs) (λ c. search needs)
+    returns
+    mul-stack-2
+    slice-write-stack-2
+    depth-after-requires
+    same-length-2
+    returns-2
+    -- by search: add-j 80:9, loop-less 69:5
+    (λ c. search needs) (λ c. search needs)
+    loop-again
+    -- by search: same-length-3 61:1
     (λ c. search needs)
-    (λ c. search needs)
-    (λ c. search needs)
-    (λ c κs. search needs)
-    (λ c. scan-start (c .before .before .before .before .args .keys .now) (c .before .before .before .before .args .back) (c .before .before .before .before .args .i) (c .before .before .before .before .args .stack .now) (c .before .before .before .before .pre .2))
-    (λ c κs. (c .before .before .before .before .before .before .pre .0, (omega (arith, (c .loop-test .taken), c .before .before .steps-away .ensures))))
-    (λ c. omega (arith, c .before .before .loop .inv .some-open))
-    (λ c. omega (arith, c .before .before .loop .inv .some-open, c .before .before .loop .inv .sized, scan-room (c .before .before .loop .inv) (c .before .before .before .before .before .before .before .pre .0) (c .before .before .before .before .before .before .before .pre .1) (omega (arith, (c .before .loop-test .taken), c .before .before .before .steps-away .ensures))))
-    (λ c. omega (arith, c .before .before .before .loop .inv .some-open, scan-room (c .before .before .before .loop .inv) (c .before .before .before .before .before .before .before .before .pre .0) (c .before .before .before .before .before .before .before .before .pre .1) (omega (arith, (c .before .before .loop-test .taken), c .before .before .before .before .steps-away .ensures))))
-    (λ c κs. search needs)
-    (λ c. search needs)
-    (λ c. (scan-none (c .before .before .before .before .before .loop .inv) (c .before .before .before .before .before .before .before .before .before .before .pre .0) (c .before .before .before .before .before .before .before .before .before .before .pre .1) (omega (arith, (c .before .before .before .before .loop-test .taken), c .before .before .before .before .before .before .steps-away .ensures)) (c .before .before .before .key-away .ensures) (sym (c .before .is-apart .ensures) ∙ (c .if1 .taken)), c .before .before .before .before .before .loop .inv .sized))
-    (λ c. omega (arith, c .before .before .before .before .before .loop .inv .sized, scan-room (c .before .before .before .before .before .loop .inv) (c .before .before .before .before .before .before .before .before .before .before .pre .0) (c .before .before .before .before .before .before .before .before .before .before .pre .1) (omega (arith, (c .before .before .before .before .loop-test .taken), c .before .before .before .before .before .before .steps-away .ensures))))
-    (λ c. scan-room (c .before .before .before .before .before .loop .inv) (c .before .before .before .before .before .before .before .before .before .before .pre .0) (c .before .before .before .before .before .before .before .before .before .before .pre .1) (omega (arith, (c .before .before .before .before .loop-test .taken), c .before .before .before .before .before .before .steps-away .ensures)))
-    (λ c κs. (c .before .before .before .before .before .loop .inv .some-open, omega (arith, c .before .before .before .before .before .loop .inv .sized, scan-room (c .before .before .before .before .before .loop .inv) (c .before .before .before .before .before .before .before .before .before .before .pre .0) (c .before .before .before .before .before .before .before .before .before .before .pre .1) (omega (arith, (c .before .before .before .before .loop-test .taken), c .before .before .before .before .before .before .steps-away .ensures)))))
-    (λ c. length-set (c .before .before .before .before .before .before .before .loop .stack) (c .before .before .before .before .before .before .before .loop .depth) (c .before .before .before .before .before .key-away .result) ∙ c .before .before .before .before .before .before .before .loop .inv .sized ∙ sym (c .before .before .before .before .before .before .before .before .before .before .before .before .pre .2))
-    (λ c. (scan-met (c .before .before .before .before .before .before .before .loop .inv) (c .before .before .before .before .before .before .before .before .before .before .before .before .pre .0) (c .before .before .before .before .before .before .before .before .before .before .before .before .pre .1) (omega (arith, (c .before .before .before .before .before .before .loop-test .taken), c .before .before .before .before .before .before .before .before .steps-away .ensures)) (c .before .before .before .before .before .key-away .ensures) (sym (c .before .before .before .is-apart .ensures) ∙ (c .before .before .if1 .left)) (c .before .depth-after .ensures) (c .if2 .taken), simp length-set (c .before .before .before .before .before .before .before .loop .inv .sized)))
-    (λ c. search needs)
-    (λ c. search needs)
-    (λ c. scan-further (c .before .before .before .before .before .before .before .loop .inv) (c .before .before .before .before .before .before .before .before .before .before .before .before .pre .0) (c .before .before .before .before .before .before .before .before .before .before .before .before .pre .1) (omega (arith, (c .before .before .before .before .before .before .loop-test .taken), c .before .before .before .before .before .before .before .before .steps-away .ensures)) (c .before .before .before .before .before .key-away .ensures) (sym (c .before .before .before .is-apart .ensures) ∙ (c .before .before .if1 .left)) (c .before .depth-after .ensures) (c .if2 .left))
-    (λ c. search needs)
-    (λ c. (scan-stop (c .before .loop .inv) (c .before .before .before .before .before .before .pre .0) (c .before .before .before .before .before .before .pre .1) (omega (arith, (c .loop-test .left), c .before .before .steps-away .ensures)), c .before .loop .inv .sized)))
+    returns-3)

@@ -5,17 +5,60 @@ use borrow.Author.Needs.{needs}
 use Rattle.nesting.proofs.key_away.Statement.{statement}
 use Rattle.nesting.proofs.key_away.Tie as tie
 
+-- src/lib.rt:33:26
+add-result : tie.Need-add-result
+add-result c =
+    let h : c .before .args .j < c .before .args .i = rw (c .if1 .taken) at (c .before .pre .1) in
+    omega arith
+
+-- src/lib.rt:33:21
+sub-result : tie.Need-sub-result
+sub-result c =
+    let h : c .before .args .j < c .before .args .i = rw (c .if1 .taken) at (c .before .pre .1) in
+    omega arith
+
+-- src/lib.rt:33:9
+returns : tie.Need-returns
+returns c = simp (c .before .if1 .taken)
+
+-- src/lib.rt:35:10
+add-result-3 : tie.Need-add-result-3
+add-result-3 c =
+    let args = c .before .args in
+    let h : args .j < length (args .keys .now) - (args .i + 1) = rw (c .if1 .left) at (c .before .pre .1) in
+    omega arith
+
+-- src/lib.rt:35:5
+mul-result-2 : tie.Need-mul-result-2
+mul-result-2 c =
+    let args = c .before .args in
+    let h : args .j < length (args .keys .now) - (args .i + 1) = rw (c .if1 .left) at (c .before .pre .1) in
+    omega arith
+
+-- src/lib.rt:35:5
+shared-slice-read-result-2 : tie.Need-shared-slice-read-result-2
+shared-slice-read-result-2 c =
+    let args = c .before .before .args in
+    let h : args .j < length (args .keys .now) - (args .i + 1) =
+    rw (c .before .if1 .left) at (c .before .before .pre .1) in
+    omega arith
+
+-- src/lib.rt:28:1
+returns-2 : tie.Need-returns-2
+returns-2 c = simp (c .before .if1 .left)
+
 pub key-away-spec : {M : Type 1} → statement M
 key-away-spec =
     tie.close
     (tie.spec
-    (λ c. (let h : c .before .args .j < c .before .args .i = rw (c .if1 .taken) at (c .before .pre .1) in omega arith))
-    (λ c. (let h : c .before .args .j < c .before .args .i = rw (c .if1 .taken) at (c .before .pre .1) in omega arith))
+    add-result
+    sub-result
+    -- by search: mul-result 33:16, shared-slice-read-result 33:16
+    (λ c. search needs) (λ c. search needs)
+    returns
+    -- by search: add-result-2 35:10
     (λ c. search needs)
-    (λ c. search needs)
-    (λ c. simp (c .before .if1 .taken))
-    (λ c. search needs)
-    (λ c. (let h : c .before .args .j < length (c .before .args .keys .now) - (c .before .args .i + 1) = rw (c .if1 .left) at (c .before .pre .1) in omega arith))
-    (λ c. (let h : c .before .args .j < length (c .before .args .keys .now) - (c .before .args .i + 1) = rw (c .if1 .left) at (c .before .pre .1) in omega arith))
-    (λ c. (let h : c .before .before .args .j < length (c .before .before .args .keys .now) - (c .before .before .args .i + 1) = rw (c .before .if1 .left) at (c .before .before .pre .1) in omega arith))
-    (λ c. simp (c .before .if1 .left)))
+    add-result-3
+    mul-result-2
+    shared-slice-read-result-2
+    returns-2)

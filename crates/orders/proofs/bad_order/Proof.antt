@@ -4,10 +4,19 @@ use borrow.Author.Needs.{needs}
 use Rattle.orders.proofs.bad_order.Statement.{statement}
 use Rattle.orders.proofs.bad_order.Tie as tie
 
+-- src/lib.rt:57:9
+returns : tie.Need-returns
+returns c = simp (lt-ltb _ _ (c .if1 .taken), or-true)
+
+-- src/lib.rt:52:1
+returns-2 : tie.Need-returns-2
+returns-2 c = simp (le-ltb _ _ (c .before .if1 .left))
+
 pub bad-order-spec : {M : Type 1} → statement M
 bad-order-spec =
     tie.close
     (tie.spec
-    (λ c. simp (lt-ltb _ _ (c .if1 .taken), or-true))
+    returns
+    -- by search: element-copy-out-result 59:17
     (λ c. search needs)
-    (λ c. simp (le-ltb _ _ (c .before .if1 .left))))
+    returns-2)

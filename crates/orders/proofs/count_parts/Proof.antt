@@ -1,6 +1,7 @@
+use Rattle.xliff.specs.Good.{part-heads}
 use Rattle.orders.proofs.WalkLaws.{walked, parts-walked, parts-end}
-use Rattle.places.proofs.Places.{At, at-start}
-use Rattle.xliff.proofs.unit.Valid.{part-heads}
+use Rattle.places.specs.Offsets.{At}
+use Rattle.places.proofs.Places.{at-start}
 use Rattle.xliff.specs.Encode.{Record, unit-records}
 use Rattle.xliff.specs.Parse.{unit}
 use lib.ListN.{length}
@@ -18,16 +19,77 @@ Inv-loop t at₀ n₀ at n = (rs : List Record) × At t at rs × (n + part-heads
 abbrev μ-loop : tie.MeasureT-loop
 μ-loop t at₀ n₀ at n = length t - at
 
+-- src/lib.rt:29:5
+loop-holds : tie.Need-loop-holds Inv-loop μ-loop
+loop-holds c =
+    let t = c .before .args .t .now in
+    (unit-records (unit t), at-start t (c .before .pre), omega arith)
+
+-- src/lib.rt:31:9
+plus-if-requires : tie.Need-plus-if-requires Inv-loop μ-loop
+plus-if-requires c κs =
+    let pre = c .before .before .before .before .before .pre in
+    let loop = c .before .before .before .loop in
+    omega (arith, loop .inv .2, pre .few-parts)
+
+-- src/lib.rt:32:9
+add-at : tie.Need-add-at Inv-loop μ-loop
+add-at c =
+    let after-loop = c .before .before .before .before .before in
+    let t = after-loop .before .before .args .t .now in
+    let loop = after-loop .loop in
+    let loop-test = c .before .before .before .before .loop-test in
+    let glance-at = c .before .before .before .glance-at in
+    let v = walked t (loop .at) (loop .inv .0) (glance-at .result) (loop .inv .1) (loop-test .taken)
+    (glance-at .ensures) in
+    omega (arith, v .fits)
+
+-- src/lib.rt:29:5
+loop-less : tie.Need-loop-less Inv-loop μ-loop
+loop-less c =
+    let after-loop = c .before .before .before .before .before in
+    let t = after-loop .before .before .args .t .now in
+    let loop = after-loop .loop in
+    let loop-test = c .before .before .before .before .loop-test in
+    let glance-at = c .before .before .before .glance-at in
+    let v = walked t (loop .at) (loop .inv .0) (glance-at .result) (loop .inv .1) (loop-test .taken)
+    (glance-at .ensures) in
+    omega (arith, v .fits, v .moves)
+
+-- src/lib.rt:29:5
+loop-again : tie.Need-loop-again Inv-loop μ-loop
+loop-again c =
+    let after-loop = c .before .before .before .before .before in
+    let t = after-loop .before .before .args .t .now in
+    let loop = after-loop .loop in
+    let inv = loop .inv in
+    let loop-test = c .before .before .before .before .loop-test in
+    let glance-at = c .before .before .before .glance-at in
+    let v = walked t (loop .at) (inv .0) (glance-at .result) (inv .1) (loop-test .taken) (glance-at .ensures) in (
+      v .step .others,
+      v .rest,
+      omega (arith, inv .2, parts-walked t (loop .at) (inv .0) (glance-at .result) v, c .before .plus-if .ensures),
+    )
+
+-- src/lib.rt:23:1
+returns : tie.Need-returns Inv-loop μ-loop
+returns c =
+    let t = c .before .before .before .args .t .now in
+    let loop = c .before .loop in
+    let inv = loop .inv in
+    parts-end t (loop .at) (loop .n) (inv .0) (inv .1) (c .loop-test .left) (inv .2)
+
 pub count-parts-spec : {M : Type 1} → statement M
 count-parts-spec =
     tie.close
     (tie.spec
     Inv-loop
     μ-loop
-    (λ c. (unit-records (unit (c .before .args .t .now)), at-start (c .before .args .t .now) ((c .before .pre)), omega arith))
+    loop-holds
+    -- by search: glance-at-requires 30:13
     (λ c κs. search needs)
-    (λ c κs. omega (arith, c .before .before .before .loop .inv .2, c .before .before .before .before .before .pre .few-parts))
-    (λ c. let v = walked (c .before .before .before .before .before .before .before .args .t .now) (c .before .before .before .before .before .loop .at) (c .before .before .before .before .before .loop .inv .0) (c .before .before .before .glance-at .result) (c .before .before .before .before .before .loop .inv .1) (c .before .before .before .before .loop-test .taken) (c .before .before .before .glance-at .ensures) in omega (arith, v .fits))
-    (λ c. let v = walked (c .before .before .before .before .before .before .before .args .t .now) (c .before .before .before .before .before .loop .at) (c .before .before .before .before .before .loop .inv .0) (c .before .before .before .glance-at .result) (c .before .before .before .before .before .loop .inv .1) (c .before .before .before .before .loop-test .taken) (c .before .before .before .glance-at .ensures) in omega (arith, v .fits, v .moves))
-    (λ c. let v = walked (c .before .before .before .before .before .before .before .args .t .now) (c .before .before .before .before .before .loop .at) (c .before .before .before .before .before .loop .inv .0) (c .before .before .before .glance-at .result) (c .before .before .before .before .before .loop .inv .1) (c .before .before .before .before .loop-test .taken) (c .before .before .before .glance-at .ensures) in (v .step .others, v .rest, omega (arith, c .before .before .before .before .before .loop .inv .2, parts-walked (c .before .before .before .before .before .before .before .args .t .now) (c .before .before .before .before .before .loop .at) (c .before .before .before .before .before .loop .inv .0) (c .before .before .before .glance-at .result) v, c .before .plus-if .ensures)))
-    (λ c. parts-end (c .before .before .before .args .t .now) (c .before .loop .at) (c .before .loop .n) (c .before .loop .inv .0) (c .before .loop .inv .1) (c .loop-test .left) (c .before .loop .inv .2)))
+    plus-if-requires
+    add-at
+    loop-less
+    loop-again
+    returns)

@@ -17,10 +17,59 @@ use Rattle.overlap.proofs.all_open.Statement.{statement}
 use Rattle.overlap.proofs.all_open.Tie as tie
 
 abbrev Inv-loop : tie.InvT-loop
-Inv-loop t os keys i₀ i = (i ≤ length os) × ((p : Place) → toward 9 p (blamed bad-9 [] (placed-at t os)) ≡ toward 9 p (blamed bad-9 (earlier (marker-at t os) i) (placed-at t (drop i os))))
+Inv-loop t os keys i₀ i =
+    (i ≤ length os)
+    × ((p : Place)
+    → toward 9 p (blamed bad-9 [] (placed-at t os))
+    ≡ toward 9 p (blamed bad-9 (earlier (marker-at t os) i) (placed-at t (drop i os))))
 
 abbrev μ-loop : tie.MeasureT-loop
 μ-loop t os keys i₀ i = length os - i
+
+-- src/lib.rt:173:5
+loop-holds : tie.Need-loop-holds Inv-loop μ-loop
+unfolding earlier
+loop-holds c = (omega arith, λ p. refl)
+
+-- src/lib.rt:174:12
+is-closed-requires : tie.Need-is-closed-requires Inv-loop μ-loop
+unfolding earlier
+is-closed-requires c κs =
+    let pre = c .before .before .before .before .before .pre in
+    (pre, c .loop-test .taken)
+
+-- src/lib.rt:175:13
+returns : tie.Need-returns Inv-loop μ-loop
+unfolding earlier
+returns c = λ p e. absurd (true≢false (sym e))
+
+-- src/lib.rt:173:5
+loop-again : tie.Need-loop-again Inv-loop μ-loop
+unfolding earlier
+loop-again c =
+    let args = c .before .before .before .before .before .before .before .args in
+    let t = args .t .now in
+    let os = args .os .now in
+    let loop = c .before .before .before .loop in
+    let i = loop .i in (
+      omega arith,
+      λ p.
+          loop .inv .1 p
+          ∙ blamed-step 9 bad-9 t os i p false (getD os i 0) p (c .before .before .loop-test .taken) refl
+          (c .before .is-closed .ensures (earlier (marker-at t os) i) (c .if1 .left)) refl,
+    )
+
+-- src/lib.rt:168:1
+returns-2 : tie.Need-returns-2 Inv-loop μ-loop
+unfolding earlier
+returns-2 c =
+    let args = c .before .before .before .before .before .args in
+    let t = args .t .now in
+    let os = args .os .now in
+    let loop = c .before .loop in
+    λ p e.
+    sym
+    (loop .inv .1 p ∙ blamed-end bad-9 t os (earlier (marker-at t os) (loop .i)) (loop .i) p 9 (c .loop-test .left))
 
 pub all-open-spec : {M : Type 1} → statement M
 unfolding earlier
@@ -29,10 +78,10 @@ all-open-spec =
     (tie.spec
     Inv-loop
     μ-loop
-    (λ c. (omega arith, λ p. refl))
-    (λ c κs. ((c .before .before .before .before .before .pre), (c .loop-test .taken)))
-    (λ c. λ p e. absurd (true≢false (sym e)))
-    (λ c. search needs)
-    (λ c. search needs)
-    (λ c. (omega arith, λ p. c .before .before .before .loop .inv .1 p ∙ blamed-step 9 bad-9 (c .before .before .before .before .before .before .before .args .t .now) (c .before .before .before .before .before .before .before .args .os .now) (c .before .before .before .loop .i) p false (getD (c .before .before .before .before .before .before .before .args .os .now) (c .before .before .before .loop .i) 0) p (c .before .before .loop-test .taken) refl (c .before .is-closed .ensures (earlier (marker-at (c .before .before .before .before .before .before .before .args .t .now) (c .before .before .before .before .before .before .before .args .os .now)) (c .before .before .before .loop .i)) (c .if1 .left)) refl))
-    (λ c. λ p e. sym (c .before .loop .inv .1 p ∙ blamed-end bad-9 (c .before .before .before .before .before .args .t .now) (c .before .before .before .before .before .args .os .now) (earlier (marker-at (c .before .before .before .before .before .args .t .now) (c .before .before .before .before .before .args .os .now)) (c .before .loop .i)) (c .before .loop .i) p 9 (c .loop-test .left))))
+    loop-holds
+    is-closed-requires
+    returns
+    -- by search: add-i 177:9, loop-less 173:5
+    (λ c. search needs) (λ c. search needs)
+    loop-again
+    returns-2)

@@ -15,19 +15,52 @@ Inv-loop keys links ends₀ i₀ ends i = (i ≤ length keys) × (length ends �
 abbrev μ-loop : tie.MeasureT-loop
 μ-loop keys links ends₀ i₀ ends i = length keys - i
 
+-- src/lib.rt:43:5
+loop-holds : tie.Need-loop-holds Inv-loop μ-loop
+loop-holds c = (search needs, search needs, λ k h. absurd (omega (arith, h)))
+
+-- src/lib.rt:44:19
+linked-after-requires : tie.Need-linked-after-requires Inv-loop μ-loop
+linked-after-requires c κs =
+    let pre = c .before .before .before .before .before .pre in
+    (pre .3, pre .0, pre .1, c .loop-test .taken)
+
+-- src/lib.rt:44:19
+cast-ends : tie.Need-cast-ends Inv-loop μ-loop
+cast-ends c =
+    let pre = c .before .before .before .before .before .before .pre in
+    omega (arith, c .linked-after .ensures .2, c .before .loop-test .taken, pre .0)
+
+-- src/lib.rt:43:5
+loop-again : tie.Need-loop-again Inv-loop μ-loop
+loop-again c =
+    let start = c .before .before .before .before .before .before in
+    let loop = c .before .before .loop in (
+      search needs,
+      search needs,
+      set-next (half-after (start .args .keys .now)) (loop .ends) (loop .i) (c .linked-after .result)
+          (omega (arith, c .before .loop-test .taken, start .pre .0, loop .inv .1)) (c .linked-after .ensures .0)
+          (loop .inv .2),
+    )
+
+-- src/lib.rt:38:1
+returns : tie.Need-returns Inv-loop μ-loop
+returns c =
+    let loop = c .before .loop in
+    (loop .inv .1, λ k h. loop .inv .2 k (omega (arith, h, c .loop-test .left)))
+
 pub fill-ends-spec : {M : Type 1} → statement M
 fill-ends-spec =
     tie.close
     (tie.spec
     Inv-loop
     μ-loop
-    (λ c. (search needs, search needs, (λ k h. absurd (omega (arith, h)))))
-    (λ c κs. (c .before .before .before .before .before .pre .3, c .before .before .before .before .before .pre .0, c .before .before .before .before .before .pre .1, (c .loop-test .taken)))
-    (λ c. omega (arith, c .linked-after .ensures .2, (c .before .loop-test .taken), c .before .before .before .before .before .before .pre .0))
+    loop-holds
+    linked-after-requires
+    cast-ends
+    -- by search: mul-ends 44:9, slice-write-ends 44:9, add-i 45:9, loop-less 43:5
+    (λ c. search needs) (λ c. search needs) (λ c. search needs) (λ c. search needs)
+    loop-again
+    -- by search: same-length 38:1
     (λ c. search needs)
-    (λ c. search needs)
-    (λ c. search needs)
-    (λ c. search needs)
-    (λ c. (search needs, search needs, set-next (half-after (c .before .before .before .before .before .before .args .keys .now)) (c .before .before .loop .ends) (c .before .before .loop .i) (c .linked-after .result) (omega (arith, (c .before .loop-test .taken), c .before .before .before .before .before .before .pre .0, c .before .before .loop .inv .1)) (c .linked-after .ensures .0) (c .before .before .loop .inv .2)))
-    (λ c. search needs)
-    (λ c. (c .before .loop .inv .1, λ k h. c .before .loop .inv .2 k (omega (arith, h, (c .loop-test .left))))))
+    returns)

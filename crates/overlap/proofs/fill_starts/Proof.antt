@@ -10,10 +10,45 @@ use Rattle.overlap.proofs.fill_starts.Statement.{statement}
 use Rattle.overlap.proofs.fill_starts.Tie as tie
 
 abbrev Inv-loop : tie.InvT-loop
-Inv-loop keys links starts₀ i₀ starts i = (i ≤ length keys) × (length starts ≡ 1024) × Filled (half-before keys) i starts
+Inv-loop keys links starts₀ i₀ starts i =
+    (i ≤ length keys) × (length starts ≡ 1024) × Filled (half-before keys) i starts
 
 abbrev μ-loop : tie.MeasureT-loop
 μ-loop keys links starts₀ i₀ starts i = length keys - i
+
+-- src/lib.rt:30:5
+loop-holds : tie.Need-loop-holds Inv-loop μ-loop
+loop-holds c = (search needs, search needs, λ k h. absurd (omega (arith, h)))
+
+-- src/lib.rt:31:21
+linked-before-requires : tie.Need-linked-before-requires Inv-loop μ-loop
+linked-before-requires c κs =
+    let pre = c .before .before .before .before .before .pre in
+    (pre .3, pre .0, pre .1, c .loop-test .taken)
+
+-- src/lib.rt:31:21
+cast-starts : tie.Need-cast-starts Inv-loop μ-loop
+cast-starts c =
+    let pre = c .before .before .before .before .before .before .pre in
+    omega (arith, c .linked-before .ensures .1, c .before .loop-test .taken, pre .0)
+
+-- src/lib.rt:30:5
+loop-again : tie.Need-loop-again Inv-loop μ-loop
+loop-again c =
+    let start = c .before .before .before .before .before .before in
+    let loop = c .before .before .loop in (
+      search needs,
+      search needs,
+      set-next (half-before (start .args .keys .now)) (loop .starts) (loop .i) (c .linked-before .result)
+          (omega (arith, c .before .loop-test .taken, start .pre .0, loop .inv .1)) (c .linked-before .ensures .0)
+          (loop .inv .2),
+    )
+
+-- src/lib.rt:25:1
+returns : tie.Need-returns Inv-loop μ-loop
+returns c =
+    let loop = c .before .loop in
+    (loop .inv .1, λ k h. loop .inv .2 k (omega (arith, h, c .loop-test .left)))
 
 pub fill-starts-spec : {M : Type 1} → statement M
 fill-starts-spec =
@@ -21,13 +56,12 @@ fill-starts-spec =
     (tie.spec
     Inv-loop
     μ-loop
-    (λ c. (search needs, search needs, (λ k h. absurd (omega (arith, h)))))
-    (λ c κs. (c .before .before .before .before .before .pre .3, c .before .before .before .before .before .pre .0, c .before .before .before .before .before .pre .1, (c .loop-test .taken)))
-    (λ c. omega (arith, c .linked-before .ensures .1, (c .before .loop-test .taken), c .before .before .before .before .before .before .pre .0))
+    loop-holds
+    linked-before-requires
+    cast-starts
+    -- by search: mul-starts 31:9, slice-write-starts 31:9, add-i 32:9, loop-less 30:5
+    (λ c. search needs) (λ c. search needs) (λ c. search needs) (λ c. search needs)
+    loop-again
+    -- by search: same-length 25:1
     (λ c. search needs)
-    (λ c. search needs)
-    (λ c. search needs)
-    (λ c. search needs)
-    (λ c. (search needs, search needs, set-next (half-before (c .before .before .before .before .before .before .args .keys .now)) (c .before .before .loop .starts) (c .before .before .loop .i) (c .linked-before .result) (omega (arith, (c .before .loop-test .taken), c .before .before .before .before .before .before .pre .0, c .before .before .loop .inv .1)) (c .linked-before .ensures .0) (c .before .before .loop .inv .2)))
-    (λ c. search needs)
-    (λ c. (c .before .loop .inv .1, λ k h. c .before .loop .inv .2 k (omega (arith, h, (c .loop-test .left))))))
+    returns)

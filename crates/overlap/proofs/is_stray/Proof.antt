@@ -2,9 +2,14 @@ use borrow.Author.Needs.{needs}
 use Rattle.overlap.proofs.is_stray.Statement.{statement}
 use Rattle.overlap.proofs.is_stray.Tie as tie
 
+-- src/lib.rt:64:1
+returns : tie.Need-returns
+returns c = simp (c .class-of .ensures)
+
 pub is-stray-spec : {M : Type 1} → statement M
 is-stray-spec =
     tie.close
     (tie.spec
+    -- by search: class-of-requires 67:9
     (λ c κs. search needs)
-    (λ c. simp (c .class-of .ensures)))
+    returns)

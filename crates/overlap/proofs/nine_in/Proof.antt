@@ -2,11 +2,18 @@ use borrow.Author.Needs.{needs}
 use Rattle.overlap.proofs.nine_in.Statement.{statement}
 use Rattle.overlap.proofs.nine_in.Tie as tie
 
+-- src/lib.rt:189:9
+returns : tie.Need-returns
+returns c =
+    let start = c .before .before .before .before .before .args .start in
+    c .before .all-open .ensures start (c .if1 .taken)
+
 pub nine-in-spec : {M : Type 1} → statement M
 nine-in-spec =
     tie.close
     (tie.spec
+    -- by search: all-open-requires 188:8
     (λ c κs. search needs)
-    (λ c. c .before .all-open .ensures (c .before .before .before .before .before .args .start) (c .if1 .taken))
-    (λ c κs. search needs)
-    (λ c. search needs))
+    returns
+    -- by search: nine-by-halves-requires 191:5, returns-2 184:1
+    (λ c κs. search needs) (λ c. search needs))

@@ -14,10 +14,48 @@ use Rattle.overlap.proofs.overlapping.Statement.{statement}
 use Rattle.overlap.proofs.overlapping.Tie as tie
 
 abbrev Inv-loop : tie.InvT-loop
-Inv-loop t os keys starts ends best₀ i₀ best i = (i ≤ length os) × (toward 9 best₀ (blamed bad-9 [] (placed-at t os)) ≡ toward 9 best (blamed bad-9 (earlier (marker-at t os) i) (placed-at t (drop i os))))
+Inv-loop t os keys starts ends best₀ i₀ best i =
+    (i ≤ length os)
+    × (toward 9 best₀ (blamed bad-9 [] (placed-at t os))
+    ≡ toward 9 best (blamed bad-9 (earlier (marker-at t os) i) (placed-at t (drop i os))))
 
 abbrev μ-loop : tie.MeasureT-loop
 μ-loop t os keys starts ends best₀ i₀ best i = length os - i
+
+-- src/lib.rt:149:13
+encloses-stray-requires : tie.Need-encloses-stray-requires Inv-loop μ-loop
+unfolding earlier
+encloses-stray-requires c κs =
+    let pre = c .before .before .before .before .before .before .before .pre in
+    (pre .0, pre .1, pre .2, pre .3, pre .4, c .loop-test .taken)
+
+-- src/lib.rt:148:5
+loop-again : tie.Need-loop-again Inv-loop μ-loop
+unfolding earlier
+loop-again c =
+    let after-loop = c .before .before .before .before .before in
+    let args = after-loop .before .before .before .before .before .before .args in
+    let loop = after-loop .loop in
+    let loop-test = c .before .before .before .before .loop-test in
+    let encloses-stray = c .before .before .before .encloses-stray in
+    let wide = c .before .wide in (
+      search needs,
+      loop .inv .1
+          ∙ blamed-step 9 bad-9 (args .t .now) (args .os .now) (loop .i) (loop .best) (encloses-stray .result)
+          (wide .result) (c .lower-if .result) (loop-test .taken) (wide .ensures .0) (encloses-stray .ensures)
+          (c .lower-if .ensures),
+    )
+
+-- src/lib.rt:135:1
+returns : tie.Need-returns Inv-loop μ-loop
+unfolding earlier
+returns c =
+    let args = c .before .before .before .before .before .before .before .args in
+    let t = args .t .now in
+    let os = args .os .now in
+    let loop = c .before .loop in
+    sym (loop .inv .1
+    ∙ blamed-end bad-9 t os (earlier (marker-at t os) (loop .i)) (loop .i) (loop .best) 9 (c .loop-test .left))
 
 pub overlapping-spec : {M : Type 1} → statement M
 unfolding earlier
@@ -26,13 +64,12 @@ overlapping-spec =
     (tie.spec
     Inv-loop
     μ-loop
+    -- by one step: loop-holds 148:5
     (λ c. (search needs, refl))
-    (λ c κs. (c .before .before .before .before .before .before .before .pre .0, c .before .before .before .before .before .before .before .pre .1, c .before .before .before .before .before .before .before .pre .2, c .before .before .before .before .before .before .before .pre .3, c .before .before .before .before .before .before .before .pre .4, (c .loop-test .taken)))
+    encloses-stray-requires
+    -- by search: mul-wide 150:57, shared-slice-read-wide 150:57, wide-requires 150:45, lower-if-requires 150:9,
+    -- add-i 151:9, loop-less 148:5
+    (λ c. search needs) (λ c. search needs) (λ c κs. search needs) (λ c κs. search needs) (λ c. search needs)
     (λ c. search needs)
-    (λ c. search needs)
-    (λ c κs. search needs)
-    (λ c κs. search needs)
-    (λ c. search needs)
-    (λ c. search needs)
-    (λ c. (search needs, c .before .before .before .before .before .loop .inv .1 ∙ blamed-step 9 bad-9 (c .before .before .before .before .before .before .before .before .before .before .before .args .t .now) (c .before .before .before .before .before .before .before .before .before .before .before .args .os .now) (c .before .before .before .before .before .loop .i) (c .before .before .before .before .before .loop .best) (c .before .before .before .encloses-stray .result) (c .before .wide .result) (c .lower-if .result) (c .before .before .before .before .loop-test .taken) (c .before .wide .ensures .0) (c .before .before .before .encloses-stray .ensures) (c .lower-if .ensures)))
-    (λ c. sym (c .before .loop .inv .1 ∙ blamed-end bad-9 (c .before .before .before .before .before .before .before .args .t .now) (c .before .before .before .before .before .before .before .args .os .now) (earlier (marker-at (c .before .before .before .before .before .before .before .args .t .now) (c .before .before .before .before .before .before .before .args .os .now)) (c .before .loop .i)) (c .before .loop .i) (c .before .loop .best) 9 (c .loop-test .left))))
+    loop-again
+    returns)

@@ -6,11 +6,22 @@ use borrow.Author.Needs.{needs}
 use Rattle.overlap.proofs.rule_9.Statement.{statement}
 use Rattle.overlap.proofs.rule_9.Tie as tie
 
+-- src/lib.rt:206:1
+returns : tie.Need-returns
+unfolding fault-9 offsets
+returns c =
+    let start = c .before .before .before .before .before .before .before in
+    let args = start .args in
+    let pre = start .pre in
+    let nine-in = c .before .nine-in in
+    two-sequences 9 bad-9 bad-9 on-9 on-9 (args .t .now) (args .src .now) (args .tgt .now) (nine-in .result)
+    (c .nine-in2 .result) (pre .0) (pre .1) (pre .3) (nine-in .ensures) (c .nine-in2 .ensures)
+
 pub rule-9-spec : {M : Type 1} → statement M
 unfolding fault-9 offsets
 rule-9-spec =
     tie.close
     (tie.spec
-    (λ c κs. search needs)
-    (λ c κs. search needs)
-    (λ c. two-sequences 9 bad-9 bad-9 on-9 on-9 (c .before .before .before .before .before .before .before .args .t .now) (c .before .before .before .before .before .before .before .args .src .now) (c .before .before .before .before .before .before .before .args .tgt .now) (c .before .nine-in .result) (c .nine-in2 .result) (c .before .before .before .before .before .before .before .pre .0) (c .before .before .before .before .before .before .before .pre .1) (c .before .before .before .before .before .before .before .pre .3) (c .before .nine-in .ensures) (c .nine-in2 .ensures)))
+    -- by search: nine-in-requires 210:28, nine-in-requires-2 210:5
+    (λ c κs. search needs) (λ c κs. search needs)
+    returns)

@@ -14,18 +14,78 @@ Inv-loop t start at₀ at = Walked t start at
 abbrev μ-loop : tie.MeasureT-loop
 μ-loop t start at₀ at = length t - at
 
+-- src/lib.rt:46:5
+loop-holds : tie.Need-loop-holds Inv-loop μ-loop
+loop-holds c = walked-start (c .before .args .t .now) (c .before .args .start)
+
+-- src/lib.rt:49:13
+returns : tie.Need-returns Inv-loop μ-loop
+returns c =
+    let args = c .before .before .before .before .before .before .args in
+    let loop = c .before .before .before .before .loop in
+    let loop-test = c .before .before .before .loop-test in
+    let known-at = c .before .before .known-at in
+    walked-off (args .t .now) (args .start) (loop .at) (known-at .result) (known-at .ensures) (loop-test .taken)
+    (loop .inv) (sym (c .before .is-content .ensures) ∙ not-true _ (c .if1 .taken))
+
+-- src/lib.rt:51:9
+add-at : tie.Need-add-at Inv-loop μ-loop
+add-at c =
+    let after-loop = c .before .before .before .before .before in
+    let start = after-loop .before .before in
+    let loop = after-loop .loop in
+    let loop-test = c .before .before .before .before .loop-test in
+    let known-at = c .before .before .before .known-at in
+    let f = walked-fits (start .args .t .now) (start .args .start) (loop .at) (known-at .result) (known-at .ensures)
+    (loop-test .taken) (loop .inv) (start .pre) in
+    omega (arith, f .1, c .width-of .ensures)
+
+-- src/lib.rt:46:5
+loop-less : tie.Need-loop-less Inv-loop μ-loop
+loop-less c =
+    let after-loop = c .before .before .before .before .before in
+    let start = after-loop .before .before in
+    let loop = after-loop .loop in
+    let loop-test = c .before .before .before .before .loop-test in
+    let known-at = c .before .before .before .known-at in
+    let f = walked-fits (start .args .t .now) (start .args .start) (loop .at) (known-at .result) (known-at .ensures)
+    (loop-test .taken) (loop .inv) (start .pre) in
+    omega (arith, f .0, f .1, c .width-of .ensures)
+
+-- src/lib.rt:46:5
+loop-again : tie.Need-loop-again Inv-loop μ-loop
+loop-again c =
+    let after-loop = c .before .before .before .before .before in
+    let args = after-loop .before .before .args in
+    let t = args .t .now in
+    let start = args .start in
+    let loop = after-loop .loop in
+    let loop-test = c .before .before .before .before .loop-test in
+    let known-at = c .before .before .before .known-at in
+    subst (λ (k : ℕ). Walked t start (loop .at + k)) (sym (c .width-of .ensures))
+    (walked-on t start (loop .at) (known-at .result) (known-at .ensures) (loop-test .taken) (loop .inv)
+    (sym (c .before .before .is-content .ensures) ∙ not-false _ (c .before .if1 .left)))
+
+-- src/lib.rt:41:1
+returns-2 : tie.Need-returns-2 Inv-loop μ-loop
+returns-2 c =
+    let args = c .before .before .before .args in
+    let loop = c .before .loop in
+    walked-end (args .t .now) (args .start) (loop .at) (loop .inv) (c .loop-test .left)
+
 pub content-end-spec : {M : Type 1} → statement M
 content-end-spec =
     tie.close
     (tie.spec
     Inv-loop
     μ-loop
-    (λ c. walked-start (c .before .args .t .now) (c .before .args .start))
+    loop-holds
+    -- by search: known-at-requires 47:13, is-content-requires 48:13
+    (λ c κs. search needs) (λ c κs. search needs)
+    returns
+    -- by search: width-of-requires 51:15
     (λ c κs. search needs)
-    (λ c κs. search needs)
-    (λ c. walked-off (c .before .before .before .before .before .before .args .t .now) (c .before .before .before .before .before .before .args .start) (c .before .before .before .before .loop .at) (c .before .before .known-at .result) (c .before .before .known-at .ensures) ((c .before .before .before .loop-test .taken)) (c .before .before .before .before .loop .inv) (sym (c .before .is-content .ensures) ∙ not-true _ (c .if1 .taken)))
-    (λ c κs. search needs)
-    (λ c. let f = walked-fits (c .before .before .before .before .before .before .before .args .t .now) (c .before .before .before .before .before .before .before .args .start) (c .before .before .before .before .before .loop .at) (c .before .before .before .known-at .result) (c .before .before .before .known-at .ensures) ((c .before .before .before .before .loop-test .taken)) (c .before .before .before .before .before .loop .inv) (c .before .before .before .before .before .before .before .pre) in omega (arith, f .1, c .width-of .ensures))
-    (λ c. let f = walked-fits (c .before .before .before .before .before .before .before .args .t .now) (c .before .before .before .before .before .before .before .args .start) (c .before .before .before .before .before .loop .at) (c .before .before .before .known-at .result) (c .before .before .before .known-at .ensures) ((c .before .before .before .before .loop-test .taken)) (c .before .before .before .before .before .loop .inv) (c .before .before .before .before .before .before .before .pre) in omega (arith, f .0, f .1, c .width-of .ensures))
-    (λ c. subst (λ (k : ℕ). Walked (c .before .before .before .before .before .before .before .args .t .now) (c .before .before .before .before .before .before .before .args .start) (c .before .before .before .before .before .loop .at + k)) (sym (c .width-of .ensures)) (walked-on (c .before .before .before .before .before .before .before .args .t .now) (c .before .before .before .before .before .before .before .args .start) (c .before .before .before .before .before .loop .at) (c .before .before .before .known-at .result) (c .before .before .before .known-at .ensures) ((c .before .before .before .before .loop-test .taken)) (c .before .before .before .before .before .loop .inv) (sym (c .before .before .is-content .ensures) ∙ not-false _ (c .before .if1 .left))))
-    (λ c. walked-end (c .before .before .before .args .t .now) (c .before .before .before .args .start) (c .before .loop .at) (c .before .loop .inv) (c .loop-test .left)))
+    add-at
+    loop-less
+    loop-again
+    returns-2)

@@ -15,21 +15,87 @@ Inv-loop t n at₀ left₀ at left = Reached t n at left
 abbrev μ-loop : tie.MeasureT-loop
 μ-loop t n at₀ left₀ at left = left
 
+-- src/lib.rt:148:9
+returns : tie.Need-returns Inv-loop μ-loop
+returns c =
+    let t = c .before .before .args .t .now in
+    ap (λ (k : ℕ). focus (unit t .parts) k) (c .if1 .taken) ∙ focus-zero (unit t .parts)
+
+-- src/lib.rt:152:5
+loop-holds : tie.Need-loop-holds Inv-loop μ-loop
+loop-holds c =
+    let args = c .before .before .args in
+    reached-start (args .t .now) (c .before .before .pre) (args .n) (omega (arith, c .if1 .left))
+
+-- src/lib.rt:154:13
+returns-2 : tie.Need-returns-2 Inv-loop μ-loop
+returns-2 c =
+    let start = c .before .before .before .before .before .before in
+    let loop = c .before .before .before .loop in
+    reached-missing (start .args .t .now) (start .pre) (start .args .n) (loop .at) (loop .left) (loop .inv)
+    (sym (c .before .starts-part .ensures) ∙ not-true _ (c .if2 .taken))
+
+-- src/lib.rt:156:13
+part-from-requires : tie.Need-part-from-requires Inv-loop μ-loop
+part-from-requires c κs =
+    let start = c .before .before .before .before .before .before in
+    let loop = c .before .before .before .loop in
+    reached-part (start .args .t .now) (start .pre) (start .args .n) (loop .at) (loop .left) (loop .inv)
+    (sym (c .before .starts-part .ensures) ∙ not-false _ (c .if2 .left))
+
+-- src/lib.rt:152:5
+loop-again : tie.Need-loop-again Inv-loop μ-loop
+loop-again c =
+    let start = c .before .before .before .before .before .before .before in
+    let loop = c .before .before .before .before .loop in
+    let loop-test = c .before .before .before .loop-test in
+    reached-on (start .args .t .now) (start .pre) (start .args .n) (loop .at) (loop .left) (loop .inv)
+    (sym (c .before .before .starts-part .ensures) ∙ not-false _ (c .before .if2 .left)) (c .part-from .result)
+    (c .part-from .ensures) (loop-test .taken)
+
+-- src/lib.rt:161:9
+returns-3 : tie.Need-returns-3 Inv-loop μ-loop
+returns-3 c =
+    let start = c .before .before .before .before .before .before in
+    let loop = c .before .before .before .loop in
+    reached-missing (start .args .t .now) (start .pre) (start .args .n) (loop .at) (loop .left) (loop .inv)
+    (sym (c .before .starts-part2 .ensures) ∙ not-true _ (c .if3 .taken))
+
+-- src/lib.rt:163:19
+part-from-requires-2 : tie.Need-part-from-requires-2 Inv-loop μ-loop
+part-from-requires-2 c κs =
+    let start = c .before .before .before .before .before .before in
+    let loop = c .before .before .before .loop in
+    reached-part (start .args .t .now) (start .pre) (start .args .n) (loop .at) (loop .left) (loop .inv)
+    (sym (c .before .starts-part2 .ensures) ∙ not-false _ (c .if3 .left))
+
+-- src/lib.rt:143:1
+returns-4 : tie.Need-returns-4 Inv-loop μ-loop
+returns-4 c =
+    let start = c .before .before .before .before .before .before .before in
+    let loop = c .before .before .before .before .loop in
+    let loop-test = c .before .before .before .loop-test in
+    reached-found (start .args .t .now) (start .pre) (start .args .n) (loop .at) (loop .left) (loop .inv)
+    (sym (c .before .before .starts-part2 .ensures) ∙ not-false _ (c .before .if3 .left)) (c .part-from2 .result)
+    (c .part-from2 .ensures) (loop-test .left)
+
 pub part-at-spec : {M : Type 1} → statement M
 part-at-spec =
     tie.close
     (tie.spec
     Inv-loop
     μ-loop
-    (λ c. ap (λ (k : ℕ). focus (unit (c .before .before .args .t .now) .parts) k) (c .if1 .taken) ∙ focus-zero (unit (c .before .before .args .t .now) .parts))
-    (λ c. reached-start (c .before .before .args .t .now) (c .before .before .pre) (c .before .before .args .n) (omega (arith, (c .if1 .left))))
+    returns
+    loop-holds
+    -- by search: starts-part-requires 153:13
     (λ c κs. search needs)
-    (λ c. reached-missing (c .before .before .before .before .before .before .args .t .now) (c .before .before .before .before .before .before .pre) (c .before .before .before .before .before .before .args .n) (c .before .before .before .loop .at) (c .before .before .before .loop .left) (c .before .before .before .loop .inv) (sym (c .before .starts-part .ensures) ∙ not-true _ (c .if2 .taken)))
-    (λ c κs. reached-part (c .before .before .before .before .before .before .args .t .now) (c .before .before .before .before .before .before .pre) (c .before .before .before .before .before .before .args .n) (c .before .before .before .loop .at) (c .before .before .before .loop .left) (c .before .before .before .loop .inv) (sym (c .before .starts-part .ensures) ∙ not-false _ (c .if2 .left)))
-    (λ c. search needs)
-    (λ c. search needs)
-    (λ c. reached-on (c .before .before .before .before .before .before .before .args .t .now) (c .before .before .before .before .before .before .before .pre) (c .before .before .before .before .before .before .before .args .n) (c .before .before .before .before .loop .at) (c .before .before .before .before .loop .left) (c .before .before .before .before .loop .inv) (sym (c .before .before .starts-part .ensures) ∙ not-false _ (c .before .if2 .left)) (c .part-from .result) (c .part-from .ensures) (c .before .before .before .loop-test .taken))
+    returns-2
+    part-from-requires
+    -- by search: sub-left 158:9, loop-less 152:5
+    (λ c. search needs) (λ c. search needs)
+    loop-again
+    -- by search: starts-part-requires-2 160:9
     (λ c κs. search needs)
-    (λ c. reached-missing (c .before .before .before .before .before .before .args .t .now) (c .before .before .before .before .before .before .pre) (c .before .before .before .before .before .before .args .n) (c .before .before .before .loop .at) (c .before .before .before .loop .left) (c .before .before .before .loop .inv) (sym (c .before .starts-part2 .ensures) ∙ not-true _ (c .if3 .taken)))
-    (λ c κs. reached-part (c .before .before .before .before .before .before .args .t .now) (c .before .before .before .before .before .before .pre) (c .before .before .before .before .before .before .args .n) (c .before .before .before .loop .at) (c .before .before .before .loop .left) (c .before .before .before .loop .inv) (sym (c .before .starts-part2 .ensures) ∙ not-false _ (c .if3 .left)))
-    (λ c. reached-found (c .before .before .before .before .before .before .before .args .t .now) (c .before .before .before .before .before .before .before .pre) (c .before .before .before .before .before .before .before .args .n) (c .before .before .before .before .loop .at) (c .before .before .before .before .loop .left) (c .before .before .before .before .loop .inv) (sym (c .before .before .starts-part2 .ensures) ∙ not-false _ (c .before .if3 .left)) (c .part-from2 .result) (c .part-from2 .ensures) (c .before .before .before .loop-test .left)))
+    returns-3
+    part-from-requires-2
+    returns-4)

@@ -5,10 +5,17 @@ use borrow.Author.Needs.{needs}
 use Rattle.part_at.proofs.starts_part.Statement.{statement}
 use Rattle.part_at.proofs.starts_part.Tie as tie
 
+-- src/lib.rt:131:1
+returns : tie.Need-returns
+returns c =
+    let args = c .before .before .before .args in
+    let known-at = c .before .known-at in
+    c .is-part .ensures ∙ part-known (drop (args .at) (args .t .now)) (known-at .result) (known-at .ensures)
+
 pub starts-part-spec : {M : Type 1} → statement M
 starts-part-spec =
     tie.close
     (tie.spec
-    (λ c κs. search needs)
-    (λ c κs. search needs)
-    (λ c. c .is-part .ensures ∙ part-known (drop (c .before .before .before .args .at) (c .before .before .before .args .t .now)) (c .before .known-at .result) (c .before .known-at .ensures)))
+    -- by search: known-at-requires 134:21, is-part-requires 134:5
+    (λ c κs. search needs) (λ c κs. search needs)
+    returns)

@@ -14,6 +14,38 @@ Inv-loop ks id i₀ i = (i ≤ length ks) × (any (halfOfId id) ks ≡ any (half
 abbrev μ-loop : tie.MeasureT-loop
 μ-loop ks id i₀ i = length ks - i
 
+-- src/lib.rt:74:13
+returns : tie.Need-returns Inv-loop μ-loop
+unfolding halfOfId
+returns c =
+    let args = c .before .before .before .before .before .before .args in
+    let loop = c .before .before .before .before .loop in
+    let loop-test = c .before .before .before .loop-test in
+    sym (loop .inv .1
+    ∙ any-on (halfOfId (args .id)) (args .ks .now) (loop .i) (loop-test .taken)
+    (rw (c .before .half-of .ensures) at (c .if1 .taken)))
+
+-- src/lib.rt:71:5
+loop-again : tie.Need-loop-again Inv-loop μ-loop
+unfolding halfOfId
+loop-again c =
+    let args = c .before .before .before .before .before .before .args in
+    let loop = c .before .before .before .before .loop in
+    let loop-test = c .before .before .before .loop-test in (
+      search needs,
+      loop .inv .1
+          ∙ any-off (halfOfId (args .id)) (args .ks .now) (loop .i) (loop-test .taken)
+          (rw (c .before .half-of .ensures) at (c .if1 .left)),
+    )
+
+-- src/lib.rt:67:1
+returns-2 : tie.Need-returns-2 Inv-loop μ-loop
+unfolding halfOfId
+returns-2 c =
+    let args = c .before .before .before .args in
+    let loop = c .before .loop in
+    sym (loop .inv .1 ∙ any-end (halfOfId (args .id)) (args .ks .now) (loop .i) (c .loop-test .left))
+
 pub any-half-spec : {M : Type 1} → statement M
 unfolding halfOfId
 any-half-spec =
@@ -21,12 +53,10 @@ any-half-spec =
     (tie.spec
     Inv-loop
     μ-loop
-    (λ c. (search needs, refl))
-    (λ c. search needs)
-    (λ c. search needs)
-    (λ c κs. search needs)
-    (λ c. sym (c .before .before .before .before .loop .inv .1 ∙ any-on (halfOfId (c .before .before .before .before .before .before .args .id)) (c .before .before .before .before .before .before .args .ks .now) (c .before .before .before .before .loop .i) (c .before .before .before .loop-test .taken) (rw (c .before .half-of .ensures) at (c .if1 .taken))))
-    (λ c. search needs)
-    (λ c. search needs)
-    (λ c. (search needs, c .before .before .before .before .loop .inv .1 ∙ any-off (halfOfId (c .before .before .before .before .before .before .args .id)) (c .before .before .before .before .before .before .args .ks .now) (c .before .before .before .before .loop .i) (c .before .before .before .loop-test .taken) (rw (c .before .half-of .ensures) at (c .if1 .left))))
-    (λ c. sym (c .before .loop .inv .1 ∙ any-end (halfOfId (c .before .before .before .args .id)) (c .before .before .before .args .ks .now) (c .before .loop .i) (c .loop-test .left))))
+    -- by one step: loop-holds 71:5, mul-k 72:17, shared-slice-read-k 72:17, half-of-requires 73:14
+    (λ c. (search needs, refl)) (λ c. search needs) (λ c. search needs) (λ c κs. search needs)
+    returns
+    -- by search: add-i 76:9, loop-less 71:5
+    (λ c. search needs) (λ c. search needs)
+    loop-again
+    returns-2)

@@ -14,16 +14,43 @@ Inv-loop ks i₀ i = (i ≤ length ks) × (someKey loneSKey [] ks ≡ someKey lo
 abbrev μ-loop : tie.MeasureT-loop
 μ-loop ks i₀ i = length ks - i
 
+-- src/lib.rt:203:13
+returns : tie.Need-returns Inv-loop μ-loop
+returns c =
+    let ks = c .before .before .before .before .before .args .ks .now in
+    let loop = c .before .before .before .loop in
+    sym (loop .inv .1
+    ∙ some-on loneSKey ks (loop .i) (c .before .before .loop-test .taken)
+    (sym (c .before .lone-s .ensures) ∙ c .if1 .taken))
+
+-- src/lib.rt:201:5
+loop-again : tie.Need-loop-again Inv-loop μ-loop
+loop-again c =
+    let ks = c .before .before .before .before .before .args .ks .now in
+    let loop = c .before .before .before .loop in (
+      search needs,
+      loop .inv .1
+          ∙ some-off loneSKey ks (loop .i) (c .before .before .loop-test .taken)
+          (sym (c .before .lone-s .ensures) ∙ c .if1 .left),
+    )
+
+-- src/lib.rt:197:1
+returns-2 : tie.Need-returns-2 Inv-loop μ-loop
+returns-2 c =
+    let ks = c .before .before .before .args .ks .now in
+    let loop = c .before .loop in
+    sym (loop .inv .1 ∙ some-end loneSKey ks (loop .i) (c .loop-test .left))
+
 pub any-lone-spec : {M : Type 1} → statement M
 any-lone-spec =
     tie.close
     (tie.spec
     Inv-loop
     μ-loop
-    (λ c. (search needs, refl))
-    (λ c κs. search needs)
-    (λ c. sym (c .before .before .before .loop .inv .1 ∙ some-on loneSKey (c .before .before .before .before .before .args .ks .now) (c .before .before .before .loop .i) (c .before .before .loop-test .taken) (sym (c .before .lone-s .ensures) ∙ (c .if1 .taken))))
-    (λ c. search needs)
-    (λ c. search needs)
-    (λ c. (search needs, c .before .before .before .loop .inv .1 ∙ some-off loneSKey (c .before .before .before .before .before .args .ks .now) (c .before .before .before .loop .i) (c .before .before .loop-test .taken) (sym (c .before .lone-s .ensures) ∙ (c .if1 .left))))
-    (λ c. sym (c .before .loop .inv .1 ∙ some-end loneSKey (c .before .before .before .args .ks .now) (c .before .loop .i) (c .loop-test .left))))
+    -- by one step: loop-holds 201:5, lone-s-requires 202:12
+    (λ c. (search needs, refl)) (λ c κs. search needs)
+    returns
+    -- by search: add-i 205:9, loop-less 201:5
+    (λ c. search needs) (λ c. search needs)
+    loop-again
+    returns-2)

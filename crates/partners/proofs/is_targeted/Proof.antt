@@ -14,18 +14,44 @@ Inv-loop ks i₀ i = (i ≤ length ks) × (targeted ks ≡ targeted (drop i ks))
 abbrev μ-loop : tie.MeasureT-loop
 μ-loop ks i₀ i = length ks - i
 
+-- src/lib.rt:98:13
+returns : tie.Need-returns Inv-loop μ-loop
+returns c =
+    let ks = c .before .before .before .before .before .before .args .ks .now in
+    let loop = c .before .before .before .before .loop in
+    let loop-test = c .before .before .before .loop-test in
+    sym (loop .inv .1
+    ∙ targeted-on ks (loop .i) (loop-test .taken) (eq-eqb _ _ (sym (c .before .class-of .ensures) ∙ c .if1 .taken)))
+
+-- src/lib.rt:95:5
+loop-again : tie.Need-loop-again Inv-loop μ-loop
+loop-again c =
+    let ks = c .before .before .before .before .before .before .args .ks .now in
+    let loop = c .before .before .before .before .loop in
+    let loop-test = c .before .before .before .loop-test in (
+      search needs,
+      loop .inv .1
+          ∙ targeted-off ks (loop .i) (loop-test .taken)
+          (rw (c .before .class-of .ensures) at (ne-eqb _ _ (c .if1 .left))),
+    )
+
+-- src/lib.rt:91:1
+returns-2 : tie.Need-returns-2 Inv-loop μ-loop
+returns-2 c =
+    let ks = c .before .before .before .args .ks .now in
+    let loop = c .before .loop in
+    sym (loop .inv .1 ∙ targeted-end ks (loop .i) (c .loop-test .left))
+
 pub is-targeted-spec : {M : Type 1} → statement M
 is-targeted-spec =
     tie.close
     (tie.spec
     Inv-loop
     μ-loop
-    (λ c. (search needs, refl))
-    (λ c. search needs)
-    (λ c. search needs)
-    (λ c κs. search needs)
-    (λ c. sym (c .before .before .before .before .loop .inv .1 ∙ targeted-on (c .before .before .before .before .before .before .args .ks .now) (c .before .before .before .before .loop .i) (c .before .before .before .loop-test .taken) (eq-eqb _ _ (sym (c .before .class-of .ensures) ∙ (c .if1 .taken)))))
-    (λ c. search needs)
-    (λ c. search needs)
-    (λ c. (search needs, c .before .before .before .before .loop .inv .1 ∙ targeted-off (c .before .before .before .before .before .before .args .ks .now) (c .before .before .before .before .loop .i) (c .before .before .before .loop-test .taken) (rw (c .before .class-of .ensures) at (ne-eqb _ _ (c .if1 .left)))))
-    (λ c. sym (c .before .loop .inv .1 ∙ targeted-end (c .before .before .before .args .ks .now) (c .before .loop .i) (c .loop-test .left))))
+    -- by one step: loop-holds 95:5, mul-k 96:17, shared-slice-read-k 96:17, class-of-requires 97:12
+    (λ c. (search needs, refl)) (λ c. search needs) (λ c. search needs) (λ c κs. search needs)
+    returns
+    -- by search: add-i 100:9, loop-less 95:5
+    (λ c. search needs) (λ c. search needs)
+    loop-again
+    returns-2)

@@ -9,17 +9,60 @@ use borrow.Author.Needs.{needs}
 use Rattle.partners.proofs.lone_by_source.Statement.{statement}
 use Rattle.partners.proofs.lone_by_source.Tie as tie
 
+-- src/lib.rt:218:27
+slice-aggregate-bar-keys : tie.Need-slice-aggregate-bar-keys
+slice-aggregate-bar-keys c =
+    let contents = c .before .before .contents in
+    sym (front-length (contents .result) (contents .last .1 .1 .0) (contents .ensures .1) (contents .ensures .2))
+
+-- src/lib.rt:218:5
+bar-keys-requires : tie.Need-bar-keys-requires
+bar-keys-requires c κs =
+    let contents = c .before .before .before .contents in
+    front-few (contents .result) (contents .last .1 .1 .0) (contents .ensures .1) (contents .ensures .2)
+
+-- src/lib.rt:219:28
+slice-aggregate-lone-in-target : tie.Need-slice-aggregate-lone-in-target
+slice-aggregate-lone-in-target c =
+    let contents = c .before .before .before .before .before .before .contents in
+    let bar-keys = c .before .before .bar-keys in
+    sym (front-length (contents .result) (bar-keys .last .1 .1 .0) (contents .ensures .1) (bar-keys .ensures .1))
+
+-- src/lib.rt:219:5
+lone-in-target-requires : tie.Need-lone-in-target-requires
+lone-in-target-requires c κs =
+    let after-contents = c .before .before .before .before .before .before in
+    let pre = after-contents .before .before .before .before .before .pre in
+    let contents = after-contents .contents in
+    let bar-keys = c .before .before .bar-keys in
+    (pre .2, front-few (contents .result) (bar-keys .last .1 .1 .0) (contents .ensures .1) (bar-keys .ensures .1))
+
+-- src/lib.rt:211:1
+returns : tie.Need-returns
+returns c =
+    let after-contents = c .before .before .before .before .before .before .before in
+    let args = after-contents .before .before .before .before .before .args in
+    let t = args .t .now in
+    let contents = after-contents .contents in
+    let bar-keys = c .before .before .before .bar-keys in
+    c .lone-in-target .ensures
+    ∙ ap (λ (l : List ℕ). toward 7 (args .start) (blamedKeys (loneInTarget l) [] (args .os .now) (args .ks .now)))
+    (front-keys (contents .result) (contents .last .1 .1 .0) (contents .ensures .1) (contents .ensures .2) t
+    (bar-keys .last .1 .1 .0) (bar-keys .ensures .0)
+    ∙ ap (barKeys t) (contents .ensures .0))
+
 pub lone-by-source-spec : {M : Type 1} → statement M
 lone-by-source-spec =
     tie.close
     (tie.spec
+    -- by search: slice-aggregate-contents 217:42, contents-requires 217:9, array-share-prefix-at 218:27
+    (λ c. search needs) (λ c κs. search needs) (λ c. search needs)
+    slice-aggregate-bar-keys
+    -- by search: slice-aggregate-bar-keys-2 218:37
     (λ c. search needs)
-    (λ c κs. search needs)
+    bar-keys-requires
+    -- by search: array-share-prefix-bars 219:28
     (λ c. search needs)
-    (λ c. sym (front-length (c .before .before .contents .result) (c .before .before .contents .last .1 .1 .0) (c .before .before .contents .ensures .1) (c .before .before .contents .ensures .2)))
-    (λ c. search needs)
-    (λ c κs. front-few (c .before .before .before .contents .result) (c .before .before .before .contents .last .1 .1 .0) (c .before .before .before .contents .ensures .1) (c .before .before .before .contents .ensures .2))
-    (λ c. search needs)
-    (λ c. sym (front-length (c .before .before .before .before .before .before .contents .result) (c .before .before .bar-keys .last .1 .1 .0) (c .before .before .before .before .before .before .contents .ensures .1) (c .before .before .bar-keys .ensures .1)))
-    (λ c κs. (c .before .before .before .before .before .before .before .before .before .before .before .pre .2, front-few (c .before .before .before .before .before .before .contents .result) (c .before .before .bar-keys .last .1 .1 .0) (c .before .before .before .before .before .before .contents .ensures .1) (c .before .before .bar-keys .ensures .1)))
-    (λ c. c .lone-in-target .ensures ∙ ap (λ (l : List ℕ). toward 7 (c .before .before .before .before .before .before .before .before .before .before .before .before .args .start) (blamedKeys (loneInTarget l) [] (c .before .before .before .before .before .before .before .before .before .before .before .before .args .os .now) (c .before .before .before .before .before .before .before .before .before .before .before .before .args .ks .now))) (front-keys (c .before .before .before .before .before .before .before .contents .result) (c .before .before .before .before .before .before .before .contents .last .1 .1 .0) (c .before .before .before .before .before .before .before .contents .ensures .1) (c .before .before .before .before .before .before .before .contents .ensures .2) (c .before .before .before .before .before .before .before .before .before .before .before .before .args .t .now) (c .before .before .before .bar-keys .last .1 .1 .0) (c .before .before .before .bar-keys .ensures .0) ∙ ap (barKeys (c .before .before .before .before .before .before .before .before .before .before .before .before .args .t .now)) (c .before .before .before .before .before .before .before .contents .ensures .0))))
+    slice-aggregate-lone-in-target
+    lone-in-target-requires
+    returns)

@@ -5,19 +5,61 @@ use borrow.Author.Needs.{needs}
 use Rattle.partners.proofs.lone_in_contents.Statement.{statement}
 use Rattle.partners.proofs.lone_in_contents.Tie as tie
 
+-- src/lib.rt:192:27
+slice-aggregate-bar-keys : tie.Need-slice-aggregate-bar-keys
+slice-aggregate-bar-keys c =
+    let contents = c .before .before .contents in
+    sym (front-length (contents .result) (contents .last .1 .1 .0) (contents .ensures .1) (contents .ensures .2))
+
+-- src/lib.rt:192:5
+bar-keys-requires : tie.Need-bar-keys-requires
+bar-keys-requires c κs =
+    let contents = c .before .before .before .contents in
+    front-few (contents .result) (contents .last .1 .1 .0) (contents .ensures .1) (contents .ensures .2)
+
+-- src/lib.rt:193:28
+slice-aggregate-first-lone : tie.Need-slice-aggregate-first-lone
+slice-aggregate-first-lone c =
+    let contents = c .before .before .before .before .before .before .contents in
+    sym (front-length (contents .result) (contents .last .1 .1 .0) (contents .ensures .1) (contents .ensures .2))
+
+-- src/lib.rt:193:38
+slice-aggregate-first-lone-2 : tie.Need-slice-aggregate-first-lone-2
+slice-aggregate-first-lone-2 c =
+    let contents = c .before .before .before .before .before .before .before .contents in
+    let bar-keys = c .before .before .before .bar-keys in
+    sym (front-length (contents .result) (bar-keys .last .1 .1 .0) (contents .ensures .1) (bar-keys .ensures .1))
+
+-- src/lib.rt:193:5
+first-lone-requires : tie.Need-first-lone-requires
+first-lone-requires c κs =
+    let after-contents = c .before .before .before .before .before .before .before in
+    let start = after-contents .before .before .before in
+    let contents = after-contents .contents in
+    let bar-keys = c .before .before .before .bar-keys in (
+      start .pre .0,
+      contents .ensures .0,
+      front-keys (contents .result) (contents .last .1 .1 .0) (contents .ensures .1) (contents .ensures .2)
+          (start .args .t .now) (bar-keys .last .1 .1 .0) (bar-keys .ensures .0),
+      front-few (contents .result) (contents .last .1 .1 .0) (contents .ensures .1) (contents .ensures .2),
+    )
+
 pub lone-in-contents-spec : {M : Type 1} → statement M
 lone-in-contents-spec =
     tie.close
     (tie.spec
+    -- by search: slice-aggregate-contents 191:41, contents-requires 191:9, array-share-prefix-os 192:27
+    (λ c. search needs) (λ c κs. search needs) (λ c. search needs)
+    slice-aggregate-bar-keys
+    -- by search: slice-aggregate-bar-keys-2 192:37
     (λ c. search needs)
-    (λ c κs. search needs)
+    bar-keys-requires
+    -- by search: array-share-prefix-os-2 193:28
     (λ c. search needs)
-    (λ c. sym (front-length (c .before .before .contents .result) (c .before .before .contents .last .1 .1 .0) (c .before .before .contents .ensures .1) (c .before .before .contents .ensures .2)))
+    slice-aggregate-first-lone
+    -- by search: array-share-prefix-bars 193:38
     (λ c. search needs)
-    (λ c κs. front-few (c .before .before .before .contents .result) (c .before .before .before .contents .last .1 .1 .0) (c .before .before .before .contents .ensures .1) (c .before .before .before .contents .ensures .2))
-    (λ c. search needs)
-    (λ c. sym (front-length (c .before .before .before .before .before .before .contents .result) (c .before .before .before .before .before .before .contents .last .1 .1 .0) (c .before .before .before .before .before .before .contents .ensures .1) (c .before .before .before .before .before .before .contents .ensures .2)))
-    (λ c. search needs)
-    (λ c. sym (front-length (c .before .before .before .before .before .before .before .contents .result) (c .before .before .before .bar-keys .last .1 .1 .0) (c .before .before .before .before .before .before .before .contents .ensures .1) (c .before .before .before .bar-keys .ensures .1)))
-    (λ c κs. (c .before .before .before .before .before .before .before .before .before .before .pre .0, c .before .before .before .before .before .before .before .contents .ensures .0, front-keys (c .before .before .before .before .before .before .before .contents .result) (c .before .before .before .before .before .before .before .contents .last .1 .1 .0) (c .before .before .before .before .before .before .before .contents .ensures .1) (c .before .before .before .before .before .before .before .contents .ensures .2) (c .before .before .before .before .before .before .before .before .before .before .args .t .now) (c .before .before .before .bar-keys .last .1 .1 .0) (c .before .before .before .bar-keys .ensures .0), front-few (c .before .before .before .before .before .before .before .contents .result) (c .before .before .before .before .before .before .before .contents .last .1 .1 .0) (c .before .before .before .before .before .before .before .contents .ensures .1) (c .before .before .before .before .before .before .before .contents .ensures .2)))
+    slice-aggregate-first-lone-2
+    first-lone-requires
+    -- by search: returns 185:1
     (λ c. search needs))

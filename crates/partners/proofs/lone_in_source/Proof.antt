@@ -10,10 +10,38 @@ use Rattle.partners.proofs.lone_in_source.Statement.{statement}
 use Rattle.partners.proofs.lone_in_source.Tie as tie
 
 abbrev Inv-loop : tie.InvT-loop
-Inv-loop os ks best₀ i₀ best i = (i ≤ length os) × (toward 7 best₀ (blamedKeys loneSKey [] os ks) ≡ toward 7 best (blamedKeys loneSKey (reverse (take i ks)) (drop i os) (drop i ks)))
+Inv-loop os ks best₀ i₀ best i =
+    (i ≤ length os)
+    × (toward 7 best₀ (blamedKeys loneSKey [] os ks)
+    ≡ toward 7 best (blamedKeys loneSKey (reverse (take i ks)) (drop i os) (drop i ks)))
 
 abbrev μ-loop : tie.MeasureT-loop
 μ-loop os ks best₀ i₀ best i = length os - i
+
+-- src/lib.rt:112:5
+loop-again : tie.Need-loop-again Inv-loop μ-loop
+loop-again c =
+    let after-loop = c .before .before .before .before .before in
+    let start = after-loop .before .before .before in
+    let loop = after-loop .loop in
+    let loop-test = c .before .before .before .before .loop-test in
+    let lone-s = c .before .before .before .lone-s in
+    let wide = c .before .wide in (
+      search needs,
+      loop .inv .1
+          ∙ blamed-on loneSKey (start .args .os .now) (start .args .ks .now) (start .pre) 7 (loop .best) (loop .i)
+          (lone-s .result) (wide .result) (c .lower-if .result) (loop-test .taken) (lone-s .ensures)
+          (wide .ensures .0) (c .lower-if .ensures),
+    )
+
+-- src/lib.rt:106:1
+returns : tie.Need-returns Inv-loop μ-loop
+returns c =
+    let start = c .before .before .before .before in
+    let loop = c .before .loop in
+    sym (loop .inv .1
+    ∙ blamed-end loneSKey (start .args .os .now) (start .args .ks .now) (start .pre) 7 (loop .best) (loop .i)
+    (c .loop-test .left))
 
 pub lone-in-source-spec : {M : Type 1} → statement M
 lone-in-source-spec =
@@ -21,13 +49,9 @@ lone-in-source-spec =
     (tie.spec
     Inv-loop
     μ-loop
-    (λ c. (search needs, refl))
-    (λ c κs. search needs)
-    (λ c. search needs)
-    (λ c. search needs)
-    (λ c κs. search needs)
-    (λ c κs. search needs)
-    (λ c. search needs)
-    (λ c. search needs)
-    (λ c. (search needs, c .before .before .before .before .before .loop .inv .1 ∙ blamed-on loneSKey (c .before .before .before .before .before .before .before .before .args .os .now) (c .before .before .before .before .before .before .before .before .args .ks .now) (c .before .before .before .before .before .before .before .before .pre) 7 (c .before .before .before .before .before .loop .best) (c .before .before .before .before .before .loop .i) (c .before .before .before .lone-s .result) (c .before .wide .result) (c .lower-if .result) (c .before .before .before .before .loop-test .taken) (c .before .before .before .lone-s .ensures) (c .before .wide .ensures .0) (c .lower-if .ensures)))
-    (λ c. sym (c .before .loop .inv .1 ∙ blamed-end loneSKey (c .before .before .before .before .args .os .now) (c .before .before .before .before .args .ks .now) (c .before .before .before .before .pre) 7 (c .before .loop .best) (c .before .loop .i) (c .loop-test .left))))
+    -- by one step: loop-holds 112:5, lone-s-requires 113:34, mul-wide 113:67, shared-slice-read-wide 113:67,
+    -- wide-requires 113:55, lower-if-requires 113:9, add-i 114:9, loop-less 112:5
+    (λ c. (search needs, refl)) (λ c κs. search needs) (λ c. search needs) (λ c. search needs)
+    (λ c κs. search needs) (λ c κs. search needs) (λ c. search needs) (λ c. search needs)
+    loop-again
+    returns)

@@ -10,10 +10,46 @@ use Rattle.partners.proofs.lone_in_target.Statement.{statement}
 use Rattle.partners.proofs.lone_in_target.Tie as tie
 
 abbrev Inv-loop : tie.InvT-loop
-Inv-loop os ks bars stack₀ best₀ i₀ stack best i = (i ≤ length os) × (length stack ≡ 1024) × (toward 7 best₀ (blamedKeys (loneInTarget bars) [] os ks) ≡ toward 7 best (blamedKeys (loneInTarget bars) (reverse (take i ks)) (drop i os) (drop i ks)))
+Inv-loop os ks bars stack₀ best₀ i₀ stack best i =
+    (i ≤ length os)
+    × (length stack ≡ 1024)
+    × (toward 7 best₀ (blamedKeys (loneInTarget bars) [] os ks)
+    ≡ toward 7 best (blamedKeys (loneInTarget bars) (reverse (take i ks)) (drop i os) (drop i ks)))
 
 abbrev μ-loop : tie.MeasureT-loop
 μ-loop os ks bars stack₀ best₀ i₀ stack best i = length os - i
+
+-- src/lib.rt:173:5
+loop-holds : tie.Need-loop-holds Inv-loop μ-loop
+loop-holds c = (search needs, search needs, refl)
+
+-- src/lib.rt:173:5
+loop-again : tie.Need-loop-again Inv-loop μ-loop
+loop-again c =
+    let after-loop-test = c .before .before .before .before .before .before in
+    let start = after-loop-test .before .before .before .before .before in
+    let args = start .args in
+    let loop = after-loop-test .before .loop in
+    let loop-test = after-loop-test .loop-test in
+    let stays-lone = c .before .before .before .before .stays-lone in
+    let wide = c .before .wide in (
+      search needs,
+      search needs,
+      loop .inv .2
+          ∙ blamed-on (loneInTarget (args .bars .now)) (args .os .now) (args .ks .now) (start .pre .0) 7
+          (loop .best) (loop .i) (stays-lone .result) (wide .result) (c .lower-if .result) (loop-test .taken)
+          (stays-lone .ensures .0) (wide .ensures .0) (c .lower-if .ensures),
+    )
+
+-- src/lib.rt:166:1
+returns : tie.Need-returns Inv-loop μ-loop
+returns c =
+    let start = c .before .before .before .before .before in
+    let args = start .args in
+    let loop = c .before .loop in
+    sym (loop .inv .2
+    ∙ blamed-end (loneInTarget (args .bars .now)) (args .os .now) (args .ks .now) (start .pre .0) 7 (loop .best)
+    (loop .i) (c .loop-test .left))
 
 pub lone-in-target-spec : {M : Type 1} → statement M
 lone-in-target-spec =
@@ -21,14 +57,10 @@ lone-in-target-spec =
     (tie.spec
     Inv-loop
     μ-loop
-    (λ c. (search needs, search needs, refl))
-    (λ c. search needs)
-    (λ c κs. search needs)
-    (λ c. search needs)
-    (λ c. search needs)
-    (λ c κs. search needs)
-    (λ c κs. search needs)
-    (λ c. search needs)
-    (λ c. search needs)
-    (λ c. (search needs, search needs, c .before .before .before .before .before .before .before .loop .inv .2 ∙ blamed-on (loneInTarget (c .before .before .before .before .before .before .before .before .before .before .before .args .bars .now)) (c .before .before .before .before .before .before .before .before .before .before .before .args .os .now) (c .before .before .before .before .before .before .before .before .before .before .before .args .ks .now) (c .before .before .before .before .before .before .before .before .before .before .before .pre .0) 7 (c .before .before .before .before .before .before .before .loop .best) (c .before .before .before .before .before .before .before .loop .i) (c .before .before .before .before .stays-lone .result) (c .before .wide .result) (c .lower-if .result) (c .before .before .before .before .before .before .loop-test .taken) (c .before .before .before .before .stays-lone .ensures .0) (c .before .wide .ensures .0) (c .lower-if .ensures)))
-    (λ c. sym (c .before .loop .inv .2 ∙ blamed-end (loneInTarget (c .before .before .before .before .before .args .bars .now)) (c .before .before .before .before .before .args .os .now) (c .before .before .before .before .before .args .ks .now) (c .before .before .before .before .before .pre .0) 7 (c .before .loop .best) (c .before .loop .i) (c .loop-test .left))))
+    loop-holds
+    -- by search: slice-aggregate-stays-lone 175:37, stays-lone-requires 175:13, mul-wide 177:25,
+    -- shared-slice-read-wide 177:25, wide-requires 177:13, lower-if-requires 174:9, add-i 179:9, loop-less 173:5
+    (λ c. search needs) (λ c κs. search needs) (λ c. search needs) (λ c. search needs) (λ c κs. search needs)
+    (λ c κs. search needs) (λ c. search needs) (λ c. search needs)
+    loop-again
+    returns)

@@ -8,11 +8,20 @@ use borrow.Author.Needs.{needs}
 use Rattle.partners.proofs.lone_in_targets.Statement.{statement}
 use Rattle.partners.proofs.lone_in_targets.Tie as tie
 
+-- src/lib.rt:223:1
+returns-2 : tie.Need-returns-2
+returns-2 c =
+    let args = c .before .before .before .before .before .args in
+    let start = args .start in
+    let t = args .t .now in
+    sym (ap (toward 7 start) (none-blamed (barKeys t (barred false t)) [] (args .os .now) (args .ks .now)
+    (sym (c .before .any-lone .ensures) ∙ c .if1 .left))
+    ∙ none-lower 7 start)
+
 pub lone-in-targets-spec : {M : Type 1} → statement M
 lone-in-targets-spec =
     tie.close
     (tie.spec
-    (λ c κs. search needs)
-    (λ c κs. search needs)
-    (λ c. search needs)
-    (λ c. sym (ap (toward 7 (c .before .before .before .before .before .args .start)) (none-blamed (barKeys (c .before .before .before .before .before .args .t .now) (barred false (c .before .before .before .before .before .args .t .now))) [] (c .before .before .before .before .before .args .os .now) (c .before .before .before .before .before .args .ks .now) (sym (c .before .any-lone .ensures) ∙ (c .if1 .left))) ∙ none-lower 7 (c .before .before .before .before .before .args .start))))
+    -- by search: any-lone-requires 227:8, lone-by-source-requires 228:9, returns 228:9
+    (λ c κs. search needs) (λ c κs. search needs) (λ c. search needs)
+    returns-2)

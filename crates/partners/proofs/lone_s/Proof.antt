@@ -11,23 +11,64 @@ use borrow.Author.Needs.{needs}
 use Rattle.partners.proofs.lone_s.Statement.{statement}
 use Rattle.partners.proofs.lone_s.Tie as tie
 
+-- src/lib.rt:58:9
+returns : tie.Need-returns
+returns c =
+    sym
+    (lone-not _ _ _ (rw (c .before .before .half-of .ensures, c .before .is-form-p .ensures) at (c .if1 .taken)))
+
+-- src/lib.rt:61:9
+returns-2 : tie.Need-returns-2
+returns-2 c =
+    let after-is-form-p = c .before .before .before .before .before in
+    let args = after-is-form-p .before .before .before .before .args in
+    let i = args .i in
+    let ks = args .ks .now in
+    let half-of = after-is-form-p .before .half-of in
+    let is-form-p = after-is-form-p .is-form-p in
+    let if1 = c .before .before .before .before .if1 in
+    let half-of2 = c .before .before .before .half-of2 in
+    sym (lone-start (reverse (take i ks)) (getD ks i 0) (drop (i + 1) ks)
+    (rw (half-of .ensures, is-form-p .ensures) at (if1 .left))
+    (rw (half-of2 .ensures) at (eq-eqb _ _ (c .before .before .if2 .taken)))
+    ∙ ap not (sym (simp tail-is at (c .partner-after .ensures))))
+
+-- src/lib.rt:63:21
+slice-aggregate-partner-before : tie.Need-slice-aggregate-partner-before
+slice-aggregate-partner-before c =
+    let args = c .before .before .before .before .before .before .before .before .args in
+    omega (arith, length-take (args .i) (args .ks .now))
+
+-- src/lib.rt:52:1
+returns-3 : tie.Need-returns-3
+returns-3 c =
+    let after-is-form-p = c .before .before .before .before .before in
+    let args = after-is-form-p .before .before .before .before .args in
+    let i = args .i in
+    let ks = args .ks .now in
+    let half-of = after-is-form-p .before .half-of in
+    let is-form-p = after-is-form-p .is-form-p in
+    let if1 = c .before .before .before .before .if1 in
+    let half-of2 = c .before .before .before .half-of2 in
+    sym (lone-end (reverse (take i ks)) (getD ks i 0) (drop (i + 1) ks)
+    (rw (half-of .ensures, is-form-p .ensures) at (if1 .left))
+    (rw (half-of2 .ensures) at (ne-eqb _ _ (c .before .before .if2 .left)))
+    ∙ ap not (sym (c .partner-before .ensures)))
+
 pub lone-s-spec : {M : Type 1} → statement M
 lone-s-spec =
     tie.close
     (tie.spec
-    (λ c. search needs)
-    (λ c. search needs)
+    -- by search: mul-k 56:13, shared-slice-read-k 56:13, half-of-requires 57:9, is-form-p-requires 57:34
+    (λ c. search needs) (λ c. search needs) (λ c κs. search needs) (λ c κs. search needs)
+    returns
+    -- by search: half-of-requires-2 60:8, add-partner-after 61:35, mul-partner-after 61:31,
+    -- sub-partner-after 61:31, part-partner-after-start 61:31, part-partner-after-end 61:31,
+    -- partner-after-requires 61:17
+    (λ c κs. search needs) (λ c. search needs) (λ c. search needs) (λ c. search needs) (λ c. search needs)
+    (λ c. search needs) (λ c κs. search needs)
+    returns-2
+    slice-aggregate-partner-before
+    -- by search: partner-before-requires 63:6
     (λ c κs. search needs)
-    (λ c κs. search needs)
-    (λ c. sym (lone-not _ _ _ (rw (c .before .before .half-of .ensures, c .before .is-form-p .ensures) at (c .if1 .taken))))
-    (λ c κs. search needs)
-    (λ c. search needs)
-    (λ c. search needs)
-    (λ c. search needs)
-    (λ c. search needs)
-    (λ c. search needs)
-    (λ c κs. search needs)
-    (λ c. sym (lone-start (reverse (take (c .before .before .before .before .before .before .before .before .before .args .i) (c .before .before .before .before .before .before .before .before .before .args .ks .now))) (getD (c .before .before .before .before .before .before .before .before .before .args .ks .now) (c .before .before .before .before .before .before .before .before .before .args .i) 0) (drop (c .before .before .before .before .before .before .before .before .before .args .i + 1) (c .before .before .before .before .before .before .before .before .before .args .ks .now)) (rw (c .before .before .before .before .before .before .half-of .ensures, c .before .before .before .before .before .is-form-p .ensures) at (c .before .before .before .before .if1 .left)) (rw (c .before .before .before .half-of2 .ensures) at (eq-eqb _ _ (c .before .before .if2 .taken))) ∙ ap not (sym (simp tail-is at (c .partner-after .ensures)))))
-    (λ c. omega (arith, length-take (c .before .before .before .before .before .before .before .before .args .i) (c .before .before .before .before .before .before .before .before .args .ks .now)))
-    (λ c κs. search needs)
-    (λ c. sym (lone-end (reverse (take (c .before .before .before .before .before .before .before .before .before .args .i) (c .before .before .before .before .before .before .before .before .before .args .ks .now))) (getD (c .before .before .before .before .before .before .before .before .before .args .ks .now) (c .before .before .before .before .before .before .before .before .before .args .i) 0) (drop (c .before .before .before .before .before .before .before .before .before .args .i + 1) (c .before .before .before .before .before .before .before .before .before .args .ks .now)) (rw (c .before .before .before .before .before .before .half-of .ensures, c .before .before .before .before .before .is-form-p .ensures) at (c .before .before .before .before .if1 .left)) (rw (c .before .before .before .half-of2 .ensures) at (ne-eqb _ _ (c .before .before .if2 .left))) ∙ ap not (sym (c .partner-before .ensures)))))
+    returns-3)

@@ -13,20 +13,51 @@ Inv-loop ks k i₀ i = (i ≤ length ks) × (partnerSKey k ks ≡ partnerSKey k 
 abbrev μ-loop : tie.MeasureT-loop
 μ-loop ks k i₀ i = length ks - i
 
+-- src/lib.rt:29:13
+returns : tie.Need-returns Inv-loop μ-loop
+returns c =
+    let after-loop-test = c .before .before .before .before .before in
+    let args = after-loop-test .before .before .before .args in
+    let loop = after-loop-test .before .loop in
+    let loop-test = after-loop-test .loop-test in
+    let alike = c .before .before .before .alike in
+    c .is-other .ensures
+    ∙ sym (loop .inv .1
+    ∙ after-met (args .k) (args .ks .now) (loop .i) (loop-test .taken)
+    (rw (alike .ensures, c .before .before .is-form-p .ensures) at (c .before .if1 .taken)))
+
+-- src/lib.rt:26:5
+loop-again : tie.Need-loop-again Inv-loop μ-loop
+loop-again c =
+    let after-loop = c .before .before .before .before .before in
+    let args = after-loop .before .before .args in
+    let loop = after-loop .loop in
+    let loop-test = c .before .before .before .before .loop-test in (
+      search needs,
+      loop .inv .1
+          ∙ after-passed (args .k) (args .ks .now) (loop .i) (loop-test .taken)
+          (rw (c .before .before .alike .ensures, c .before .is-form-p .ensures) at (c .if1 .left)),
+    )
+
+-- src/lib.rt:22:1
+returns-2 : tie.Need-returns-2 Inv-loop μ-loop
+returns-2 c =
+    let args = c .before .before .before .args in
+    let loop = c .before .loop in
+    sym (loop .inv .1 ∙ after-none (args .k) (args .ks .now) (loop .i) (c .loop-test .left))
+
 pub partner-after-spec : {M : Type 1} → statement M
 partner-after-spec =
     tie.close
     (tie.spec
     Inv-loop
     μ-loop
-    (λ c. (search needs, refl))
-    (λ c. search needs)
-    (λ c. search needs)
-    (λ c κs. search needs)
-    (λ c κs. search needs)
-    (λ c κs. search needs)
-    (λ c. c .is-other .ensures ∙ sym (c .before .before .before .before .before .before .loop .inv .1 ∙ after-met (c .before .before .before .before .before .before .before .before .args .k) (c .before .before .before .before .before .before .before .before .args .ks .now) (c .before .before .before .before .before .before .loop .i) (c .before .before .before .before .before .loop-test .taken) (rw (c .before .before .before .alike .ensures, c .before .before .is-form-p .ensures) at (c .before .if1 .taken))))
-    (λ c. search needs)
-    (λ c. search needs)
-    (λ c. (search needs, c .before .before .before .before .before .loop .inv .1 ∙ after-passed (c .before .before .before .before .before .before .before .args .k) (c .before .before .before .before .before .before .before .args .ks .now) (c .before .before .before .before .before .loop .i) (c .before .before .before .before .loop-test .taken) (rw (c .before .before .alike .ensures, c .before .is-form-p .ensures) at (c .if1 .left))))
-    (λ c. sym (c .before .loop .inv .1 ∙ after-none (c .before .before .before .args .k) (c .before .before .before .args .ks .now) (c .before .loop .i) (c .loop-test .left))))
+    -- by one step: loop-holds 26:5, mul-y 27:17, shared-slice-read-y 27:17, alike-requires 28:12,
+    -- is-form-p-requires 28:33, is-other-requires 29:13
+    (λ c. (search needs, refl)) (λ c. search needs) (λ c. search needs) (λ c κs. search needs)
+    (λ c κs. search needs) (λ c κs. search needs)
+    returns
+    -- by search: add-i 31:9, loop-less 26:5
+    (λ c. search needs) (λ c. search needs)
+    loop-again
+    returns-2)

@@ -16,20 +16,61 @@ Inv-loop ks k i₀ i = (i ≤ length ks) × (partnerSKey k (reverse ks) ≡ part
 abbrev μ-loop : tie.MeasureT-loop
 μ-loop ks k i₀ i = i
 
+-- src/lib.rt:41:5
+loop-holds : tie.Need-loop-holds Inv-loop μ-loop
+loop-holds c =
+    let args = c .before .args in
+    let ks = args .ks .now in (
+      search needs,
+      ap (λ (l : List ℕ). partnerSKey (args .k) (reverse l)) (sym (take-all (length ks) ks (omega arith))),
+    )
+
+-- src/lib.rt:45:13
+returns : tie.Need-returns Inv-loop μ-loop
+returns c =
+    let after-loop-test = c .before .before .before .before .before in
+    let args = after-loop-test .before .before .before .args in
+    let loop = after-loop-test .before .loop in
+    let loop-test = after-loop-test .loop-test in
+    let alike = c .before .before .before .alike in
+    c .is-other .ensures
+    ∙ sym (loop .inv .1
+    ∙ before-met (args .k) (args .ks .now) (loop .i) (loop-test .taken) (loop .inv .0)
+    (rw (alike .ensures, c .before .before .is-form-p .ensures) at (c .before .if1 .taken)))
+
+-- src/lib.rt:41:5
+loop-again : tie.Need-loop-again Inv-loop μ-loop
+loop-again c =
+    let after-loop = c .before .before .before .before .before in
+    let args = after-loop .before .before .args in
+    let loop = after-loop .loop in
+    let loop-test = c .before .before .before .before .loop-test in (
+      search needs,
+      loop .inv .1
+          ∙ before-passed (args .k) (args .ks .now) (loop .i) (loop-test .taken) (loop .inv .0)
+          (rw (c .before .before .alike .ensures, c .before .is-form-p .ensures) at (c .if1 .left)),
+    )
+
+-- src/lib.rt:37:1
+returns-2 : tie.Need-returns-2 Inv-loop μ-loop
+returns-2 c =
+    let args = c .before .before .before .args in
+    let loop = c .before .loop in
+    sym (loop .inv .1 ∙ before-none (args .k) (args .ks .now) (loop .i) (c .loop-test .left))
+
 pub partner-before-spec : {M : Type 1} → statement M
 partner-before-spec =
     tie.close
     (tie.spec
     Inv-loop
     μ-loop
-    (λ c. (search needs, ap (λ (l : List ℕ). partnerSKey (c .before .args .k) (reverse l)) (sym (take-all (length (c .before .args .ks .now)) (c .before .args .ks .now) (omega arith)))))
-    (λ c. search needs)
-    (λ c. search needs)
-    (λ c. search needs)
+    loop-holds
+    -- by search: sub-i 42:9, mul-y 43:17, shared-slice-read-y 43:17, alike-requires 44:12,
+    -- is-form-p-requires 44:33, is-other-requires 45:13
+    (λ c. search needs) (λ c. search needs) (λ c. search needs) (λ c κs. search needs) (λ c κs. search needs)
     (λ c κs. search needs)
-    (λ c κs. search needs)
-    (λ c κs. search needs)
-    (λ c. c .is-other .ensures ∙ sym (c .before .before .before .before .before .before .loop .inv .1 ∙ before-met (c .before .before .before .before .before .before .before .before .args .k) (c .before .before .before .before .before .before .before .before .args .ks .now) (c .before .before .before .before .before .before .loop .i) (c .before .before .before .before .before .loop-test .taken) (c .before .before .before .before .before .before .loop .inv .0) (rw (c .before .before .before .alike .ensures, c .before .before .is-form-p .ensures) at (c .before .if1 .taken))))
+    returns
+    -- by search: loop-less 41:5
     (λ c. search needs)
-    (λ c. (search needs, c .before .before .before .before .before .loop .inv .1 ∙ before-passed (c .before .before .before .before .before .before .before .args .k) (c .before .before .before .before .before .before .before .args .ks .now) (c .before .before .before .before .before .loop .i) (c .before .before .before .before .loop-test .taken) (c .before .before .before .before .before .loop .inv .0) (rw (c .before .before .alike .ensures, c .before .is-form-p .ensures) at (c .if1 .left))))
-    (λ c. sym (c .before .loop .inv .1 ∙ before-none (c .before .before .before .args .k) (c .before .before .before .args .ks .now) (c .before .loop .i) (c .loop-test .left))))
+    loop-again
+    returns-2)

@@ -5,11 +5,37 @@ use borrow.Author.Needs.{needs}
 use Rattle.partners.proofs.rule_7.Statement.{statement}
 use Rattle.partners.proofs.rule_7.Tie as tie
 
+-- src/lib.rt:242:9
+lone-in-source-requires : tie.Need-lone-in-source-requires
+lone-in-source-requires c κs =
+    let start = c .before .before .before .before .before .before in
+    ap length (start .pre .2) ∙ keys-length (start .args .t .now) (start .args .src .now)
+
+-- src/lib.rt:238:5
+lone-in-targets-requires : tie.Need-lone-in-targets-requires
+lone-in-targets-requires c κs =
+    let start = c .before .before .before .before .before .before .before in
+    let pre = start .pre in
+    (pre .0, pre .7, ap length (pre .4) ∙ keys-length (start .args .t .now) (start .args .tgt .now))
+
+-- src/lib.rt:234:1
+returns : tie.Need-returns
+returns c =
+    let start = c .before .before .before .before .before .before .before .before in
+    let args = start .args in
+    let pre = start .pre in
+    let lone-in-contents = c .before .before .lone-in-contents in
+    let lone-in-source = c .before .lone-in-source in
+    rule-7-is (args .t .now) (pre .0) (args .src .now) (args .skeys .now) (args .tgt .now) (args .tkeys .now)
+    (lone-in-contents .result) (lone-in-source .result) (c .lone-in-targets .result) (pre .1) (pre .2) (pre .3)
+    (pre .4) (lone-in-contents .ensures) (lone-in-source .ensures) (c .lone-in-targets .ensures)
+
 pub rule-7-spec : {M : Type 1} → statement M
 rule-7-spec =
     tie.close
     (tie.spec
+    -- by search: lone-in-contents-requires 242:36
     (λ c κs. search needs)
-    (λ c κs. ap length (c .before .before .before .before .before .before .pre .2) ∙ keys-length (c .before .before .before .before .before .before .args .t .now) (c .before .before .before .before .before .before .args .src .now))
-    (λ c κs. (c .before .before .before .before .before .before .before .pre .0, c .before .before .before .before .before .before .before .pre .7, ap length (c .before .before .before .before .before .before .before .pre .4) ∙ keys-length (c .before .before .before .before .before .before .before .args .t .now) (c .before .before .before .before .before .before .before .args .tgt .now)))
-    (λ c. rule-7-is (c .before .before .before .before .before .before .before .before .args .t .now) (c .before .before .before .before .before .before .before .before .pre .0) (c .before .before .before .before .before .before .before .before .args .src .now) (c .before .before .before .before .before .before .before .before .args .skeys .now) (c .before .before .before .before .before .before .before .before .args .tgt .now) (c .before .before .before .before .before .before .before .before .args .tkeys .now) (c .before .before .lone-in-contents .result) (c .before .lone-in-source .result) (c .lone-in-targets .result) (c .before .before .before .before .before .before .before .before .pre .1) (c .before .before .before .before .before .before .before .before .pre .2) (c .before .before .before .before .before .before .before .before .pre .3) (c .before .before .before .before .before .before .before .before .pre .4) (c .before .before .lone-in-contents .ensures) (c .before .lone-in-source .ensures) (c .lone-in-targets .ensures)))
+    lone-in-source-requires
+    lone-in-targets-requires
+    returns)

@@ -7,24 +7,50 @@ use borrow.Author.Needs.{needs}
 use Rattle.partners.proofs.waits.Statement.{statement}
 use Rattle.partners.proofs.waits.Tie as tie
 
+-- src/lib.rt:126:9
+returns : tie.Need-returns
+unfolding waits
+returns c = (simp (sym (c .before .is-other .ensures) ∙ not-true _ (c .if1 .taken)), search needs)
+
+-- src/lib.rt:129:9
+returns-2 : tie.Need-returns-2
+unfolding waits
+returns-2 c =
+    let is-lone = c .before .before .before .is-lone in
+    (simp (sym (is-lone .ensures .0) ∙ c .if2 .taken, and-false), search needs)
+
+-- src/lib.rt:121:1
+returns-3 : tie.Need-returns-3
+unfolding waits
+returns-3 c =
+    let after-is-lone = c .before .before .before .before .before .before in
+    let is-other = after-is-lone .before .before .before .is-other in
+    let if1 = after-is-lone .before .before .if1 in
+    let is-lone = after-is-lone .is-lone in
+    let if2 = c .before .before .before .if2 in (
+      simp (
+        sym (is-other .ensures) ∙ not-false _ (if1 .left),
+        sym (is-lone .ensures .0) ∙ if2 .left,
+        c .before .before .lone-s .ensures,
+        c .is-targeted .ensures,
+        tail-is,
+      ),
+      search needs,
+    )
+
 pub waits-spec : {M : Type 1} → statement M
 unfolding waits
 waits-spec =
     tie.close
     (tie.spec
-    (λ c. search needs)
-    (λ c. search needs)
-    (λ c κs. search needs)
-    (λ c. (simp (sym (c .before .is-other .ensures) ∙ not-true _ (c .if1 .taken)), search needs))
-    (λ c κs. search needs)
-    (λ c. search needs)
-    (λ c. (simp (sym (c .before .before .before .is-lone .ensures .0) ∙ (c .if2 .taken), and-false), search needs))
-    (λ c κs. search needs)
-    (λ c. search needs)
-    (λ c. search needs)
-    (λ c. search needs)
-    (λ c. search needs)
-    (λ c. search needs)
-    (λ c κs. search needs)
-    (λ c. search needs)
-    (λ c. (simp (sym (c .before .before .before .before .before .before .before .before .before .is-other .ensures) ∙ not-false _ (c .before .before .before .before .before .before .before .before .if1 .left), sym (c .before .before .before .before .before .before .is-lone .ensures .0) ∙ (c .before .before .before .if2 .left), c .before .before .lone-s .ensures, c .is-targeted .ensures, tail-is), search needs)))
+    -- by search: mul-is-other 125:27, shared-slice-read-is-other 125:27, is-other-requires 125:9
+    (λ c. search needs) (λ c. search needs) (λ c κs. search needs)
+    returns
+    -- by search: is-lone-requires 128:8, same-length 129:9
+    (λ c κs. search needs) (λ c. search needs)
+    returns-2
+    -- by search: lone-s-requires 131:6, add-is-targeted 131:43, mul-is-targeted 131:37, sub-is-targeted 131:37,
+    -- part-is-targeted-start 131:37, part-is-targeted-end 131:37, is-targeted-requires 131:25, same-length-2 121:1
+    (λ c κs. search needs) (λ c. search needs) (λ c. search needs) (λ c. search needs) (λ c. search needs)
+    (λ c. search needs) (λ c κs. search needs) (λ c. search needs)
+    returns-3)

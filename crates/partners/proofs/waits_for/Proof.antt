@@ -9,10 +9,53 @@ use Rattle.partners.proofs.waits_for.Statement.{statement}
 use Rattle.partners.proofs.waits_for.Tie as tie
 
 abbrev Inv-loop : tie.InvT-loop
-Inv-loop x bars stack₀ i₀ stack i = (i ≤ length bars) × (length stack ≡ 1024) × (waitsFor x [] bars ≡ waitsFor x (reverse (take i bars)) (drop i bars))
+Inv-loop x bars stack₀ i₀ stack i =
+    (i ≤ length bars)
+    × (length stack ≡ 1024)
+    × (waitsFor x [] bars ≡ waitsFor x (reverse (take i bars)) (drop i bars))
 
 abbrev μ-loop : tie.MeasureT-loop
 μ-loop x bars stack₀ i₀ stack i = length bars - i
+
+-- src/lib.rt:140:5
+loop-holds : tie.Need-loop-holds Inv-loop μ-loop
+loop-holds c = (search needs, search needs, refl)
+
+-- src/lib.rt:142:13
+returns : tie.Need-returns Inv-loop μ-loop
+returns c =
+    let after-loop-test = c .before .before .before .before .before in
+    let args = after-loop-test .before .before .before .before .args in
+    let loop = after-loop-test .before .loop in
+    let loop-test = after-loop-test .loop-test in
+    let waits-call = c .before .before .before .waits in (
+      sym (loop .inv .2
+          ∙ some-on (waits (args .x)) (args .bars .now) (loop .i) (loop-test .taken)
+          (sym (waits-call .ensures .0) ∙ c .if1 .taken)),
+      search needs,
+    )
+
+-- src/lib.rt:140:5
+loop-again : tie.Need-loop-again Inv-loop μ-loop
+loop-again c =
+    let after-loop-test = c .before .before .before .before .before in
+    let args = after-loop-test .before .before .before .before .args in
+    let loop = after-loop-test .before .loop in
+    let loop-test = after-loop-test .loop-test in
+    let waits-call = c .before .before .before .waits in (
+      search needs,
+      search needs,
+      loop .inv .2
+          ∙ some-off (waits (args .x)) (args .bars .now) (loop .i) (loop-test .taken)
+          (sym (waits-call .ensures .0) ∙ c .if1 .left),
+    )
+
+-- src/lib.rt:135:1
+returns-2 : tie.Need-returns-2 Inv-loop μ-loop
+returns-2 c =
+    let args = c .before .before .before .before .args in
+    let loop = c .before .loop in
+    (sym (loop .inv .2 ∙ some-end (waits (args .x)) (args .bars .now) (loop .i) (c .loop-test .left)), search needs)
 
 pub waits-for-spec : {M : Type 1} → statement M
 waits-for-spec =
@@ -20,12 +63,13 @@ waits-for-spec =
     (tie.spec
     Inv-loop
     μ-loop
-    (λ c. (search needs, search needs, refl))
-    (λ c κs. search needs)
+    loop-holds
+    -- by search: waits-requires 141:12, same-length 142:13
+    (λ c κs. search needs) (λ c. search needs)
+    returns
+    -- by search: add-i 144:9, loop-less 140:5
+    (λ c. search needs) (λ c. search needs)
+    loop-again
+    -- by search: same-length-2 135:1
     (λ c. search needs)
-    (λ c. (sym (c .before .before .before .before .before .before .loop .inv .2 ∙ some-on (waits (c .before .before .before .before .before .before .before .before .before .args .x)) (c .before .before .before .before .before .before .before .before .before .args .bars .now) (c .before .before .before .before .before .before .loop .i) (c .before .before .before .before .before .loop-test .taken) (sym (c .before .before .before .waits .ensures .0) ∙ (c .if1 .taken))), search needs))
-    (λ c. search needs)
-    (λ c. search needs)
-    (λ c. (search needs, search needs, c .before .before .before .before .before .before .loop .inv .2 ∙ some-off (waits (c .before .before .before .before .before .before .before .before .before .args .x)) (c .before .before .before .before .before .before .before .before .before .args .bars .now) (c .before .before .before .before .before .before .loop .i) (c .before .before .before .before .before .loop-test .taken) (sym (c .before .before .before .waits .ensures .0) ∙ (c .if1 .left))))
-    (λ c. search needs)
-    (λ c. (sym (c .before .loop .inv .2 ∙ some-end (waits (c .before .before .before .before .args .x)) (c .before .before .before .before .args .bars .now) (c .before .loop .i) (c .loop-test .left)), search needs)))
+    returns-2)

@@ -1,5 +1,6 @@
 use Rattle.orders.proofs.WalkLaws.{walked}
-use Rattle.places.proofs.Places.{At, at-start, at-end}
+use Rattle.places.specs.Offsets.{At}
+use Rattle.places.proofs.Places.{at-start, at-end}
 use Rattle.xliff.specs.Encode.{Record, unit-records}
 use Rattle.xliff.specs.Parse.{unit}
 use native.Mathlib.Omega.{arith}

@@ -2,12 +2,16 @@ use borrow.Author.Needs.{needs}
 use Rattle.remove_target.proofs.remove_target.Statement.{statement}
 use Rattle.remove_target.proofs.remove_target.Tie as tie
 
+-- src/lib.rt:72:1
+returns : tie.Need-returns
+returns c =
+    let wide = c .before .before .before .before .wide in
+    simp (wide .ensures) at (c .before .before .remove-checked .ensures)
+
 pub remove-target-spec : {M : Type 1} → statement M
 remove-target-spec =
     tie.close
     (tie.spec
-    (λ c κs. search needs)
-    (λ c κs. search needs)
-    (λ c κs. search needs)
-    (λ c. search needs)
-    (λ c. simp (c .before .before .before .before .wide .ensures) at (c .before .before .remove-checked .ensures)))
+    -- by search: check-requires 75:27, wide-requires 75:54, remove-checked-requires 75:5, same-length 72:1
+    (λ c κs. search needs) (λ c κs. search needs) (λ c κs. search needs) (λ c. search needs)
+    returns)

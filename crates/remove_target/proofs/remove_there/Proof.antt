@@ -8,11 +8,48 @@ use borrow.Author.Needs.{needs}
 use Rattle.remove_target.proofs.remove_there.Statement.{statement}
 use Rattle.remove_target.proofs.remove_there.Tie as tie
 
+-- src/lib.rt:40:9
+returns : tie.Need-returns
+returns c =
+    let start = c .before .before .before .before in
+    let args = start .args in
+    let out = args .out .now in
+    let table = args .table .now in
+    let (v, st) = start .pre in
+    let (b, p, a, f, s) = st in
+    answers-refused _ 20 0 out
+    (refused-20 table (args .n) (length out) v b p a f
+    (lacks-is table (args .place) (p .target) (s .target) ∙ c .if1 .taken))
+
+-- src/lib.rt:42:5
+remove-ended-requires : tie.Need-remove-ended-requires
+remove-ended-requires c κs =
+    let pre = c .before .before .before .before .before .pre in
+    let (v, st) = pre in
+    let (b, p, a, f, s) = st in
+    (v, (b, p, a, s))
+
+-- src/lib.rt:35:1
+returns-2 : tie.Need-returns-2
+returns-2 c =
+    let start = c .before .before .before .before .before .before .before .before in
+    let args = start .args in
+    let out = args .out .now in
+    let table = args .table .now in
+    let if1 = c .before .before .before .before .if1 in
+    let remove-ended = c .before .before .remove-ended in
+    let (v, st) = start .pre in
+    let (b, p, a, f, s) = st in
+    subst (λ (o : Outcome). Answers o (remove-ended .result) out (remove-ended .last .1 .1 .0))
+    (sym (ends table (args .n) (length out) v b p a f
+    (lacks-is table (args .place) (p .target) (s .target) ∙ if1 .left))) (remove-ended .ensures b p a s)
+
 pub remove-there-spec : {M : Type 1} → statement M
 remove-there-spec =
     tie.close
     (tie.spec
-    (λ c. let (v, st) = (c .before .before .before .before .pre) in let (b, p, a, f, s) = st in answers-refused _ 20 0 (c .before .before .before .before .args .out .now) (refused-20 (c .before .before .before .before .args .table .now) (c .before .before .before .before .args .n) (length (c .before .before .before .before .args .out .now)) v b p a f (lacks-is (c .before .before .before .before .args .table .now) (c .before .before .before .before .args .place) (p .target) (s .target) ∙ (c .if1 .taken))))
-    (λ c κs. let (v, st) = (c .before .before .before .before .before .pre) in let (b, p, a, f, s) = st in (v, (b, p, a, s)))
+    returns
+    remove-ended-requires
+    -- by search: same-length 35:1
     (λ c. search needs)
-    (λ c. let (v, st) = (c .before .before .before .before .before .before .before .before .pre) in let (b, p, a, f, s) = st in subst (λ (o : Outcome). Answers o (c .before .before .remove-ended .result) (c .before .before .before .before .before .before .before .before .args .out .now) (c .before .before .remove-ended .last .1 .1 .0)) (sym (ends (c .before .before .before .before .before .before .before .before .args .table .now) (c .before .before .before .before .before .before .before .before .args .n) (length (c .before .before .before .before .before .before .before .before .args .out .now)) v b p a f (lacks-is (c .before .before .before .before .before .before .before .before .args .table .now) (c .before .before .before .before .before .before .before .before .args .place) (p .target) (s .target) ∙ (c .before .before .before .before .if1 .left)))) (c .before .before .remove-ended .ensures b p a s)))
+    returns-2)

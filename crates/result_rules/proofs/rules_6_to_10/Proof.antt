@@ -3,10 +3,18 @@ use borrow.Author.Needs.{needs}
 use Rattle.result_rules.proofs.rules_6_to_10.Statement.{statement}
 use Rattle.result_rules.proofs.rules_6_to_10.Tie as tie
 
+-- src/lib.rt:91:1
+returns : tie.Need-returns
+returns c =
+    let t = c .before .before .before .args .t .now in
+    let rules-6-to-10 = c .before .rules-6-to-10 in
+    number-broken t _ (rules-6-to-10 .result) (c .number-of .result) (c .number-of .ensures)
+    (rules-6-to-10 .ensures)
+
 pub rules-6-to-10-spec : {M : Type 1} → statement M
 rules-6-to-10-spec =
     tie.close
     (tie.spec
-    (λ c κs. search needs)
-    (λ c κs. search needs)
-    (λ c. number-broken (c .before .before .before .args .t .now) _ (c .before .rules-6-to-10 .result) (c .number-of .result) (c .number-of .ensures) (c .before .rules-6-to-10 .ensures)))
+    -- by search: rules-6-to-10-requires 95:15, number-of-requires 95:5
+    (λ c κs. search needs) (λ c κs. search needs)
+    returns)

@@ -14,10 +14,72 @@ use Rattle.sequences.proofs.collect.Statement.{statement}
 use Rattle.sequences.proofs.collect.Tie as tie
 
 abbrev Inv-loop : tie.InvT-loop
-Inv-loop t heads orders q out₀ n m₀ i₀ out m i = Filled out m (gather (of-order q) (drop i (heads-of t))) (take n out₀ ++ offsets false q t) (length (offsets false q t) + n) (length out₀)
+Inv-loop t heads orders q out₀ n m₀ i₀ out m i =
+    Filled out m (gather (of-order q) (drop i (heads-of t))) (take n out₀ ++ offsets false q t)
+    (length (offsets false q t) + n) (length out₀)
 
 abbrev μ-loop : tie.MeasureT-loop
 μ-loop t heads orders q out₀ n m₀ i₀ out m i = length heads - i
+
+-- src/lib.rt:131:5
+loop-holds : tie.Need-loop-holds Inv-loop μ-loop
+loop-holds c =
+    let args = c .before .before .before .before .args in
+    let e = offsets-by-heads (args .q) (args .t .now) in
+    record {
+      sized = refl;
+      all = ap (λ (l : List ℕ). take (args .n) (args .out .now) ++ l) (sym e);
+      count = omega (arith, ap length e);
+    }
+
+-- src/lib.rt:132:9
+markers-of-requires : tie.Need-markers-of-requires Inv-loop μ-loop
+markers-of-requires c κs =
+    let start = c .before .before .before .before .before .before .before in
+    let args = start .args in
+    let t = args .t .now in
+    let q = args .q in
+    let pre = start .pre in
+    let loop = c .before .before .loop in
+    let loop-test = c .before .loop-test in
+    let e = heads-more t (args .heads .now) (loop .i) (pre .0) (pre .2) (loop-test .taken) q in (
+      pre .0,
+      pre .1,
+      pre .2,
+      loop-test .taken,
+      fill-room (of-order q (head-number t (loop .i))) _ (loop .inv) e (pre .3),
+      omega (arith, loop .inv .sized, pre .4),
+      pre .5,
+      pre .6,
+    )
+
+-- src/lib.rt:131:5
+loop-again : tie.Need-loop-again Inv-loop μ-loop
+loop-again c =
+    let after-loop = c .before .before .before .before .before in
+    let start = after-loop .before .before .before .before .before in
+    let args = start .args in
+    let t = args .t .now in
+    let q = args .q in
+    let pre = start .pre in
+    let loop = after-loop .loop in
+    let loop-test = c .before .before .before .before .loop-test in
+    let e = heads-more t (args .heads .now) (loop .i) (pre .0) (pre .2) (loop-test .taken) q in
+    fill-on (of-order q (head-number t (loop .i))) _ (loop .inv) e (c .before .before .markers-of .ensures)
+
+-- src/lib.rt:125:1
+same-length : tie.Need-same-length Inv-loop μ-loop
+same-length c = c .before .loop .inv .sized
+
+-- src/lib.rt:125:1
+returns : tie.Need-returns Inv-loop μ-loop
+returns c =
+    let start = c .before .before .before .before .before .before in
+    let args = start .args in
+    let loop = c .before .loop in
+    let f = fill-end (loop .inv)
+    (heads-done (args .t .now) (args .heads .now) (loop .i) (args .q) (start .pre .2) (c .loop-test .left)) in
+    (f .0, f .1, loop .inv .sized)
 
 pub collect-spec : {M : Type 1} → statement M
 collect-spec =
@@ -25,10 +87,10 @@ collect-spec =
     (tie.spec
     Inv-loop
     μ-loop
-    (λ c. let e = offsets-by-heads (c .before .before .before .before .args .q) (c .before .before .before .before .args .t .now) in record { sized = refl; all = ap (λ (l : List ℕ). take (c .before .before .before .before .args .n) (c .before .before .before .before .args .out .now) ++ l) (sym e); count = omega (arith, ap length e) })
-    (λ c κs. let e = heads-more (c .before .before .before .before .before .before .before .args .t .now) (c .before .before .before .before .before .before .before .args .heads .now) (c .before .before .loop .i) (c .before .before .before .before .before .before .before .pre .0) (c .before .before .before .before .before .before .before .pre .2) (c .before .loop-test .taken) (c .before .before .before .before .before .before .before .args .q) in (c .before .before .before .before .before .before .before .pre .0, c .before .before .before .before .before .before .before .pre .1, c .before .before .before .before .before .before .before .pre .2, c .before .loop-test .taken, fill-room (of-order (c .before .before .before .before .before .before .before .args .q) (head-number (c .before .before .before .before .before .before .before .args .t .now) (c .before .before .loop .i))) _ (c .before .before .loop .inv) e (c .before .before .before .before .before .before .before .pre .3), omega (arith, c .before .before .loop .inv .sized, c .before .before .before .before .before .before .before .pre .4), c .before .before .before .before .before .before .before .pre .5, c .before .before .before .before .before .before .before .pre .6))
-    (λ c. search needs)
-    (λ c. search needs)
-    (λ c. let e = heads-more (c .before .before .before .before .before .before .before .before .before .before .args .t .now) (c .before .before .before .before .before .before .before .before .before .before .args .heads .now) (c .before .before .before .before .before .loop .i) (c .before .before .before .before .before .before .before .before .before .before .pre .0) (c .before .before .before .before .before .before .before .before .before .before .pre .2) (c .before .before .before .before .loop-test .taken) (c .before .before .before .before .before .before .before .before .before .before .args .q) in fill-on (of-order (c .before .before .before .before .before .before .before .before .before .before .args .q) (head-number (c .before .before .before .before .before .before .before .before .before .before .args .t .now) (c .before .before .before .before .before .loop .i))) _ (c .before .before .before .before .before .loop .inv) e (c .before .before .markers-of .ensures))
-    (λ c. c .before .loop .inv .sized)
-    (λ c. let f = fill-end (c .before .loop .inv) (heads-done (c .before .before .before .before .before .before .args .t .now) (c .before .before .before .before .before .before .args .heads .now) (c .before .loop .i) (c .before .before .before .before .before .before .args .q) (c .before .before .before .before .before .before .pre .2) (c .loop-test .left)) in (f .0, f .1, c .before .loop .inv .sized)))
+    loop-holds
+    markers-of-requires
+    -- by search: add-i 133:9, loop-less 131:5
+    (λ c. search needs) (λ c. search needs)
+    loop-again
+    same-length
+    returns)

@@ -14,21 +14,60 @@ Inv-loop t heads out₀ i₀ out i = (i ≤ length heads) × (length out ≡ len
 abbrev μ-loop : tie.MeasureT-loop
 μ-loop t heads out₀ i₀ out i = length heads - i
 
+-- src/lib.rt:98:5
+loop-holds : tie.Need-loop-holds Inv-loop μ-loop
+loop-holds c = (omega arith, refl, λ k l. absurd (omega arith))
+
+-- src/lib.rt:100:9
+slice-write-out : tie.Need-slice-write-out Inv-loop μ-loop
+slice-write-out c =
+    let pre = c .before .before .before .before .before .before .before .before .pre in
+    let loop = c .before .before .before .before .loop in
+    let loop-test = c .before .before .before .loop-test in
+    omega (arith, loop-test .taken, pre .2, loop .inv .1)
+
+-- src/lib.rt:98:5
+loop-again : tie.Need-loop-again Inv-loop μ-loop
+loop-again c =
+    let start = c .before .before .before .before .before .before .before .before in
+    let args = start .args in
+    let t = args .t .now in
+    let pre = start .pre in
+    let loop = c .before .before .before .before .loop in
+    let inv = loop .inv in
+    let loop-test = c .before .before .before .loop-test in
+    let wide = c .before .wide in (
+      omega (arith, loop-test .taken),
+      simp length-set (inv .1),
+      ordered-on t (loop .out) (loop .i) (c .glance-at .result .order)
+          (omega (arith, loop-test .taken, pre .2, inv .1)) (inv .2)
+          (begun t (args .heads .now) (loop .i) (pre .0) (pre .1) (loop-test .taken) (wide .result)
+          (wide .ensures .0) (c .glance-at .result) (c .glance-at .ensures) .order),
+    )
+
+-- src/lib.rt:93:1
+same-length : tie.Need-same-length Inv-loop μ-loop
+same-length c = c .before .loop .inv .1
+
+-- src/lib.rt:93:1
+returns : tie.Need-returns Inv-loop μ-loop
+returns c =
+    let loop = c .before .loop in
+    (loop .inv .1, λ k l. loop .inv .2 k (omega (arith, l, c .loop-test .left)))
+
 pub head-orders-spec : {M : Type 1} → statement M
 head-orders-spec =
     tie.close
     (tie.spec
     Inv-loop
     μ-loop
-    (λ c. (omega arith, refl, λ k l. absurd (omega arith)))
-    (λ c. search needs)
-    (λ c. search needs)
-    (λ c κs. search needs)
-    (λ c κs. search needs)
-    (λ c. search needs)
-    (λ c. omega (arith, (c .before .before .before .loop-test .taken), c .before .before .before .before .before .before .before .before .pre .2, c .before .before .before .before .loop .inv .1))
-    (λ c. search needs)
-    (λ c. search needs)
-    (λ c. (omega (arith, (c .before .before .before .loop-test .taken)), simp length-set (c .before .before .before .before .loop .inv .1), ordered-on (c .before .before .before .before .before .before .before .before .args .t .now) (c .before .before .before .before .loop .out) (c .before .before .before .before .loop .i) (c .glance-at .result .order) (omega (arith, (c .before .before .before .loop-test .taken), c .before .before .before .before .before .before .before .before .pre .2, c .before .before .before .before .loop .inv .1)) (c .before .before .before .before .loop .inv .2) (begun (c .before .before .before .before .before .before .before .before .args .t .now) (c .before .before .before .before .before .before .before .before .args .heads .now) (c .before .before .before .before .loop .i) (c .before .before .before .before .before .before .before .before .pre .0) (c .before .before .before .before .before .before .before .before .pre .1) (c .before .before .before .loop-test .taken) (c .before .wide .result) (c .before .wide .ensures .0) (c .glance-at .result) (c .glance-at .ensures) .order)))
-    (λ c. c .before .loop .inv .1)
-    (λ c. (c .before .loop .inv .1, λ k l. c .before .loop .inv .2 k (omega (arith, l, (c .loop-test .left))))))
+    loop-holds
+    -- by search: mul-wide 99:43, shared-slice-read-wide 99:43, wide-requires 99:38, glance-at-requires 99:13,
+    -- mul-out 100:9
+    (λ c. search needs) (λ c. search needs) (λ c κs. search needs) (λ c κs. search needs) (λ c. search needs)
+    slice-write-out
+    -- by search: add-i 101:9, loop-less 98:5
+    (λ c. search needs) (λ c. search needs)
+    loop-again
+    same-length
+    returns)

@@ -6,13 +6,24 @@ use borrow.Author.Needs.{needs}
 use Rattle.sequences.proofs.markers_of.Statement.{statement}
 use Rattle.sequences.proofs.markers_of.Tie as tie
 
+-- src/lib.rt:119:9
+returns : tie.Need-returns
+returns c =
+    let start = c .before .before .before .before .before .before in
+    let args = start .args in
+    let q = args .q in
+    let t = args .t .now in
+    let i = args .i in
+    let pre = start .pre in
+    fill-none (args .out .now) (of-order q (head-number t i)) (args .n)
+    (other-order q (head-number t i) (λ z. (c .if1 .taken) (z ∙ sym (pre .7 i (pre .3)))))
+
 pub markers-of-spec : {M : Type 1} → statement M
 markers-of-spec =
     tie.close
     (tie.spec
-    (λ c. search needs)
-    (λ c. search needs)
-    (λ c. fill-none (c .before .before .before .before .before .before .args .out .now) (of-order (c .before .before .before .before .before .before .args .q) (head-number (c .before .before .before .before .before .before .args .t .now) (c .before .before .before .before .before .before .args .i))) (c .before .before .before .before .before .before .args .n) (other-order (c .before .before .before .before .before .before .args .q) (head-number (c .before .before .before .before .before .before .args .t .now) (c .before .before .before .before .before .before .args .i)) (λ z. (c .if1 .taken) (z ∙ sym (c .before .before .before .before .before .before .pre .7 (c .before .before .before .before .before .before .args .i) (c .before .before .before .before .before .before .pre .3))))))
-    (λ c κs. search needs)
-    (λ c. search needs)
-    (λ c. search needs))
+    -- by search: mul-if1 118:13, shared-slice-read-if1 118:13
+    (λ c. search needs) (λ c. search needs)
+    returns
+    -- by search: target-markers-requires 121:5, same-length 106:1, returns-2 106:1
+    (λ c κs. search needs) (λ c. search needs) (λ c. search needs))

@@ -15,10 +15,131 @@ use Rattle.sequences.proofs.targets.Statement.{statement}
 use Rattle.sequences.proofs.targets.Tie as tie
 
 abbrev Inv-loop : tie.InvT-loop
-Inv-loop t parts out₀ heads orders k q₀ n₀ out q n = (q ≤ parts) × Filled out n (target-offsets t q (parts - q)) (target-offsets t 0 parts) (length (target-offsets t 0 parts)) 1024
+Inv-loop t parts out₀ heads orders k q₀ n₀ out q n =
+    (q ≤ parts)
+    × Filled out n (target-offsets t q (parts - q)) (target-offsets t 0 parts) (length (target-offsets t 0 parts))
+    1024
 
 abbrev μ-loop : tie.MeasureT-loop
 μ-loop t parts out₀ heads orders k q₀ n₀ out q n = parts - q
+
+-- src/lib.rt:145:9
+target-heads-requires : tie.Need-target-heads-requires Inv-loop μ-loop
+target-heads-requires c κs =
+    let pre = c .before .before .before .pre in
+    (pre .0, pre .1, refl)
+
+-- src/lib.rt:146:20
+array-share-prefix-heads : tie.Need-array-share-prefix-heads Inv-loop μ-loop
+array-share-prefix-heads c = omega (arith, c .before .target-heads .ensures .1)
+
+-- src/lib.rt:146:20
+slice-aggregate-head-orders : tie.Need-slice-aggregate-head-orders Inv-loop μ-loop
+slice-aggregate-head-orders c =
+    let target-heads = c .before .before .target-heads in
+    sym (length-take-le (target-heads .result) (target-heads .last .1 .0)
+    (omega (arith, target-heads .ensures .1, target-heads .ensures .2)))
+
+-- src/lib.rt:146:5
+head-orders-requires : tie.Need-head-orders-requires Inv-loop μ-loop
+head-orders-requires c κs =
+    let pre = c .before .before .before .before .before .before .before .pre in
+    let target-heads = c .before .before .before .target-heads in (
+      pre .0,
+      target-heads .ensures .0,
+      omega (
+        arith,
+        length-take-le (target-heads .result) (target-heads .last .1 .0)
+            (omega (arith, target-heads .ensures .1, target-heads .ensures .2)),
+        target-heads .ensures .1,
+      ),
+    )
+
+-- src/lib.rt:149:5
+loop-holds : tie.Need-loop-holds Inv-loop μ-loop
+loop-holds c =
+    let start = c .before .before .before .before .before .before .before .before .before in
+    let e = order-start (start .args .t .now) (start .args .parts) in
+    (omega arith, record { sized = start .pre .2; all = e; count = omega (arith, ap length e) })
+
+-- src/lib.rt:150:24
+array-share-prefix-heads-2 : tie.Need-array-share-prefix-heads-2 Inv-loop μ-loop
+array-share-prefix-heads-2 c =
+    let target-heads = c .before .before .before .before .before .before .before .target-heads in
+    omega (arith, target-heads .ensures .1)
+
+-- src/lib.rt:150:24
+slice-aggregate-collect : tie.Need-slice-aggregate-collect Inv-loop μ-loop
+slice-aggregate-collect c =
+    let target-heads = c .before .before .before .before .before .before .before .before .target-heads in
+    sym (length-take-le (target-heads .result) (target-heads .last .1 .0)
+    (omega (arith, target-heads .ensures .1, target-heads .ensures .2)))
+
+-- src/lib.rt:150:37
+slice-aggregate-collect-2 : tie.Need-slice-aggregate-collect-2 Inv-loop μ-loop
+slice-aggregate-collect-2 c =
+    let head-orders = c .before .before .before .before .before .head-orders in
+    sym (head-orders .ensures .0)
+
+-- src/lib.rt:150:9
+collect-requires : tie.Need-collect-requires Inv-loop μ-loop
+collect-requires c κs =
+    let after-head-orders = c .before .before .before .before .before .before in
+    let start = after-head-orders .before .before .before .before .before .before .before .before in
+    let args = start .args in
+    let t = args .t .now in
+    let parts = args .parts in
+    let pre = start .pre in
+    let target-heads = after-head-orders .before .before .before .before .target-heads in
+    let head-orders = after-head-orders .head-orders in
+    let loop = c .before .before .before .before .loop in
+    let loop-test = c .before .before .before .loop-test in
+    let e = order-on t (loop .q) parts (loop-test .taken) in (
+      pre .0,
+      pre .1,
+      target-heads .ensures .0,
+      fill-room (offsets false (loop .q + 1) t) _ (loop .inv .1) e (few-targets t (pre .0) parts),
+      omega (arith, loop .inv .1 .sized),
+      omega (
+        arith,
+        length-take-le (target-heads .result) (target-heads .last .1 .0)
+            (omega (arith, target-heads .ensures .1, target-heads .ensures .2)),
+        target-heads .ensures .1,
+        head-orders .ensures .0,
+      ),
+      head-orders .ensures .1,
+    )
+
+-- src/lib.rt:149:5
+loop-again : tie.Need-loop-again Inv-loop μ-loop
+loop-again c =
+    let after-loop-test = c .before .before .before .before .before .before in
+    let args = after-loop-test .before .before .before .before .before .before .before .before .before .before
+    .before .args in
+    let t = args .t .now in
+    let loop = after-loop-test .before .loop in
+    let loop-test = after-loop-test .loop-test in
+    let e = order-on t (loop .q) (args .parts) (loop-test .taken) in (
+      omega (arith, loop-test .taken),
+      fill-on (offsets false (loop .q + 1) t) _ (loop .inv .1) e (c .before .before .collect .ensures),
+    )
+
+-- src/lib.rt:139:1
+same-length : tie.Need-same-length Inv-loop μ-loop
+same-length c =
+    let pre = c .before .before .before .before .before .before .before .before .before .before .before .pre in
+    c .before .loop .inv .1 .sized ∙ sym (pre .2)
+
+-- src/lib.rt:139:1
+returns : tie.Need-returns Inv-loop μ-loop
+returns c =
+    let start = c .before .before .before .before .before .before .before .before .before .before .before in
+    let args = start .args in
+    let t = args .t .now in
+    let parts = args .parts in
+    let loop = c .before .loop in
+    let f = fill-end (loop .inv .1) (order-end t (loop .q) parts (c .loop-test .left)) in
+    (f .0, omega (arith, f .1, few-targets t (start .pre .0) parts), loop .inv .1 .sized)
 
 pub targets-spec : {M : Type 1} → statement M
 targets-spec =
@@ -26,20 +147,23 @@ targets-spec =
     (tie.spec
     Inv-loop
     μ-loop
+    -- by search: slice-aggregate-target-heads 145:29
     (λ c. search needs)
-    (λ c κs. (c .before .before .before .pre .0, c .before .before .before .pre .1, refl))
-    (λ c. omega (arith, c .before .target-heads .ensures .1))
-    (λ c. sym (length-take-le (c .before .before .target-heads .result) (c .before .before .target-heads .last .1 .0) (omega (arith, c .before .before .target-heads .ensures .1, c .before .before .target-heads .ensures .2))))
+    target-heads-requires
+    array-share-prefix-heads
+    slice-aggregate-head-orders
+    -- by search: slice-aggregate-head-orders-2 146:33
     (λ c. search needs)
-    (λ c κs. (c .before .before .before .before .before .before .before .pre .0, c .before .before .before .target-heads .ensures .0, omega (arith, length-take-le (c .before .before .before .target-heads .result) (c .before .before .before .target-heads .last .1 .0) (omega (arith, c .before .before .before .target-heads .ensures .1, c .before .before .before .target-heads .ensures .2)), c .before .before .before .target-heads .ensures .1)))
-    (λ c. let e = order-start (c .before .before .before .before .before .before .before .before .before .args .t .now) (c .before .before .before .before .before .before .before .before .before .args .parts) in (omega arith, record { sized = c .before .before .before .before .before .before .before .before .before .pre .2; all = e; count = omega (arith, ap length e) }))
-    (λ c. omega (arith, c .before .before .before .before .before .before .before .target-heads .ensures .1))
-    (λ c. sym (length-take-le (c .before .before .before .before .before .before .before .before .target-heads .result) (c .before .before .before .before .before .before .before .before .target-heads .last .1 .0) (omega (arith, c .before .before .before .before .before .before .before .before .target-heads .ensures .1, c .before .before .before .before .before .before .before .before .target-heads .ensures .2))))
-    (λ c. sym (c .before .before .before .before .before .head-orders .ensures .0))
+    head-orders-requires
+    loop-holds
+    array-share-prefix-heads-2
+    slice-aggregate-collect
+    slice-aggregate-collect-2
+    -- by search: add-collect 150:46
     (λ c. search needs)
-    (λ c κs. let e = order-on (c .before .before .before .before .before .before .before .before .before .before .before .before .before .before .args .t .now) (c .before .before .before .before .loop .q) (c .before .before .before .before .before .before .before .before .before .before .before .before .before .before .args .parts) (c .before .before .before .loop-test .taken) in (c .before .before .before .before .before .before .before .before .before .before .before .before .before .before .pre .0, c .before .before .before .before .before .before .before .before .before .before .before .before .before .before .pre .1, c .before .before .before .before .before .before .before .before .before .before .target-heads .ensures .0, fill-room (offsets false (c .before .before .before .before .loop .q + 1) (c .before .before .before .before .before .before .before .before .before .before .before .before .before .before .args .t .now)) _ (c .before .before .before .before .loop .inv .1) e (few-targets (c .before .before .before .before .before .before .before .before .before .before .before .before .before .before .args .t .now) (c .before .before .before .before .before .before .before .before .before .before .before .before .before .before .pre .0) (c .before .before .before .before .before .before .before .before .before .before .before .before .before .before .args .parts)), omega (arith, c .before .before .before .before .loop .inv .1 .sized), omega (arith, length-take-le (c .before .before .before .before .before .before .before .before .before .before .target-heads .result) (c .before .before .before .before .before .before .before .before .before .before .target-heads .last .1 .0) (omega (arith, c .before .before .before .before .before .before .before .before .before .before .target-heads .ensures .1, c .before .before .before .before .before .before .before .before .before .before .target-heads .ensures .2)), c .before .before .before .before .before .before .before .before .before .before .target-heads .ensures .1, c .before .before .before .before .before .before .head-orders .ensures .0), c .before .before .before .before .before .before .head-orders .ensures .1))
-    (λ c. search needs)
-    (λ c. search needs)
-    (λ c. let e = order-on (c .before .before .before .before .before .before .before .before .before .before .before .before .before .before .before .before .before .args .t .now) (c .before .before .before .before .before .before .before .loop .q) (c .before .before .before .before .before .before .before .before .before .before .before .before .before .before .before .before .before .args .parts) (c .before .before .before .before .before .before .loop-test .taken) in (omega (arith, (c .before .before .before .before .before .before .loop-test .taken)), fill-on (offsets false (c .before .before .before .before .before .before .before .loop .q + 1) (c .before .before .before .before .before .before .before .before .before .before .before .before .before .before .before .before .before .args .t .now)) _ (c .before .before .before .before .before .before .before .loop .inv .1) e (c .before .before .collect .ensures)))
-    (λ c. c .before .loop .inv .1 .sized ∙ sym (c .before .before .before .before .before .before .before .before .before .before .before .pre .2))
-    (λ c. let f = fill-end (c .before .loop .inv .1) (order-end (c .before .before .before .before .before .before .before .before .before .before .before .args .t .now) (c .before .loop .q) (c .before .before .before .before .before .before .before .before .before .before .before .args .parts) (c .loop-test .left)) in (f .0, omega (arith, f .1, few-targets (c .before .before .before .before .before .before .before .before .before .before .before .args .t .now) (c .before .before .before .before .before .before .before .before .before .before .before .pre .0) (c .before .before .before .before .before .before .before .before .before .before .before .args .parts)), c .before .loop .inv .1 .sized)))
+    collect-requires
+    -- by search: add-q 151:9, loop-less 149:5
+    (λ c. search needs) (λ c. search needs)
+    loop-again
+    same-length
+    returns)

@@ -4,9 +4,9 @@ use Prim.Native.Nat.{_+_, _-_, _≤_}
 use mathlib.Core.Path.{_≡_, ap}
 use mathlib.Core.List.{List}
 use Rattle.xliff.specs.Encode.{Record, content-records}
-use Rattle.walk.specs.Kept.{Of}
+use Rattle.walk.specs.Kept.{Of, Rest}
 use Rattle.xliff.proofs.lists.Slices.{tail-is}
-use Rattle.walk.proofs.WalkLaws.{Rest, rest-start, next, rest-end}
+use Rattle.walk.proofs.WalkLaws.{rest-start, next, rest-end}
 use borrow.Author.Needs.{needs}
 use Rattle.set_result.proofs.count_records.Statement.{statement}
 use Rattle.set_result.proofs.count_records.Tie as tie

@@ -5,16 +5,45 @@ use borrow.Author.Needs.{needs}
 use Rattle.set_target.proofs.set_checked.Statement.{statement}
 use Rattle.set_target.proofs.set_checked.Tie as tie
 
+-- src/lib.rt:175:17
+part-at-requires : tie.Need-part-at-requires
+unfolding set-target
+part-at-requires c κs =
+    let after-shared-slice-known = c .before .before .before .before .before in
+    let start = after-shared-slice-known .before in
+    let table = start .args .table .now in
+    let known = after-shared-slice-known .shared-slice-known .given in
+    table-passes table known (accepted-none table _ (rw (c .before .enum-told .given .1) at (start .pre)))
+
+-- src/lib.rt:176:13
+set-found-requires : tie.Need-set-found-requires
+unfolding set-target
+set-found-requires c κs =
+    let start = c .before .before .before .before .before .before .before .before in
+    let enum-told-call = c .before .before .before .enum-told in (
+      accepted-none (start .args .table .now) _ (rw (enum-told-call .given .1) at (start .pre)),
+      simp (c .before .before .wide .ensures) at (c .before .part-at .ensures),
+    )
+
+-- src/lib.rt:169:1
+returns-2 : tie.Need-returns-2
+unfolding set-target
+returns-2 c =
+    let start = c .before .before .before .before .before .before in
+    let args = start .args in
+    let table = args .table .now in
+    answers-refused _ _ _ (args .out .now)
+    (on-refused table _ _ _ _ (refused-some table _ _ (rw (c .before .a .given .1) at (start .pre))))
+
 pub set-checked-spec : {M : Type 1} → statement M
 unfolding set-target
 set-checked-spec =
     tie.close
     (tie.spec
-    (λ c. search needs)
-    (λ c κs. search needs)
-    (λ c κs. table-passes (c .before .before .before .before .before .before .args .table .now) ((c .before .before .before .before .before .shared-slice-known .given)) (accepted-none (c .before .before .before .before .before .before .args .table .now) _ (rw (c .before .enum-told .given .1) at ((c .before .before .before .before .before .before .pre)))))
-    (λ c κs. (accepted-none (c .before .before .before .before .before .before .before .before .args .table .now) _ (rw (c .before .before .before .enum-told .given .1) at ((c .before .before .before .before .before .before .before .before .pre))), simp (c .before .before .wide .ensures) at (c .before .part-at .ensures)))
-    (λ c. search needs)
-    (λ c. search needs)
-    (λ c. search needs)
-    (λ c. answers-refused _ _ _ (c .before .before .before .before .before .before .args .out .now) (on-refused (c .before .before .before .before .before .before .args .table .now) _ _ _ _ (refused-some (c .before .before .before .before .before .before .args .table .now) _ _ (rw (c .before .a .given .1) at ((c .before .before .before .before .before .before .pre)))))))
+    -- by search: enum-told 175:49, wide-requires 175:49
+    (λ c. search needs) (λ c κs. search needs)
+    part-at-requires
+    set-found-requires
+    -- by search: enum-known-a 178:25, same-length 169:1, returns 169:1
+    (λ c. search needs) (λ c. search needs) (λ c. search needs)
+    returns-2)

@@ -5,13 +5,30 @@ use borrow.Author.Needs.{needs}
 use Rattle.set_target.proofs.set_found.Statement.{statement}
 use Rattle.set_target.proofs.set_found.Tie as tie
 
+-- src/lib.rt:158:33
+set-there-requires : tie.Need-set-there-requires
+set-there-requires c κs =
+    let pre = c .before .before .before .before .before .before .before .pre in
+    (pre .0, rw (c .before .before .found .given .1) at (pre .1))
+
+-- src/lib.rt:146:1
+returns-2 : tie.Need-returns-2
+returns-2 c =
+    let start = c .before .before .before .before .before in
+    let args = start .args in
+    let out = args .out .now in
+    let pre = start .pre in
+    answers-refused _ 11 0 out
+    (no-part (args .table .now) (args .n) (args .state) (args .content .now) (length out) (pre .0)
+    (rw (c .enum-told .given .1) at (pre .1)))
+
 pub set-found-spec : {M : Type 1} → statement M
 set-found-spec =
     tie.close
     (tie.spec
+    -- by search: enum-known-found 158:23
     (λ c. search needs)
-    (λ c κs. (c .before .before .before .before .before .before .before .pre .0, rw (c .before .before .found .given .1) at (c .before .before .before .before .before .before .before .pre .1)))
-    (λ c. search needs)
-    (λ c. search needs)
-    (λ c. search needs)
-    (λ c. answers-refused _ 11 0 (c .before .before .before .before .before .args .out .now) (no-part (c .before .before .before .before .before .args .table .now) (c .before .before .before .before .before .args .n) (c .before .before .before .before .before .args .state) (c .before .before .before .before .before .args .content .now) (length (c .before .before .before .before .before .args .out .now)) (c .before .before .before .before .before .pre .0) (rw (c .enum-told .given .1) at (c .before .before .before .before .before .pre .1)))))
+    set-there-requires
+    -- by search: enum-told 159:31, same-length 146:1, returns 146:1
+    (λ c. search needs) (λ c. search needs) (λ c. search needs)
+    returns-2)

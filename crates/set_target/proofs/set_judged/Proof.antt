@@ -6,13 +6,35 @@ use borrow.Author.Needs.{needs}
 use Rattle.set_target.proofs.set_judged.Statement.{statement}
 use Rattle.set_target.proofs.set_judged.Tie as tie
 
+-- src/lib.rt:105:32
+set-content-requires : tie.Need-set-content-requires
+set-content-requires c κs =
+    let start = c .before .before .before .before .before .before in
+    let content = start .args .content .now in
+    let (ft, an) = start .pre in
+    (ft, accepted-without (content-fault content) content _ (rw (c .before .enum-told .given .1) at an))
+
+-- src/lib.rt:92:1
+returns-2 : tie.Need-returns-2
+returns-2 c =
+    let start = c .before .before .before .before .before .before in
+    let args = start .args in
+    let out = args .out .now in
+    let content = args .content .now in
+    let (ft, an) = start .pre in
+    let (w, pl) = ft in
+    let (b, p, a, e, s, f) = pl in
+    answers-refused _ _ _ out
+    (bad-content (args .table .now) (args .n) (args .state) content (length out) w b p a e f _ _
+    (refused-with (content-fault content) content _ _ (rw (c .before .a .given .1) at an)))
+
 pub set-judged-spec : {M : Type 1} → statement M
 set-judged-spec =
     tie.close
     (tie.spec
+    -- by search: enum-told 105:77
     (λ c. search needs)
-    (λ c κs. let (ft, an) = (c .before .before .before .before .before .before .pre) in (ft, accepted-without (content-fault (c .before .before .before .before .before .before .args .content .now)) (c .before .before .before .before .before .before .args .content .now) _ (rw (c .before .enum-told .given .1) at an)))
-    (λ c. search needs)
-    (λ c. search needs)
-    (λ c. search needs)
-    (λ c. let (ft, an) = (c .before .before .before .before .before .before .pre) in let (w, pl) = ft in let (b, p, a, e, s, f) = pl in answers-refused _ _ _ (c .before .before .before .before .before .before .args .out .now) (bad-content (c .before .before .before .before .before .before .args .table .now) (c .before .before .before .before .before .before .args .n) (c .before .before .before .before .before .before .args .state) (c .before .before .before .before .before .before .args .content .now) (length (c .before .before .before .before .before .before .args .out .now)) w b p a e f _ _ (refused-with (content-fault (c .before .before .before .before .before .before .args .content .now)) (c .before .before .before .before .before .before .args .content .now) _ _ (rw (c .before .a .given .1) at an)))))
+    set-content-requires
+    -- by search: enum-known-a 106:25, same-length 92:1, returns 92:1
+    (λ c. search needs) (λ c. search needs) (λ c. search needs)
+    returns-2)

@@ -7,13 +7,50 @@ use borrow.Author.Needs.{needs}
 use Rattle.set_target.proofs.set_there.Statement.{statement}
 use Rattle.set_target.proofs.set_there.Tie as tie
 
+-- src/lib.rt:133:9
+returns : tie.Need-returns
+returns c =
+    let start = c .before .before .before .before .before in
+    let args = start .args in
+    let out = args .out .now in
+    let table = args .table .now in
+    let (w, pl) = start .pre in
+    let (b, p, a, e, s) = pl in
+    answers-refused _ 2 0 out
+    (refused-2 table (args .n) (args .state) (args .content .now) (length out) w b p a e
+    (sym (c .before .state-fits .ensures table b p a s) ∙ not-true _ (c .if1 .taken)))
+
+-- src/lib.rt:135:5
+set-judged-requires : tie.Need-set-judged-requires
+set-judged-requires c κs =
+    let start = c .before .before .before .before .before .before .before in
+    let state-fits = c .before .before .before .state-fits in
+    let (w, pl) = start .pre in
+    let (b, p, a, e, s) = pl in (
+      (
+        w,
+        (
+          b,
+          p,
+          a,
+          e,
+          s,
+          sym (state-fits .ensures (start .args .table .now) b p a s)
+              ∙ not-false _ (c .before .before .if1 .left),
+        ),
+      ),
+      c .before .content .ensures,
+    )
+
 pub set-there-spec : {M : Type 1} → statement M
 set-there-spec =
     tie.close
     (tie.spec
+    -- by search: state-fits-requires 132:9
     (λ c κs. search needs)
-    (λ c. let (w, pl) = (c .before .before .before .before .before .pre) in let (b, p, a, e, s) = pl in answers-refused _ 2 0 (c .before .before .before .before .before .args .out .now) (refused-2 (c .before .before .before .before .before .args .table .now) (c .before .before .before .before .before .args .n) (c .before .before .before .before .before .args .state) (c .before .before .before .before .before .args .content .now) (length (c .before .before .before .before .before .args .out .now)) w b p a e (sym (c .before .state-fits .ensures (c .before .before .before .before .before .args .table .now) b p a s) ∙ not-true _ ((c .if1 .taken)))))
+    returns
+    -- by search: content-requires 141:9
     (λ c κs. search needs)
-    (λ c κs. let (w, pl) = (c .before .before .before .before .before .before .before .pre) in let (b, p, a, e, s) = pl in ((w, (b, p, a, e, s, sym (c .before .before .before .state-fits .ensures (c .before .before .before .before .before .before .before .args .table .now) b p a s) ∙ not-false _ ((c .before .before .if1 .left)))), c .before .content .ensures))
-    (λ c. search needs)
-    (λ c. search needs))
+    set-judged-requires
+    -- by search: same-length 121:1, returns-2 121:1
+    (λ c. search needs) (λ c. search needs))

@@ -4,11 +4,20 @@ use borrow.Author.Needs.{needs}
 use Rattle.source_match.proofs.bad_in_target.Statement.{statement}
 use Rattle.source_match.proofs.bad_in_target.Tie as tie
 
+-- src/lib.rt:125:1
+returns : tie.Need-returns
+returns c =
+    let after-is-code = c .before .before .before .before .before in
+    let args = after-is-code .before .before .before .before .before .before .before .args in
+    let matches-by = after-is-code .before .matches-by in
+    let is-code = after-is-code .is-code in
+    bad-target-is (args .x) (itemsAt (args .t .now) (args .os .now)) (matches-by .result) (is-code .result)
+    (c .copies-none .result) (matches-by .ensures) (is-code .ensures) (c .copies-none .ensures)
+
 pub bad-in-target-spec : {M : Type 1} → statement M
 bad-in-target-spec =
     tie.close
     (tie.spec
-    (λ c κs. search needs)
-    (λ c κs. search needs)
-    (λ c κs. search needs)
-    (λ c. bad-target-is (c .before .before .before .before .before .before .before .before .before .before .before .before .args .x) (itemsAt (c .before .before .before .before .before .before .before .before .before .before .before .before .args .t .now) (c .before .before .before .before .before .before .before .before .before .before .before .before .args .os .now)) (c .before .before .before .before .before .before .matches-by .result) (c .before .before .before .before .before .is-code .result) (c .copies-none .result) (c .before .before .before .before .before .before .matches-by .ensures) (c .before .before .before .before .before .is-code .ensures) (c .copies-none .ensures)))
+    -- by search: matches-by-requires 129:9, is-code-requires 130:9, copies-none-requires 132:19
+    (λ c κs. search needs) (λ c κs. search needs) (λ c κs. search needs)
+    returns)

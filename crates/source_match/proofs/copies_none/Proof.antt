@@ -5,10 +5,23 @@ use borrow.Author.Needs.{needs}
 use Rattle.source_match.proofs.copies_none.Statement.{statement}
 use Rattle.source_match.proofs.copies_none.Tie as tie
 
+-- src/lib.rt:118:9
+returns : tie.Need-returns
+returns c = simp (eq-eqb _ _ (c .if1 .taken))
+
+-- src/lib.rt:113:1
+returns-2 : tie.Need-returns-2
+returns-2 c =
+    let args = c .before .before .before .before .before .before .before .before .before .args in
+    let matches-by = c .before .matches-by in
+    copies-none-is (args .x) (itemsAt (args .t .now) (args .os .now)) (matches-by .result)
+    (c .before .before .if1 .left) (matches-by .ensures)
+
 pub copies-none-spec : {M : Type 1} → statement M
 copies-none-spec =
     tie.close
     (tie.spec
-    (λ c. simp (eq-eqb _ _ (c .if1 .taken)))
+    returns
+    -- by search: matches-by-requires 120:9
     (λ c κs. search needs)
-    (λ c. copies-none-is (c .before .before .before .before .before .before .before .before .before .args .x) (itemsAt (c .before .before .before .before .before .before .before .before .before .args .t .now) (c .before .before .before .before .before .before .before .before .before .args .os .now)) (c .before .matches-by .result) (c .before .before .if1 .left) (c .before .matches-by .ensures)))
+    returns-2)

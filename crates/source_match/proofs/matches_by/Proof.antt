@@ -17,27 +17,112 @@ Inv-loop t os keys links heads id x found₀ g j₀ found j = Following t os key
 abbrev μ-loop : tie.MeasureT-loop
 μ-loop t os keys links heads id x found₀ g j₀ found j = j
 
+-- src/lib.rt:97:5
+loop-holds : tie.Need-loop-holds Inv-loop μ-loop
+loop-holds c =
+    let start = c .before .before .before .before .before .before .before .before in
+    let args = start .args in
+    let heads = args .heads .now in
+    follow-start (args .t .now) (args .os .now) (args .keys .now) (args .links .now) heads (args .id) (args .x)
+    (start .pre) (c .wide2 .result)
+    (c .wide2 .ensures .0 ∙ ap (λ (n : ℕ). getD heads (n % 256) 0) (c .before .before .wide .ensures .0))
+
+-- src/lib.rt:99:49
+shared-slice-read-one-more : tie.Need-shared-slice-read-one-more Inv-loop μ-loop
+shared-slice-read-one-more c =
+    let start = c .before .before .before .before .before .before .before .before .before .before .before .before
+    .before in
+    let args = start .args in
+    let loop = c .before .before .before .before .loop in
+    let loop-test = c .before .before .before .loop-test in
+    omega (
+      arith,
+      so-many (args .t .now) (args .os .now) (args .keys .now) (args .links .now) (args .heads .now) (args .id)
+          (args .x) (start .pre),
+      loop .inv .0,
+      loop-test .taken,
+    )
+
+-- src/lib.rt:99:9
+one-more-requires : tie.Need-one-more-requires Inv-loop μ-loop
+one-more-requires c κs =
+    let start = c .before .before .before .before .before .before .before .before .before .before .before .before
+    .before in
+    let args = start .args in
+    let t = args .t .now in
+    let loop = c .before .before .before .before .loop in
+    let loop-test = c .before .before .before .loop-test in
+    ap (λ (l : List ℕ). getD l (loop .j - 1) 0) (start .pre .0)
+    ∙ key-at t (args .os .now) (loop .j - 1) (omega (arith, loop .inv .0, loop-test .taken))
+    ∙ ap (λ (k : ℕ). key (item-at t k)) (sym (c .before .wide3 .ensures .0))
+
+-- src/lib.rt:100:25
+shared-slice-read-wide-3 : tie.Need-shared-slice-read-wide-3 Inv-loop μ-loop
+shared-slice-read-wide-3 c =
+    let after-loop-test = c .before .before .before .before .before in
+    let pre = after-loop-test .before .before .before .before .before .before .before .before .before .before
+    .pre in
+    let loop = after-loop-test .before .loop in
+    let loop-test = after-loop-test .loop-test in
+    omega (arith, pre .3, loop .inv .0, loop-test .taken)
+
+-- src/lib.rt:97:5
+loop-less : tie.Need-loop-less Inv-loop μ-loop
+loop-less c =
+    let after-loop-test = c .before .before .before .before .before .before in
+    let start = after-loop-test .before .before .before .before .before .before .before .before .before .before in
+    let args = start .args in
+    let loop = after-loop-test .before .loop in
+    let loop-test = after-loop-test .loop-test in
+    omega (
+      arith,
+      c .wide4 .ensures .0,
+      follow-less (args .t .now) (args .os .now) (args .keys .now) (args .links .now) (args .heads .now) (args .id)
+          (args .x) (start .pre) (loop .found) (loop .j) (loop-test .taken) (loop .inv),
+    )
+
+-- src/lib.rt:97:5
+loop-again : tie.Need-loop-again Inv-loop μ-loop
+loop-again c =
+    let after-loop-test = c .before .before .before .before .before .before in
+    let start = after-loop-test .before .before .before .before .before .before .before .before .before .before in
+    let args = start .args in
+    let loop = after-loop-test .before .loop in
+    let loop-test = after-loop-test .loop-test in
+    let wide3 = c .before .before .before .before .wide3 in
+    let one-more = c .before .before .one-more in
+    follow-next (args .t .now) (args .os .now) (args .keys .now) (args .links .now) (args .heads .now) (args .id)
+    (args .x) (start .pre) (loop .found) (one-more .result) (loop .j) (wide3 .result) (c .wide4 .result)
+    (loop-test .taken) (loop .inv) (wide3 .ensures .0) (one-more .ensures) (c .wide4 .ensures .0)
+
+-- src/lib.rt:77:1
+returns : tie.Need-returns Inv-loop μ-loop
+returns c =
+    let start = c .before .before .before .before .before .before .before .before .before .before in
+    let args = start .args in
+    let loop = c .before .loop in
+    follow-end (args .t .now) (args .os .now) (args .keys .now) (args .links .now) (args .heads .now) (args .id)
+    (args .x) (start .pre) (loop .found) (loop .j) (c .loop-test .left) (loop .inv)
+
 pub matches-by-spec : {M : Type 1} → statement M
 matches-by-spec =
     tie.close
     (tie.spec
     Inv-loop
     μ-loop
+    -- by one step: wide-requires 95:13, mul-wide 96:29, shared-slice-read-wide 96:29, wide-requires-2 96:9
+    (λ c κs. search needs) (λ c. search needs) (λ c. omega arith) (λ c κs. search needs)
+    loop-holds
+    -- by search: sub-i 98:17, mul-wide-2 99:41, shared-slice-read-wide-2 99:41, wide-requires-3 99:29,
+    -- mul-one-more 99:49
+    (λ c. search needs) (λ c. search needs) (λ c. search needs) (λ c κs. search needs) (λ c. search needs)
+    shared-slice-read-one-more
+    one-more-requires
+    -- by search: mul-wide-3 100:25
+    (λ c. search needs)
+    shared-slice-read-wide-3
+    -- by search: wide-requires-4 100:9
     (λ c κs. search needs)
-    (λ c. search needs)
-    (λ c. omega arith)
-    (λ c κs. search needs)
-    (λ c. follow-start (c .before .before .before .before .before .before .before .before .args .t .now) (c .before .before .before .before .before .before .before .before .args .os .now) (c .before .before .before .before .before .before .before .before .args .keys .now) (c .before .before .before .before .before .before .before .before .args .links .now) (c .before .before .before .before .before .before .before .before .args .heads .now) (c .before .before .before .before .before .before .before .before .args .id) (c .before .before .before .before .before .before .before .before .args .x) (c .before .before .before .before .before .before .before .before .pre) (c .wide2 .result) (c .wide2 .ensures .0 ∙ ap (λ (n : ℕ). getD (c .before .before .before .before .before .before .before .before .args .heads .now) (n % 256) 0) (c .before .before .wide .ensures .0)))
-    (λ c. search needs)
-    (λ c. search needs)
-    (λ c. search needs)
-    (λ c κs. search needs)
-    (λ c. search needs)
-    (λ c. omega (arith, so-many (c .before .before .before .before .before .before .before .before .before .before .before .before .before .args .t .now) (c .before .before .before .before .before .before .before .before .before .before .before .before .before .args .os .now) (c .before .before .before .before .before .before .before .before .before .before .before .before .before .args .keys .now) (c .before .before .before .before .before .before .before .before .before .before .before .before .before .args .links .now) (c .before .before .before .before .before .before .before .before .before .before .before .before .before .args .heads .now) (c .before .before .before .before .before .before .before .before .before .before .before .before .before .args .id) (c .before .before .before .before .before .before .before .before .before .before .before .before .before .args .x) (c .before .before .before .before .before .before .before .before .before .before .before .before .before .pre), c .before .before .before .before .loop .inv .0, (c .before .before .before .loop-test .taken)))
-    (λ c κs. ap (λ (l : List ℕ). getD l (c .before .before .before .before .loop .j - 1) 0) (c .before .before .before .before .before .before .before .before .before .before .before .before .before .pre .0) ∙ key-at (c .before .before .before .before .before .before .before .before .before .before .before .before .before .args .t .now) (c .before .before .before .before .before .before .before .before .before .before .before .before .before .args .os .now) (c .before .before .before .before .loop .j - 1) (omega (arith, c .before .before .before .before .loop .inv .0, (c .before .before .before .loop-test .taken))) ∙ ap (λ (k : ℕ). key (item-at (c .before .before .before .before .before .before .before .before .before .before .before .before .before .args .t .now) k)) (sym (c .before .wide3 .ensures .0)))
-    (λ c. search needs)
-    (λ c. omega (arith, c .before .before .before .before .before .before .before .before .before .before .before .before .before .before .before .pre .3, c .before .before .before .before .before .before .loop .inv .0, (c .before .before .before .before .before .loop-test .taken)))
-    (λ c κs. search needs)
-    (λ c. omega (arith, c .wide4 .ensures .0, follow-less (c .before .before .before .before .before .before .before .before .before .before .before .before .before .before .before .before .args .t .now) (c .before .before .before .before .before .before .before .before .before .before .before .before .before .before .before .before .args .os .now) (c .before .before .before .before .before .before .before .before .before .before .before .before .before .before .before .before .args .keys .now) (c .before .before .before .before .before .before .before .before .before .before .before .before .before .before .before .before .args .links .now) (c .before .before .before .before .before .before .before .before .before .before .before .before .before .before .before .before .args .heads .now) (c .before .before .before .before .before .before .before .before .before .before .before .before .before .before .before .before .args .id) (c .before .before .before .before .before .before .before .before .before .before .before .before .before .before .before .before .args .x) (c .before .before .before .before .before .before .before .before .before .before .before .before .before .before .before .before .pre) (c .before .before .before .before .before .before .before .loop .found) (c .before .before .before .before .before .before .before .loop .j) (c .before .before .before .before .before .before .loop-test .taken) (c .before .before .before .before .before .before .before .loop .inv)))
-    (λ c. follow-next (c .before .before .before .before .before .before .before .before .before .before .before .before .before .before .before .before .args .t .now) (c .before .before .before .before .before .before .before .before .before .before .before .before .before .before .before .before .args .os .now) (c .before .before .before .before .before .before .before .before .before .before .before .before .before .before .before .before .args .keys .now) (c .before .before .before .before .before .before .before .before .before .before .before .before .before .before .before .before .args .links .now) (c .before .before .before .before .before .before .before .before .before .before .before .before .before .before .before .before .args .heads .now) (c .before .before .before .before .before .before .before .before .before .before .before .before .before .before .before .before .args .id) (c .before .before .before .before .before .before .before .before .before .before .before .before .before .before .before .before .args .x) (c .before .before .before .before .before .before .before .before .before .before .before .before .before .before .before .before .pre) (c .before .before .before .before .before .before .before .loop .found) (c .before .before .one-more .result) (c .before .before .before .before .before .before .before .loop .j) (c .before .before .before .before .wide3 .result) (c .wide4 .result) (c .before .before .before .before .before .before .loop-test .taken) (c .before .before .before .before .before .before .before .loop .inv) (c .before .before .before .before .wide3 .ensures .0) (c .before .before .one-more .ensures) (c .wide4 .ensures .0))
-    (λ c. follow-end (c .before .before .before .before .before .before .before .before .before .before .args .t .now) (c .before .before .before .before .before .before .before .before .before .before .args .os .now) (c .before .before .before .before .before .before .before .before .before .before .args .keys .now) (c .before .before .before .before .before .before .before .before .before .before .args .links .now) (c .before .before .before .before .before .before .before .before .before .before .args .heads .now) (c .before .before .before .before .before .before .before .before .before .before .args .id) (c .before .before .before .before .before .before .before .before .before .before .args .x) (c .before .before .before .before .before .before .before .before .before .before .pre) (c .before .loop .found) (c .before .loop .j) (c .loop-test .left) (c .before .loop .inv)))
+    loop-less
+    loop-again
+    returns)

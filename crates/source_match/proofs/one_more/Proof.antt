@@ -9,11 +9,34 @@ use borrow.Author.Needs.{needs}
 use Rattle.source_match.proofs.one_more.Statement.{statement}
 use Rattle.source_match.proofs.one_more.Tie as tie
 
+-- src/lib.rt:64:9
+returns : tie.Need-returns
+returns c =
+    let args = c .before .before .args in
+    matches-other-id (args .id) (args .x) (item-at (args .t .now) (args .at)) (args .k) (args .found)
+    (c .before .before .pre) (not-true _ (c .if1 .taken))
+
+-- src/lib.rt:59:1
+returns-2 : tie.Need-returns-2
+returns-2 c =
+    let after-matches-of = c .before .before .before .before .before .before .before .before in
+    let start = after-matches-of .before .before .before .before in
+    let args = start .args in
+    let x = args .x in
+    let if1 = after-matches-of .before .before .if1 in
+    let view-at = after-matches-of .before .view-at in
+    let matches-of = after-matches-of .matches-of in
+    ap (λ (g : Matches). joined (args .found) g)
+    (matches-of .ensures
+    ∙ ap (λ (v : View). matchesOf x v) (view-at .ensures)
+    ∙ matches-same-id (args .id) x (item-at (args .t .now) (args .at)) (args .k) (start .pre)
+    (not-false _ (if1 .left)))
+
 pub one-more-spec : {M : Type 1} → statement M
 one-more-spec =
     tie.close
     (tie.spec
-    (λ c. matches-other-id (c .before .before .args .id) (c .before .before .args .x) (item-at (c .before .before .args .t .now) (c .before .before .args .at)) (c .before .before .args .k) (c .before .before .args .found) (c .before .before .pre) (not-true _ (c .if1 .taken)))
-    (λ c κs. search needs)
-    (λ c κs. search needs)
-    (λ c. ap (λ (g : Matches). joined (c .before .before .before .before .before .before .before .before .before .before .before .before .args .found) g) (c .before .before .before .before .before .before .before .before .matches-of .ensures ∙ ap (λ (v : View). matchesOf (c .before .before .before .before .before .before .before .before .before .before .before .before .args .x) v) (c .before .before .before .before .before .before .before .before .before .view-at .ensures) ∙ matches-same-id (c .before .before .before .before .before .before .before .before .before .before .before .before .args .id) (c .before .before .before .before .before .before .before .before .before .before .before .before .args .x) (item-at (c .before .before .before .before .before .before .before .before .before .before .before .before .args .t .now) (c .before .before .before .before .before .before .before .before .before .before .before .before .args .at)) (c .before .before .before .before .before .before .before .before .before .before .before .before .args .k) (c .before .before .before .before .before .before .before .before .before .before .before .before .pre) (not-false _ (c .before .before .before .before .before .before .before .before .before .before .if1 .left)))))
+    returns
+    -- by search: view-at-requires 66:27, matches-of-requires 66:9
+    (λ c κs. search needs) (λ c κs. search needs)
+    returns-2)

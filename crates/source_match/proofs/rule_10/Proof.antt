@@ -8,15 +8,51 @@ use borrow.Author.Needs.{needs}
 use Rattle.source_match.proofs.rule_10.Statement.{statement}
 use Rattle.source_match.proofs.rule_10.Tie as tie
 
+-- src/lib.rt:186:5
+link-before-requires : tie.Need-link-before-requires
+link-before-requires c κs =
+    let start = c .before .before .before .before .before .before .before in
+    let pre = start .pre in (
+      omega (arith, ap length (pre .2), length-keys (start .args .t .now) (start .args .src .now), pre .4),
+      search needs,
+      search needs,
+      λ g l. getD-replicate 256 g 0 0 l ∙ sym (previous-none _),
+    )
+
+-- src/lib.rt:195:9
+ten-source-requires : tie.Need-ten-source-requires
+ten-source-requires c κs =
+    let pre = c .before .before .before .before .before .before .before .before .before .before .before .before
+    .pre in
+    pre .2
+
+-- src/lib.rt:187:5
+ten-target-requires : tie.Need-ten-target-requires
+ten-target-requires c κs =
+    let pre = c .before .before .before .before .before .before .before .before .before .before .before .before
+    .before .pre in
+    (search needs, pre .5)
+
+-- src/lib.rt:180:1
+returns : tie.Need-returns
+returns c =
+    let start = c .before .before .before .before .before .before .before .before .before .before .before .before
+    .before .before in
+    let args = start .args in
+    let pre = start .pre in
+    let ten-source = c .before .ten-source in
+    rule-10-is (args .t .now) (args .src .now) (args .tgt .now) (ten-source .result) (c .ten-target .result)
+    (pre .0) (pre .1) (pre .3) (ten-source .ensures) (c .ten-target .ensures)
+
 pub rule-10-spec : {M : Type 1} → statement M
 rule-10-spec =
     tie.close
     (tie.spec
-    (λ c. search needs)
-    (λ c. search needs)
-    (λ c κs. (omega (arith, ap length (c .before .before .before .before .before .before .before .pre .2), length-keys (c .before .before .before .before .before .before .before .args .t .now) (c .before .before .before .before .before .before .before .args .src .now), c .before .before .before .before .before .before .before .pre .4), search needs, search needs, λ g l. getD-replicate 256 g 0 0 l ∙ sym (previous-none _)))
-    (λ c. search needs)
-    (λ c. search needs)
-    (λ c κs. c .before .before .before .before .before .before .before .before .before .before .before .before .pre .2)
-    (λ c κs. (search needs, c .before .before .before .before .before .before .before .before .before .before .before .before .before .pre .5))
-    (λ c. rule-10-is (c .before .before .before .before .before .before .before .before .before .before .before .before .before .before .args .t .now) (c .before .before .before .before .before .before .before .before .before .before .before .before .before .before .args .src .now) (c .before .before .before .before .before .before .before .before .before .before .before .before .before .before .args .tgt .now) (c .before .ten-source .result) (c .ten-target .result) (c .before .before .before .before .before .before .before .before .before .before .before .before .before .before .pre .0) (c .before .before .before .before .before .before .before .before .before .before .before .before .before .before .pre .1) (c .before .before .before .before .before .before .before .before .before .before .before .before .before .before .pre .3) (c .before .ten-source .ensures) (c .ten-target .ensures)))
+    -- by search: slice-aggregate-link-before 186:34, slice-aggregate-link-before-2 186:46
+    (λ c. search needs) (λ c. search needs)
+    link-before-requires
+    -- by search: slice-aggregate-ten-target 191:9, slice-aggregate-ten-target-2 192:9
+    (λ c. search needs) (λ c. search needs)
+    ten-source-requires
+    ten-target-requires
+    returns)

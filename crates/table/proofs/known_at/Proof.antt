@@ -5,13 +5,21 @@ use borrow.Author.Needs.{needs}
 use Rattle.table.proofs.known_at.Statement.{statement}
 use Rattle.table.proofs.known_at.Tie as tie
 
+-- src/lib.rt:515:9
+returns : tie.Need-returns
+returns c =
+    let args = c .before .before .args in
+    nothing-there (args .s .now) (args .at) (omega (arith, c .if1 .taken))
+
+-- src/lib.rt:511:1
+returns-2 : tie.Need-returns-2
+returns-2 c = simp tail-is at (c .known-of .ensures)
+
 pub known-at-spec : {M : Type 1} → statement M
 known-at-spec =
     tie.close
     (tie.spec
-    (λ c. nothing-there (c .before .before .args .s .now) (c .before .before .args .at) (omega (arith, (c .if1 .taken))))
-    (λ c. search needs)
-    (λ c. search needs)
-    (λ c. search needs)
-    (λ c κs. search needs)
-    (λ c. simp tail-is at (c .known-of .ensures)))
+    returns
+    -- by search: sub-known-of 517:14, part-known-of-start 517:14, part-known-of-end 517:14, known-of-requires 517:5
+    (λ c. search needs) (λ c. search needs) (λ c. search needs) (λ c κs. search needs)
+    returns-2)

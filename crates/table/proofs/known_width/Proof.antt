@@ -3,14 +3,36 @@ use borrow.Author.Needs.{needs}
 use Rattle.table.proofs.known_width.Statement.{statement}
 use Rattle.table.proofs.known_width.Tie as tie
 
+-- src/lib.rt:490:1
+returns : tie.Need-returns
+returns c =
+    let t = c .before .before .before .before .before .args .t .now in
+    let known = c .before .before .before .before .shared-slice-known .given in
+    let read-of = c .before .before .before .read-of in
+    width-is t (read-of .result) _ known (read-of .ensures) (simp (c .before .width .given .1))
+
+-- src/lib.rt:490:1
+returns-2 : tie.Need-returns-2
+returns-2 c =
+    let t = c .before .before .before .before .args .t .now in
+    let known = c .before .before .before .shared-slice-known .given in
+    let read-of = c .before .before .read-of in
+    width-is t (read-of .result) _ known (read-of .ensures) (simp (c .enum-told .given .1))
+
+-- src/lib.rt:490:1
+returns-3 : tie.Need-returns-3
+returns-3 c =
+    let t = c .before .before .before .before .args .t .now in
+    let known = c .before .before .before .shared-slice-known .given in
+    let read-of = c .before .before .read-of in
+    width-is t (read-of .result) _ known (read-of .ensures) (simp (c .enum-told2 .given .1))
+
 pub known-width-spec : {M : Type 1} → statement M
 known-width-spec =
     tie.close
     (tie.spec
-    (λ c κs. search needs)
-    (λ c. search needs)
-    (λ c. search needs)
-    (λ c. search needs)
-    (λ c. width-is (c .before .before .before .before .before .args .t .now) (c .before .before .before .read-of .result) _ (c .before .before .before .before .shared-slice-known .given) (c .before .before .before .read-of .ensures) (simp (c .before .width .given .1)))
-    (λ c. width-is (c .before .before .before .before .args .t .now) (c .before .before .read-of .result) _ (c .before .before .before .shared-slice-known .given) (c .before .before .read-of .ensures) (simp (c .enum-told .given .1)))
-    (λ c. width-is (c .before .before .before .before .args .t .now) (c .before .before .read-of .result) _ (c .before .before .before .shared-slice-known .given) (c .before .before .read-of .ensures) (simp (c .enum-told2 .given .1))))
+    -- by search: read-of-requires 493:11, enum-known-width 494:23, enum-told 495:22, enum-told-2 496:28
+    (λ c κs. search needs) (λ c. search needs) (λ c. search needs) (λ c. search needs)
+    returns
+    returns-2
+    returns-3)

@@ -3,9 +3,14 @@ use borrow.Author.Needs.{needs}
 use Rattle.table.proofs.overlap_letter.Statement.{statement}
 use Rattle.table.proofs.overlap_letter.Tie as tie
 
+-- src/lib.rt:112:1
+returns : tie.Need-returns
+returns c = rw (c .yes-no .ensures) refl
+
 pub overlap-letter-spec : {M : Type 1} → statement M
 overlap-letter-spec =
     tie.close
     (tie.spec
+    -- by search: yes-no-requires 115:39
     (λ c κs. search needs)
-    (λ c. rw (c .yes-no .ensures) refl))
+    returns)

@@ -1,7 +1,7 @@
 use Rattle.xliff.specs.Parse.{reading}
 use Rattle.xliff.specs.Bytes.{any}
 use Rattle.walk.specs.Marks.{has-other}
-use Rattle.walk.specs.Kept.{Of, items}
+use Rattle.walk.specs.Kept.{Of, items, Rest}
 use Rattle.xliff.specs.Encode.{Record}
 use mathlib.Core.Bool.{Bool, _||_}
 use mathlib.Core.List.{List}
@@ -10,7 +10,7 @@ use Prim.Native.Nat.{_≤_, _-_}
 use native.Mathlib.Omega.{arith}
 use lib.ListN.{length}
 use Rattle.xliff.proofs.lists.Slices.{tail-is}
-use Rattle.walk.proofs.WalkLaws.{Rest, rest-start, next, rest-end, other-step}
+use Rattle.walk.proofs.WalkLaws.{rest-start, next, rest-end, other-step}
 use borrow.Author.Needs.{needs}
 use Rattle.walk.proofs.has_other.Statement.{statement}
 use Rattle.walk.proofs.has_other.Tie as tie

@@ -14,17 +14,43 @@ Inv-loop out₀ src i₀ out i = (i ≤ length src) × (length out ≡ length ou
 abbrev μ-loop : tie.MeasureT-loop
 μ-loop out₀ src i₀ out i = length src - i
 
+-- src/lib.rt:14:5
+loop-holds : tie.Need-loop-holds Inv-loop μ-loop
+loop-holds c = (omega arith, refl, refl)
+
+-- src/lib.rt:14:5
+loop-again : tie.Need-loop-again Inv-loop μ-loop
+loop-again c =
+    let args = c .before .before .before .args in
+    let src = args .src .now in
+    let loop = c .before .before .loop in
+    let i = loop .i in (
+      omega arith,
+      simp length-set (loop .inv .1),
+      ap (λ (l : List ℕ). set l i (getD src i 0)) (loop .inv .2)
+          ∙ lead-suc src (args .out .now) i (omega arith) (omega arith),
+    )
+
+-- src/lib.rt:9:1
+same-length : tie.Need-same-length Inv-loop μ-loop
+same-length c = c .before .loop .inv .1
+
+-- src/lib.rt:9:1
+returns : tie.Need-returns Inv-loop μ-loop
+returns c =
+    let args = c .before .before .args in
+    let loop = c .before .loop in
+    (omega arith, loop .inv .2 ∙ lead-full (args .src .now) (args .out .now) (loop .i) (omega arith))
+
 pub put-spec : {M : Type 1} → statement M
 put-spec =
     tie.close
     (tie.spec
     Inv-loop
     μ-loop
-    (λ c. (omega arith, refl, refl))
-    (λ c. search needs)
-    (λ c. search needs)
-    (λ c. search needs)
-    (λ c. search needs)
-    (λ c. (omega arith, simp length-set (c .before .before .loop .inv .1), ap (λ (l : List ℕ). set l (c .before .before .loop .i) (getD (c .before .before .before .args .src .now) (c .before .before .loop .i) 0)) (c .before .before .loop .inv .2) ∙ lead-suc (c .before .before .before .args .src .now) (c .before .before .before .args .out .now) (c .before .before .loop .i) (omega arith) (omega arith)))
-    (λ c. c .before .loop .inv .1)
-    (λ c. (omega arith, c .before .loop .inv .2 ∙ lead-full (c .before .before .args .src .now) (c .before .before .args .out .now) (c .before .loop .i) (omega arith))))
+    loop-holds
+    -- by search: shared-slice-read-out 15:18, slice-write-out 15:9, add-i 16:9, loop-less 14:5
+    (λ c. search needs) (λ c. search needs) (λ c. search needs) (λ c. search needs)
+    loop-again
+    same-length
+    returns)

@@ -5,11 +5,14 @@ use borrow.Author.Needs.{needs}
 use Rattle.writer.proofs.put_byte.Statement.{statement}
 use Rattle.writer.proofs.put_byte.Tie as tie
 
+-- src/lib.rt:22:1
+returns : tie.Need-returns
+returns c = (refl, one-byte (c .args .out .now) (c .args .at) (c .args .b) (c .pre))
+
 pub put-byte-spec : {M : Type 1} → statement M
 put-byte-spec =
     tie.close
     (tie.spec
-    (λ c. search needs)
-    (λ c. search needs)
-    (λ c. search needs)
-    (λ c. (refl, one-byte (c .args .out .now) (c .args .at) (c .args .b) (c .pre))))
+    -- by search: slice-write-out 26:5, add-result 27:5, same-length 22:1
+    (λ c. search needs) (λ c. search needs) (λ c. search needs)
+    returns)

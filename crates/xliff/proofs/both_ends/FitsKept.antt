@@ -19,7 +19,8 @@ use Rattle.xliff.specs.Join.{join-heads, join-targets, join-parts, join-
 use Rattle.xliff.specs.SetTarget.{set-focus}
 use Rattle.xliff.specs.RemoveTarget.{remove-focus}
 use Rattle.xliff.specs.Rewrite.{rewrite-item, rewrite-target, rewrite-part}
-use Rattle.xliff.proofs.lists.Each.{each-nil, each-cons, each-append, each-apart, each-take, each-drop, each-map}
+use Rattle.xliff.specs.Good.{each-nil, each-cons}
+use Rattle.xliff.proofs.lists.Each.{each-append, each-apart, each-take, each-drop, each-map}
 use Rattle.xliff.proofs.operations.Sources.{focus-here}
 use Rattle.xliff.proofs.operations.Closed.{state-id}
 use Rattle.xliff.proofs.unit.Table.{encode-unit, encode-content}

@@ -11,7 +11,8 @@ use Rattle.xliff.specs.Unit.{Target, no-target, target, Part, has-target
 use Rattle.xliff.specs.Rules.{fault-5}
 use Rattle.xliff.specs.Focus.{here, order-part, order-parts}
 use Rattle.xliff.specs.Split.{raise-above, cut-item, first-items, second-items, first-target, second-target, split-order, first-half, second-half, split-focus}
-use Rattle.xliff.proofs.lists.Each.{each-nil, each-cons, each-append, each-apart}
+use Rattle.xliff.specs.Good.{each-nil, each-cons}
+use Rattle.xliff.proofs.lists.Each.{each-append, each-apart}
 use Rattle.xliff.proofs.lists.Tests.{gather-append, map-append, and-false, and-true, or-true}
 use Rattle.xliff.proofs.rules.Sequences.{append-nil-left, append-nil-right}
 use Rattle.xliff.proofs.operations.Sources.{source-append, source-orders, has-order, items-order}

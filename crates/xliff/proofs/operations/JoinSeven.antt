@@ -10,7 +10,8 @@ use Rattle.xliff.specs.Rules.{fault-5, fault-7}
 use Rattle.xliff.specs.Focus.{here}
 use Rattle.xliff.specs.Join.{join-targets, join-parts, join-order, join-focus, bad-orders}
 use Rattle.xliff.proofs.lists.Tests.{map-append}
-use Rattle.xliff.proofs.lists.Each.{each-cons, each-append, each-apart}
+use Rattle.xliff.specs.Good.{each-cons}
+use Rattle.xliff.proofs.lists.Each.{each-append, each-apart}
 use Rattle.xliff.proofs.operations.Sources.{join-source-here}
 use Rattle.xliff.proofs.operations.JoinTarget.{join-target}
 use Rattle.xliff.proofs.operations.JoinRules.{items-join}

@@ -13,10 +13,9 @@ use Rattle.xliff.specs.Rules.{fault-5, fault-6, fault-7, fault-8, fault-
 use Rattle.xliff.specs.Check.{Valid, too-large}
 use Rattle.xliff.specs.Focus.{Focus, nowhere, here, focus, order-target, order-part, order-parts, with-parts}
 use Rattle.xliff.specs.Join.{rank, earliest, dash, join-heads, join-targets, join-parts, join-order, join-focus, join-unit, bad-orders, join-refusal, join}
-use Rattle.xliff.proofs.lists.Each.{each-nil, each-cons, each-append, each-apart}
-use Rattle.xliff.proofs.records.Read.{GoodHead}
+use Rattle.xliff.specs.Good.{each-nil, each-cons, GoodHead, GoodTarget, GoodPart, GoodParts}
+use Rattle.xliff.proofs.lists.Each.{each-append, each-apart}
 use Rattle.xliff.proofs.operations.Sources.{focus-here, join-source}
-use Rattle.xliff.proofs.unit.Valid.{GoodTarget, GoodPart, GoodParts}
 use Rattle.xliff.proofs.unit.Result.{then-left, then-right, then-none, applies-none, operation-result, Sent, sent}
 use Rattle.xliff.proofs.unit.Accepted.{Accepted, accepted-valid}
 use Rattle.xliff.proofs.operations.SetValid.{some-part}

@@ -18,15 +18,14 @@ use Rattle.xliff.specs.Check.{Valid, too-large}
 use Rattle.xliff.specs.Focus.{Focus, nowhere, here, focus, with-parts}
 use Rattle.xliff.specs.RemoveTarget.{remove-focus, remove-unit, lacks-target, remove-refusal, remove-target}
 use Rattle.xliff.proofs.lists.Sum.{sum-append}
-use Rattle.xliff.proofs.lists.Each.{each-cons, each-append, each-apart}
+use Rattle.xliff.specs.Good.{each-cons, GoodHead, GoodParts}
+use Rattle.xliff.proofs.lists.Each.{each-append, each-apart}
 use Rattle.xliff.proofs.lists.Tests.{or-right, and-left, and-right, and-both, not-true}
-use Rattle.xliff.proofs.records.Read.{GoodHead}
 use Rattle.xliff.proofs.operations.Sources.{focus-here, source-append}
 use Rattle.xliff.proofs.rules.Orders.{orders-fit}
 use Rattle.xliff.proofs.operations.SplitTarget.{orders-append, fault-5-fits}
 use Rattle.xliff.proofs.operations.Closed.{state-id}
 use Rattle.xliff.proofs.rules.Sequences.{clear, rule-8, rule-8-back, rule-10, rule-10-back}
-use Rattle.xliff.proofs.unit.Valid.{GoodParts}
 use Rattle.xliff.proofs.unit.Result.{then-left, then-right, then-none, applies-none, of-result-none, operation-result, Sent, sent}
 use Rattle.xliff.proofs.unit.Accepted.{Accepted, accepted-valid}
 use Rattle.xliff.proofs.operations.SetValid.{rule-5-back, some-part}

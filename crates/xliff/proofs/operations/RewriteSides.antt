@@ -14,7 +14,8 @@ use Rattle.xliff.specs.Sequences.{located}
 use Rattle.xliff.specs.Rules.{fault-5, fault-6, fault-7, fault-8}
 use Rattle.xliff.specs.Rewrite.{rewrite-item, rewrite-target, are-partners}
 use Rattle.xliff.proofs.lists.Sum.{sum, sum-cong, sum-map}
-use Rattle.xliff.proofs.lists.Each.{Each, each-nil, each-cons, each-weaken}
+use Rattle.xliff.specs.Good.{Each, each-nil, each-cons}
+use Rattle.xliff.proofs.lists.Each.{each-weaken}
 use Rattle.xliff.proofs.lists.Tests.{map-append}
 use Rattle.xliff.proofs.operations.Sources.{flat-rewrite}
 use Rattle.xliff.proofs.rules.Orders.{orders-fit}

@@ -14,12 +14,12 @@ use Rattle.xliff.specs.Rules.{half-of-id, fault-6, fault-7, fault-8, fau
 use Rattle.xliff.specs.Check.{Valid, too-large}
 use Rattle.xliff.specs.Focus.{with-parts}
 use Rattle.xliff.specs.Rewrite.{form-of, rewrite-item, rewrite-target, rewrite-part, rewrite-unit, side-content, side-sequence, Whole, find-whole, are-partners, unfit-letter, to-P-refusal, already, pair-refusal, rewrite-refusal, rewrite}
-use Rattle.xliff.proofs.lists.Each.{each-nil, each-cons, each-map}
+use Rattle.xliff.specs.Good.{each-nil, each-cons, GoodIn, GoodTarget, GoodPart, GoodParts}
+use Rattle.xliff.proofs.lists.Each.{each-map}
 use Rattle.xliff.proofs.lists.Tests.{or-left, or-right, not-false}
 use Rattle.xliff.proofs.operations.Sources.{rewrite-source}
 use Rattle.xliff.proofs.operations.JoinTarget.{rewrite-target-sequence}
 use Rattle.xliff.proofs.rules.Flat.{rule-9-kept, rule-10-kept}
-use Rattle.xliff.proofs.unit.Valid.{GoodIn, GoodTarget, GoodPart, GoodParts}
 use Rattle.xliff.proofs.unit.Result.{then-left, then-right, then-none, applies-none, operation-result, Sent, sent}
 use Rattle.xliff.proofs.unit.Accepted.{Accepted, accepted-valid}
 use Rattle.xliff.proofs.rules.Marks.{marks, Shape, waits}

@@ -18,14 +18,14 @@ use Rattle.xliff.specs.Rules.{bad-order, first-bad-order, fault-5, fault
 use Rattle.xliff.specs.Check.{Valid, too-large}
 use Rattle.xliff.specs.Focus.{Focus, nowhere, here, focus, with-parts}
 use Rattle.xliff.specs.SetTarget.{state-fits, lowest-unused, new-order, set-focus, set-unit, set-refusal, set-target}
-use Rattle.xliff.proofs.lists.Each.{each-cons, each-append, each-apart}
+use Rattle.xliff.specs.Good.{each-cons, GoodHead, GoodParts}
+use Rattle.xliff.proofs.lists.Each.{each-append, each-apart}
 use Rattle.xliff.proofs.lists.Tests.{or-left, or-right, and-right, not-false, or-both}
-use Rattle.xliff.proofs.records.Read.{GoodHead}
 use Rattle.xliff.proofs.operations.Sources.{focus-here, focus-at}
 use Rattle.xliff.proofs.rules.Orders.{orders-fit}
 use Rattle.xliff.proofs.operations.SplitTarget.{orders-append, fault-5-fits}
 use Rattle.xliff.proofs.rules.Unused.{lowest-fits}
-use Rattle.xliff.proofs.unit.Valid.{GoodParts, content-good}
+use Rattle.xliff.proofs.unit.Valid.{content-good}
 use Rattle.xliff.proofs.unit.Result.{then-left, then-right, applies-none, of-result-none, operation-result, Sent, sent}
 use Rattle.xliff.proofs.unit.Accepted.{Accepted, accepted-valid}
 

@@ -18,14 +18,13 @@ use Rattle.xliff.specs.Check.{Valid, too-large}
 use Rattle.xliff.specs.Focus.{Focus, nowhere, here, focus, order-parts, with-parts}
 use Rattle.xliff.specs.Split.{cut-item, first-items, second-items, first-target, second-target, split-order, first-half, second-half, split-focus, split-unit, has-id, part-has-id, id-taken, bad-cut, split-refusal, split}
 use Rattle.xliff.proofs.lists.Sum.{bit, sum, sum-append}
-use Rattle.xliff.proofs.lists.Each.{each-cons, each-append, each-apart, each-take, each-drop, each-map}
+use Rattle.xliff.specs.Good.{each-cons, GoodHead, GoodIn, GoodContent, GoodTarget, GoodParts}
+use Rattle.xliff.proofs.lists.Each.{each-append, each-apart, each-take, each-drop, each-map}
 use Rattle.xliff.proofs.lists.Tests.{or-left, or-right}
-use Rattle.xliff.proofs.records.Read.{GoodHead}
 use Rattle.xliff.proofs.operations.Sources.{focus-here, flat-cut, split-source}
 use Rattle.xliff.proofs.operations.SplitTarget.{split-target}
 use Rattle.xliff.proofs.operations.SplitOrders.{split-5}
 use Rattle.xliff.proofs.rules.Flat.{rule-9-kept, rule-10-kept}
-use Rattle.xliff.proofs.unit.Valid.{GoodIn, GoodContent, GoodTarget, GoodParts}
 use Rattle.xliff.proofs.unit.Result.{then-left, then-right, then-none, applies-none, operation-result, Sent, sent}
 use Rattle.xliff.proofs.unit.Accepted.{Accepted, accepted-valid}
 use Rattle.xliff.proofs.operations.SetValid.{some-part}

@@ -13,11 +13,10 @@ use Rattle.xliff.specs.Item.{Item, Content, start, end, form-P, form-S, 
 use Rattle.xliff.specs.Unit.{Head, segment, ignorable, Target, no-target, target, Part, XliffUnit, head-id, order-list, orders}
 use Rattle.xliff.specs.Encode.{Record, opening, closing, part-head, target-head, text-run, inline, ill-text, broken, field-bytes, head-bytes, record-bytes, text-before, item-before, content-records, target-records, part-records, unit-records, spell}
 use Rattle.xliff.specs.Rules.{bad-order}
-use Rattle.xliff.proofs.lists.Each.{Each, each-nil, each-cons, each-append, each-left, each-right}
+use Rattle.xliff.specs.Good.{Each, each-nil, each-cons, Allowed, no-text, one-point, GoodHead, GoodRecord, AllGood}
+use Rattle.xliff.proofs.lists.Each.{each-append, each-left, each-right}
 use Rattle.xliff.proofs.lists.Tests.{and-left, and-right, or-left, or-right, not-true}
-use Rattle.xliff.proofs.text.Utf8.{Allowed, no-text, one-point, allowed-bound}
-use Rattle.xliff.proofs.records.Read.{GoodHead, GoodRecord}
-use Rattle.xliff.proofs.records.Parse.{AllGood}
+use Rattle.xliff.proofs.text.Utf8.{allowed-bound}
 use Rattle.xliff.proofs.rules.Orders.{orders-fit}
 
 -- lists of bytes put together and taken apart

@@ -11,8 +11,8 @@ use Rattle.xliff.specs.Item.{Item, Content, start, end, form-P, form-S, 
 use Rattle.xliff.specs.Unit.{segment, ignorable, Target, no-target, target, Part, XliffUnit}
 use Rattle.xliff.specs.Encode.{Record, opening, closing, part-head, target-head, text-run, inline, ill-text, broken, head-bytes, record-bytes, text-before, item-before, content-records, target-records, part-records, unit-records, spell, encode}
 use Rattle.xliff.specs.Parse.{is-broken, read, Entry, walk, most-records, entries, records, Reading, take-record, reading, opening-of, unit}
-use Rattle.xliff.proofs.lists.Each.{Each, each-cons}
-use Rattle.xliff.proofs.records.Read.{GoodRecord, read-bytes}
+use Rattle.xliff.specs.Good.{Each, each-cons, GoodRecord, AllGood}
+use Rattle.xliff.proofs.records.Read.{read-bytes}
 
 -- records one after the other, with their offsets
 unfoldable pub placed : ℕ → List Record → List Entry
@@ -23,9 +23,6 @@ pub the-placed : (at : ℕ) (rs : List Record) → map (λ (e : Entry). e .the) 
 unfolding placed
 the-placed at [] = refl
 the-placed at (r ∷ rs) = ap {B = List Record} (λ l. r ∷ l) (the-placed (at + length (record-bytes r)) rs)
-
-abbrev pub AllGood : List Record → Type 0
-AllGood rs = Each GoodRecord rs
 
 good-whole : (r : Record) → GoodRecord r → is-broken r ≡ false
 unfolding is-broken

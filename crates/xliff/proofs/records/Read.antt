@@ -15,32 +15,9 @@ use Rattle.xliff.specs.Item.{Item, Fields, start, end, Form, form-P, for
 use Rattle.xliff.specs.Unit.{Head, segment, ignorable}
 use Rattle.xliff.specs.Encode.{Record, opening, closing, part-head, target-head, text-run, inline, ill-text, broken, code-bytes, field-bytes, head-bytes, record-bytes}
 use Rattle.xliff.specs.Parse.{Mark, UN, UE, SG, IG, TG, TX, CP, PH, PO, PC, SC, EC, IS, IE, MO, SM, MC, EM, unknown, is-broken, is, mark-of, mark-at, whole, whole-part, opening-at, good-opening, segment-at, good-segment, code-at, good-id, good-code, code, mark-start, mark-end, text-record, read-as, read}
-use Rattle.xliff.proofs.lists.Tests.{and-left, and-right, two-value, two-bytes, four-value, four-bytes, enough-append, gets, peel, byte-at}
-use Rattle.xliff.proofs.text.Utf8.{Allowed, text-of-utf8s, text-of-some}
-
--- what the fields of a record must be for it to be read back
-abbrev pub GoodItem : Item → Type 0
-GoodItem (text c) = ⊥
-GoodItem (character c) = Unit {0}
-GoodItem (standalone f) = good-code ('-' ∷ []) f ≡ true
-GoodItem (isolated h f) = good-code ('Y' ∷ 'N' ∷ []) f ≡ true
-GoodItem (pair h w f) = good-code ('Y' ∷ 'N' ∷ []) f ≡ true
-GoodItem (annotation-start w i t) = (good-id i ≡ true) × (among t ('Y' ∷ 'N' ∷ '-' ∷ []) ≡ true)
-GoodItem (annotation-end w i) = good-id i ≡ true
-
-abbrev pub GoodHead : Head → Type 0
-GoodHead (segment f) = (among (f .canResegment) ('Y' ∷ 'N' ∷ '-' ∷ []) ≡ true) × (among (f .state) ('I' ∷ 'T' ∷ 'R' ∷ 'F' ∷ []) ≡ true)
-GoodHead (ignorable i) = Unit {0}
-
-abbrev pub GoodRecord : Record → Type 0
-GoodRecord (opening o) = among (o .canResegment) ('Y' ∷ 'N' ∷ []) ≡ true
-GoodRecord closing = Unit {0}
-GoodRecord (part-head h) = GoodHead h
-GoodRecord (target-head q) = Unit {0}
-GoodRecord (text-run cs) = Allowed cs
-GoodRecord (inline x) = GoodItem x
-GoodRecord ill-text = ⊥
-GoodRecord (broken b) = ⊥
+use Rattle.xliff.proofs.lists.Tests.{and-left, and-right, two-value, two-bytes, four-value, four-bytes, enough-append, peel, byte-at}
+use Rattle.xliff.specs.Good.{Allowed, gets, GoodItem, GoodRecord}
+use Rattle.xliff.proofs.text.Utf8.{text-of-utf8s, text-of-some}
 
 -- the fields of a code, read back
 code-at-bytes : (a b : ℕ) (f : Fields) (t : List ℕ) → code-at (a ∷ b ∷ (code-bytes f ++ t)) ≡ f

@@ -13,7 +13,7 @@ use Rattle.xliff.specs.Unit.{Target, no-target, target, Part, has-target
 use Rattle.xliff.specs.Sequences.{Located, located-from, located, part-size, source-at, target-at, Placed, placed-from, placed-source, placed-target, placed-source-sequence, placed-target-sequence, placed-contents, blamed, first-of}
 use Rattle.xliff.specs.Rules.{starts-id, half-of-id, lone-P, lone-S, may-be-lone, lone-in-target, with-partner, waiting, fault-7}
 use Rattle.xliff.proofs.lists.Sum.{bit, sum, sum-append, sum-le}
-use Rattle.xliff.proofs.lists.Each.{Each, each-nil, each-cons}
+use Rattle.xliff.specs.Good.{Each, each-nil, each-cons}
 use Rattle.xliff.proofs.lists.Tests.{and-left, and-right, not-true}
 use Rattle.xliff.proofs.rules.Sequences.{clear, blamed-clear, clear-blamed, first-of-none, append-nil-left, append-nil-right, items-placed, items-source, items-target, clear-cong, clear-drop}
 use Rattle.xliff.proofs.rules.Stack.{r-nil, Bal}

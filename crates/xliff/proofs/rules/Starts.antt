@@ -1,4 +1,5 @@
 -- What a change of forms or of orders leaves as it is: the starts and ids of rule 6, and that an item is good as bytes.
+use Rattle.xliff.specs.Good.{GoodIn}
 use Prim.Native.Nat.{ℕ, _+_}
 use mathlib.Core.Path.{_≡_, refl, sym, ap, _∙_}
 use mathlib.Core.List.{List, map}
@@ -9,7 +10,6 @@ use Rattle.xliff.specs.Rules.{starts-id}
 use Rattle.xliff.proofs.operations.Sources.{items-order}
 use Rattle.xliff.proofs.lists.Sum.{sum, sum-cong, sum-map}
 use Rattle.xliff.proofs.rules.Flat.{class-flat, id-flat, half-flat}
-use Rattle.xliff.proofs.unit.Valid.{GoodIn}
 use Rattle.xliff.proofs.rules.Six.{start-bit, starts, part-bit, source-ids, target-ids}
 
 -- a start is one in any form

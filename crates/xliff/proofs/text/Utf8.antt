@@ -1,4 +1,5 @@
 -- Laws of UTF-8: a text is read back from its bytes, and the bytes from the text.
+use Rattle.xliff.specs.Good.{Allowed, no-text, one-point}
 use Prim.Native.Nat.{ℕ, zero, suc, _+_, _*_, _-_, _/_, _%_, _<_, _≤_}
 use mathlib.Core.Path.{_≡_, refl, sym, ap, _∙_}
 use mathlib.Core.Bool.{Bool, true, false, _&&_, cond, true≢false}
@@ -75,11 +76,6 @@ code-points-step : (n c : ℕ) (s : List ℕ) → allowed-first s ≡ some c →
 unfolding code-points allowed-first begins-with xml-allows spelled between
 code-points-step n c [] e = absurd (none-some e)
 code-points-step n c (b ∷ s) e = rw (e, code-points)
-
--- the test of each code point
-pub data Allowed : List ℕ → Type 0 where
-  no-text : Allowed []
-  one-point : {c : ℕ} {cs : List ℕ} → xml-allows c ≡ true → Allowed cs → Allowed (c ∷ cs)
 
 pub utf8-nonempty : (c : ℕ) → 0 < length (utf8 c)
 unfolding utf8

@@ -13,7 +13,8 @@ use Rattle.xliff.specs.Unit.{XliffUnit}
 use Rattle.xliff.specs.Encode.{closing, part-records, unit-records, encode}
 use Rattle.xliff.specs.Parse.{most-bytes, most-records, most-parts, unit}
 use Rattle.xliff.specs.Check.{Valid, too-large}
-use Rattle.xliff.proofs.lists.Each.{each-nil, each-cons, each-append}
+use Rattle.xliff.specs.Good.{each-nil, each-cons}
+use Rattle.xliff.proofs.lists.Each.{each-append}
 use Rattle.xliff.proofs.lists.Tests.{or-left, or-right}
 use Rattle.xliff.proofs.records.Parse.{records-unit}
 use Rattle.xliff.proofs.operations.SplitTarget.{fault-5-fits}

@@ -1,4 +1,5 @@
 -- The bytes of a part, and of a table, piece by piece.
+use Rattle.xliff.specs.Good.{bytes-of, opened, closed}
 use Prim.Native.Nat.{ℕ}
 use mathlib.Core.Path.{_≡_, sym, ap, _∙_}
 use mathlib.Core.List.{List, [], _∷_, _++_, append-assoc, append-nil}
@@ -20,19 +21,10 @@ part-bytes p =
     ∙ sym (append-assoc (head-bytes (p .head)) (spell (content-records (p .source))) (spell (target-records (p .target))))
 
 -- parts one after the other
-abbrev pub bytes-of : List Part → List ℕ
-bytes-of ps = spell (gather part-records ps)
-
 pub bytes-append : (ps qs : List Part) → bytes-of (ps ++ qs) ≡ bytes-of ps ++ bytes-of qs
 bytes-append ps qs = ap spell (gather-append part-records ps qs) ∙ spell-append (gather part-records ps) (gather part-records qs)
 
 -- a table: UN, its parts, UE
-abbrev pub opened : XliffUnit → List ℕ
-opened u = record-bytes (opening (u .opening))
-
-abbrev pub closed : List ℕ
-closed = record-bytes closing
-
 pub table-pieces : (u : XliffUnit) → encode u ≡ (opened u ++ bytes-of (u .parts)) ++ closed
 unfolding encode unit-records spell gather
 table-pieces u =

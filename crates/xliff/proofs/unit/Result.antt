@@ -1,4 +1,5 @@
 -- Laws of results: a unit of good parts, within the limits, that meets 5 to 10 is valid as bytes. And what acceptance says.
+use Rattle.xliff.specs.Good.{each-cons, GoodRecord, AllGood, GoodParts}
 use Prim.Native.Nat.{ℕ, _-_, _≤_}
 use mathlib.Core.Path.{_≡_, refl, sym, ap, _∙_, subst}
 use mathlib.Core.Bool.{Bool, true, false, true≢false, false≢true}
@@ -15,12 +16,10 @@ use Rattle.xliff.specs.Encode.{Record, opening, closing, part-head, targ
 use Rattle.xliff.specs.Parse.{most-bytes, most-records, most-parts, Stage, unit-due, part-due, step, unit-step, part-step, may-end, entries, records, reading, take-record, opening-of, unit, table-fault}
 use Rattle.xliff.specs.Rules.{fault-5, fault-6-to-10}
 use Rattle.xliff.specs.Check.{table-refusal, Valid, too-large, operation}
-use Rattle.xliff.proofs.lists.Each.{each-cons}
 use Rattle.xliff.proofs.lists.Tests.{none-some, or-left, or-right}
-use Rattle.xliff.proofs.records.Read.{GoodRecord}
-use Rattle.xliff.proofs.records.Parse.{AllGood, records-unit}
+use Rattle.xliff.proofs.records.Parse.{records-unit}
 use Rattle.xliff.proofs.unit.Table.{Runs, at-end, goes-on, fault-on, on-on, table-walked}
-use Rattle.xliff.proofs.unit.Valid.{GoodParts, unit-runs, good-unit-passes, unit-good}
+use Rattle.xliff.proofs.unit.Valid.{unit-runs, good-unit-passes, unit-good}
 
 -- taking refusals apart
 pub then-left : (a b : Option Refusal) → (a then b) ≡ none → a ≡ none

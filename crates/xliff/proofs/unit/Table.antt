@@ -14,10 +14,10 @@ use Rattle.xliff.specs.Item.{Item, Content, text, character, standalone,
 use Rattle.xliff.specs.Unit.{Head, Part}
 use Rattle.xliff.specs.Encode.{Record, opening, closing, part-head, target-head, text-run, inline, ill-text, broken, record-bytes, text-before, item-before, content-records, target-records, part-records, unit-records, spell, content-bytes, encode}
 use Rattle.xliff.specs.Parse.{is-broken, read, Entry, walk, most-records, most-parts, bad-text, bad-item, entries, records, Stage, unit-due, part-due, in-source, in-target, complete, alone, Step, on, fault, inline-step, unit-step, part-step, outer-step, step, is-part, may-end, first-bad, table-fault, content-fault, take-record, reading, opening-of, unit, content}
-use Rattle.xliff.proofs.lists.Each.{each-nil, each-cons}
+use Rattle.xliff.specs.Good.{each-nil, each-cons, AllGood}
 use Rattle.xliff.proofs.lists.Tests.{none-some, or-left, or-right, or-true}
 use Rattle.xliff.proofs.records.Read.{read-sound}
-use Rattle.xliff.proofs.records.Parse.{walk-step, AllGood}
+use Rattle.xliff.proofs.records.Parse.{walk-step}
 
 -- the records follow each other from a stage to one where the bytes may end
 pub data Runs : Stage → List Record → Type 0 where

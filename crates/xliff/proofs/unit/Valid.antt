@@ -13,16 +13,10 @@ use Rattle.xliff.specs.Item.{Item, Content, text, character, standalone,
 use Rattle.xliff.specs.Unit.{Head, Target, no-target, target, Part, XliffUnit}
 use Rattle.xliff.specs.Encode.{Record, opening, closing, part-head, target-head, text-run, inline, ill-text, broken, record-bytes, text-before, item-before, content-records, target-records, part-records, unit-records, spell, encode}
 use Rattle.xliff.specs.Parse.{most-records, most-parts, bad-text, bad-item, entries, Stage, unit-due, part-due, in-source, in-target, complete, alone, on, fault, inline-step, unit-step, part-step, outer-step, step, is-part, may-end, first-bad, table-fault, content-fault, Reading, take-record, reading, records, unit, content}
-use Rattle.xliff.proofs.lists.Each.{Each, each-nil, each-cons, each-append}
-use Rattle.xliff.proofs.text.Utf8.{Allowed, no-text, one-point}
-use Rattle.xliff.proofs.records.Read.{GoodItem, GoodHead, GoodRecord}
-use Rattle.xliff.proofs.records.Parse.{placed, AllGood, walk-spell}
+use Rattle.xliff.specs.Good.{Each, each-nil, each-cons, Allowed, no-text, one-point, GoodItem, GoodHead, GoodRecord, AllGood, part-heads, GoodIn, GoodContent, GoodTarget, GoodPart, GoodParts}
+use Rattle.xliff.proofs.lists.Each.{each-append}
+use Rattle.xliff.proofs.records.Parse.{placed, walk-spell}
 use Rattle.xliff.proofs.unit.Table.{Runs, at-end, goes-on, fault-on, cond-on, starts-text, table-walked, content-walked}
-
--- how many records are parts
-unfoldable pub part-heads : List Record → ℕ
-part-heads [] = 0
-part-heads (r ∷ rs) = cond (is-part r) 1 0 + part-heads rs
 
 -- records in sequence and few enough: none is bad
 pub none-bad : (size left parts at : ℕ) (st : Stage) (rs : List Record) → Runs st rs → length rs ≤ left → part-heads rs ≤ parts → first-bad size left parts st (placed at rs) ≡ none
@@ -45,19 +39,6 @@ unfolding table-fault entries encode
 encode-passes u g run l h =
     ap (first-bad (length (spell (unit-records u))) most-records most-parts unit-due) (walk-spell (suc most-records) 0 (unit-records u) g (omega arith))
     ∙ none-bad (length (spell (unit-records u))) most-records most-parts 0 unit-due (unit-records u) run l h
-
--- Good contents: what a content of a table that passes holds
-abbrev pub GoodIn : Item → Type 0
-GoodIn (text c) = xml-allows c ≡ true
-GoodIn (character c) = bad-item (character c) ≡ false
-GoodIn (standalone f) = GoodItem (standalone f)
-GoodIn (isolated h f) = GoodItem (isolated h f)
-GoodIn (pair h w f) = GoodItem (pair h w f)
-GoodIn (annotation-start w i t) = GoodItem (annotation-start w i t)
-GoodIn (annotation-end w i) = GoodItem (annotation-end w i)
-
-abbrev pub GoodContent : Content → Type 0
-GoodContent xs = Each GoodIn xs
 
 -- A content that stands in a stage, and the records after it, which begin with no text
 module _ (inside : Bool → Stage) (rs : List Record)
@@ -128,19 +109,6 @@ module _ (inside : Bool → Stage) (rs : List Record)
   unfolding content-records
   fine-content [] each-nil = record { all-good = good; from-start = runs false; from-text = λ _. runs true }
   fine-content (x ∷ xs) (each-cons g a) = fine-item x (content-records xs) g (fine-content xs a)
-
--- Good parts
-abbrev pub GoodTarget : Target → Type 0
-GoodTarget no-target = Unit {0}
-GoodTarget (target q xs) = GoodContent xs
-
-pub record GoodPart (p : Part) : Type 0 where
-  pub head : GoodHead (p .head)
-  pub source : GoodContent (p .source)
-  pub target : GoodTarget (p .target)
-
-abbrev pub GoodParts : List Part → Type 0
-GoodParts ps = Each GoodPart ps
 
 -- the records from a part on
 pub record Ready (rs : List Record) : Type 0 where
