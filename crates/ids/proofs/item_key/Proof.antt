@@ -57,11 +57,15 @@ returns c = rw (c .enum-told .given .1) (λ at. named-none at)
 -- src/lib.rt:45:1
 returns-2 : tie.Need-returns-2
 unfolding start-name class half id-of
-returns-2 c = rw (c .before .before .i .given .1) (λ at. named-some (c .before .before .before .before .args .o) _ (c .key .result) at (c .before .before .before .before .pre .0) (c .key .ensures))
+returns-2 c = rw (c .before .before .i .given .1)
+    (λ at. named-some (c .before .before .before .before .args .o) _ (c .key .result) at (c .before .before .before .before .pre .0)
+    (c .key .ensures))
 
 -- src/lib.rt:45:1
 returns-3 : tie.Need-returns-3
-returns-3 c = rw (c .before .before .i2 .given .1) (λ at. named-some (c .before .before .before .before .args .o) _ (c .key2 .result) at (c .before .before .before .before .pre .0) (c .key2 .ensures) ∙ sym (isolated-name (owner (c .before .before .before .before .args .o)) _ _ at))
+returns-3 c = rw (c .before .before .i2 .given .1)
+    (λ at. named-some (c .before .before .before .before .args .o) _ (c .key2 .result) at (c .before .before .before .before .pre .0)
+    (c .key2 .ensures) ∙ sym (isolated-name (owner (c .before .before .before .before .args .o)) _ _ at))
 
 -- src/lib.rt:45:1
 returns-4 : tie.Need-returns-4
@@ -71,7 +75,9 @@ returns-4 c = rw (c .before .before .i3 .given .1) (λ at. c .pair-key .ensures 
 -- src/lib.rt:45:1
 returns-5 : tie.Need-returns-5
 unfolding start-name class half id-of
-returns-5 c = rw (c .before .before .i4 .given .1) (λ at. named-some (c .before .before .before .before .args .o) _ (c .key3 .result) at (c .before .before .before .before .pre .0) (c .key3 .ensures))
+returns-5 c = rw (c .before .before .i4 .given .1)
+    (λ at. named-some (c .before .before .before .before .args .o) _ (c .key3 .result) at (c .before .before .before .before .pre .0)
+    (c .key3 .ensures))
 
 -- src/lib.rt:45:1
 returns-6 : tie.Need-returns-6

@@ -8,12 +8,38 @@ use native.Mathlib.Omega.{arith}
 use Rattle.kept_codes.proofs.is_non_removable.Statement.{statement}
 use Rattle.kept_codes.proofs.is_non_removable.Tie as tie
 
-pub is-non-removable-spec : {M : Type 1} → statement M
+-- src/lib.rt:16:8
+code-of-requires : tie.Need-code-of-requires
 unfolding nonRemovableAt
+code-of-requires c κs = begins-least (c .before .args .t .now) (c .before .pre)
+
+-- src/lib.rt:17:9
+returns : tie.Need-returns
+unfolding nonRemovableAt
+returns c =
+    let t = c .before .before .before .args .t .now in
+    simp (eq-eqb (codeAt t) 0 (sym (c .before .code-of .ensures) ∙ c .if1 .taken))
+
+-- src/lib.rt:19:5
+shared-slice-read-result : tie.Need-shared-slice-read-result
+unfolding nonRemovableAt
+shared-slice-read-result c =
+    let start = c .before .before .before .before in
+    omega
+    (arith, begins-code (start .args .t .now) (start .pre) (omega (arith, c .before .before .code-of .ensures)))
+
+-- src/lib.rt:12:1
+returns-2 : tie.Need-returns-2
+unfolding nonRemovableAt
+returns-2 c =
+    let t = c .before .before .before .before .args .t .now in
+    simp (ne-eqb (codeAt t) 0 (omega (arith, c .before .before .code-of .ensures)))
+
+pub is-non-removable-spec : {M : Type 1} → statement M
 is-non-removable-spec =
     tie.close
     (tie.spec
-    (λ c κs. begins-least (c .before .args .t .now) ((c .before .pre)))
-    (λ c. simp (eq-eqb (codeAt (c .before .before .before .args .t .now)) 0 (sym (c .before .code-of .ensures) ∙ (c .if1 .taken))))
-    (λ c. omega (arith, begins-code (c .before .before .before .before .args .t .now) ((c .before .before .before .before .pre)) (omega (arith, c .before .before .code-of .ensures))))
-    (λ c. simp (ne-eqb (codeAt (c .before .before .before .before .args .t .now)) 0 (omega (arith, c .before .before .code-of .ensures)))))
+    code-of-requires
+    returns
+    shared-slice-read-result
+    returns-2)

@@ -15,17 +15,48 @@ Inv-loop t u i₀ i = (2 ≤ i) × (i ≤ 12) × (equal (fieldsAt t) (fieldsAt u
 abbrev μ-loop : tie.MeasureT-loop
 μ-loop t u i₀ i = 12 - i
 
+-- src/lib.rt:28:5
+loop-holds : tie.Need-loop-holds Inv-loop μ-loop
+loop-holds c = (omega arith, omega arith, same-start (c .args .t .now) (c .args .u .now))
+
+-- src/lib.rt:30:13
+returns : tie.Need-returns Inv-loop μ-loop
+returns c =
+    let args = c .before .before .before .before .before .args in
+    let loop = c .before .before .before .before .loop in
+    let loop-test = c .before .before .before .loop-test in
+    sym (loop .inv .2
+    ∙ same-off (loop .i) (args .t .now) (args .u .now) (loop-test .taken) (not-true _ (c .if1 .taken)))
+
+-- src/lib.rt:28:5
+loop-again : tie.Need-loop-again Inv-loop μ-loop
+loop-again c =
+    let args = c .before .before .before .before .before .args in
+    let loop = c .before .before .before .before .loop in
+    let loop-test = c .before .before .before .loop-test in (
+      omega arith,
+      omega arith,
+      loop .inv .2 ∙ same-on (loop .i) (args .t .now) (args .u .now) (loop-test .taken) (not-false _ (c .if1 .left)),
+    )
+
+-- src/lib.rt:23:1
+returns-2 : tie.Need-returns-2 Inv-loop μ-loop
+returns-2 c =
+    let args = c .before .before .args in
+    let loop = c .before .loop in
+    sym (loop .inv .2 ∙ same-end (loop .i) (args .t .now) (args .u .now) (c .loop-test .left))
+
 pub same-fields-spec : {M : Type 1} → statement M
 same-fields-spec =
     tie.close
     (tie.spec
     Inv-loop
     μ-loop
-    (λ c. (omega arith, omega arith, same-start (c .args .t .now) (c .args .u .now)))
-    (λ c. search needs)
-    (λ c. search needs)
-    (λ c. sym (c .before .before .before .before .loop .inv .2 ∙ same-off (c .before .before .before .before .loop .i) (c .before .before .before .before .before .args .t .now) (c .before .before .before .before .before .args .u .now) ((c .before .before .before .loop-test .taken)) (not-true _ ((c .if1 .taken)))))
-    (λ c. search needs)
-    (λ c. omega arith)
-    (λ c. (omega arith, omega arith, c .before .before .before .before .loop .inv .2 ∙ same-on (c .before .before .before .before .loop .i) (c .before .before .before .before .before .args .t .now) (c .before .before .before .before .before .args .u .now) ((c .before .before .before .loop-test .taken)) (not-false _ ((c .if1 .left)))))
-    (λ c. sym (c .before .loop .inv .2 ∙ same-end (c .before .loop .i) (c .before .before .args .t .now) (c .before .before .args .u .now) ((c .loop-test .left)))))
+    loop-holds
+    -- by search: shared-slice-read-if1 29:14, shared-slice-read-if1-2 29:22
+    (λ c. search needs) (λ c. search needs)
+    returns
+    -- by one step: add-i 32:9, loop-less 28:5
+    (λ c. search needs) (λ c. omega arith)
+    loop-again
+    returns-2)

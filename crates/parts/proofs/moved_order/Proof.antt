@@ -3,12 +3,32 @@ use borrow.Author.Needs.{needs}
 use Rattle.parts.proofs.moved_order.Statement.{statement}
 use Rattle.parts.proofs.moved_order.Tie as tie
 
+-- src/lib.rt:13:9
+returns : tie.Need-returns
+returns c =
+    let args = c .before .args in
+    moved-below (args .up) (args .q) (args .n) (c .if1 .taken)
+
+-- src/lib.rt:16:9
+returns-2 : tie.Need-returns-2
+returns-2 c =
+    let args = c .before .before .args in
+    moved-up (args .up) (args .q) (args .n) (c .if2 .taken) (c .before .if1 .left)
+
+-- src/lib.rt:8:1
+returns-3 : tie.Need-returns-3
+returns-3 c =
+    let args = c .before .before .args in
+    moved-down (args .up) (args .q) (args .n) (c .if2 .left) (c .before .if1 .left)
+
 pub moved-order-spec : {M : Type 1} → statement M
 moved-order-spec =
     tie.close
     (tie.spec
-    (λ c. moved-below (c .before .args .up) (c .before .args .q) (c .before .args .n) (c .if1 .taken))
+    returns
+    -- by search: add-result 16:16
     (λ c. search needs)
-    (λ c. moved-up (c .before .before .args .up) (c .before .before .args .q) (c .before .before .args .n) (c .if2 .taken) (c .before .if1 .left))
+    returns-2
+    -- by search: sub-result 18:5
     (λ c. search needs)
-    (λ c. moved-down (c .before .before .args .up) (c .before .before .args .q) (c .before .before .args .n) (c .if2 .left) (c .before .if1 .left)))
+    returns-3)

@@ -5,11 +5,25 @@ use borrow.Author.Needs.{needs}
 use Rattle.requests.proofs.remove_of.Statement.{statement}
 use Rattle.requests.proofs.remove_of.Tie as tie
 
+-- src/lib.rt:89:9
+returns : tie.Need-returns
+unfolding two-at
+returns c = (cut-short (c .before .before .args .s .now) 4 _ (c .if1 .taken), tt)
+
+-- src/lib.rt:85:1
+returns-2 : tie.Need-returns-2
+unfolding two-at
+returns-2 c =
+    let s = c .before .before .before .args .s .now in
+    let if1 = c .before .if1 in
+    (rw (c .number-at .ensures) (is-whole s 4 _ (if1 .left)), (omega arith, if1 .left))
+
 pub remove-of-spec : {M : Type 1} → statement M
 unfolding two-at
 remove-of-spec =
     tie.close
     (tie.spec
-    (λ c. (cut-short (c .before .before .args .s .now) 4 _ ((c .if1 .taken)), tt))
+    returns
+    -- by search: number-at-requires 91:43
     (λ c κs. search needs)
-    (λ c. (rw (c .number-at .ensures) (is-whole (c .before .before .before .args .s .now) 4 _ ((c .before .if1 .left))), (omega arith, (c .before .if1 .left)))))
+    returns-2)

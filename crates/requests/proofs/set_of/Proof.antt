@@ -7,16 +7,48 @@ use borrow.Author.Needs.{needs}
 use Rattle.requests.proofs.set_of.Statement.{statement}
 use Rattle.requests.proofs.set_of.Tie as tie
 
+-- src/lib.rt:75:9
+returns : tie.Need-returns
+unfolding two-at
+returns c = (set-short (c .before .before .args .s .now) _ (c .if1 .taken), tt)
+
+-- src/lib.rt:79:9
+returns-2 : tie.Need-returns-2
+unfolding two-at
+returns-2 c =
+    let s = c .before .before .before .before .before .args .s .now in
+    let if1 = c .before .before .before .if1 in (
+      cut-short s (7 + two-at s 5) _
+          (omega (arith, c .if2 .taken, c .before .wide .ensures .0, c .before .before .number-at .ensures))
+          ∙ set-long s _ (if1 .left),
+      tt,
+    )
+
+-- src/lib.rt:71:1
+returns-3 : tie.Need-returns-3
+unfolding two-at
+returns-3 c =
+    let after-if1 = c .before .before .before .before .before in
+    let s = after-if1 .before .before .args .s .now in
+    let if1 = after-if1 .if1 in
+    let number-at = c .before .before .before .before .number-at in
+    let wide = c .before .before .before .wide in
+    let if2 = c .before .before .if2 in (
+      rw (number-at .ensures, c .before .number-at2 .ensures)
+          (is-whole s (7 + two-at s 5) _ (omega (arith, if2 .left, wide .ensures .0, number-at .ensures)))
+          ∙ set-long s _ (if1 .left),
+      (omega arith, omega (arith, if2 .left, wide .ensures .0)),
+    )
+
 pub set-of-spec : {M : Type 1} → statement M
 unfolding two-at
 set-of-spec =
     tie.close
     (tie.spec
-    (λ c. (set-short (c .before .before .args .s .now) _ ((c .if1 .taken)), tt))
-    (λ c κs. search needs)
-    (λ c κs. search needs)
-    (λ c. search needs)
-    (λ c. (cut-short (c .before .before .before .before .before .args .s .now) (7 + two-at (c .before .before .before .before .before .args .s .now) 5) _ (omega (arith, (c .if2 .taken), c .before .wide .ensures .0, c .before .before .number-at .ensures)) ∙ set-long (c .before .before .before .before .before .args .s .now) _ ((c .before .before .before .if1 .left)), tt))
-    (λ c κs. search needs)
-    (λ c. search needs)
-    (λ c. (rw (c .before .before .before .before .number-at .ensures, c .before .number-at2 .ensures) (is-whole (c .before .before .before .before .before .before .before .args .s .now) (7 + two-at (c .before .before .before .before .before .before .before .args .s .now) 5) _ (omega (arith, (c .before .before .if2 .left), c .before .before .before .wide .ensures .0, c .before .before .before .before .number-at .ensures))) ∙ set-long (c .before .before .before .before .before .before .before .args .s .now) _ ((c .before .before .before .before .before .if1 .left)), (omega arith, omega (arith, (c .before .before .if2 .left), c .before .before .before .wide .ensures .0)))))
+    returns
+    -- by search: number-at-requires 77:9, wide-requires 78:22, add-if2 78:18
+    (λ c κs. search needs) (λ c κs. search needs) (λ c. search needs)
+    returns-2
+    -- by search: number-at-requires-2 81:40, shared-slice-read-t10 81:64
+    (λ c κs. search needs) (λ c. search needs)
+    returns-3)

@@ -5,14 +5,34 @@ use borrow.Author.Needs.{needs}
 use Rattle.requests.proofs.split_of.Statement.{statement}
 use Rattle.requests.proofs.split_of.Tie as tie
 
+-- src/lib.rt:51:9
+returns : tie.Need-returns
+unfolding two-at
+returns c = (cut-short (c .before .before .args .s .now) 10 _ (c .if1 .taken), tt)
+
+-- src/lib.rt:47:1
+returns-2 : tie.Need-returns-2
+unfolding two-at
+returns-2 c =
+    let s = c .before .before .before .before .before .before .args .s .now in
+    let if1 = c .before .before .before .before .if1 in
+    let number-at = c .before .before .before .number-at in (
+      rw (
+        number-at .ensures,
+        c .before .before .number-at2 .ensures,
+        c .before .number-at3 .ensures,
+        c .number-at4 .ensures,
+      ) (is-whole s 10 _ (if1 .left)),
+      (omega arith, if1 .left),
+    )
+
 pub split-of-spec : {M : Type 1} → statement M
 unfolding two-at
 split-of-spec =
     tie.close
     (tie.spec
-    (λ c. (cut-short (c .before .before .args .s .now) 10 _ ((c .if1 .taken)), tt))
-    (λ c κs. search needs)
-    (λ c κs. search needs)
-    (λ c κs. search needs)
-    (λ c κs. search needs)
-    (λ c. (rw (c .before .before .before .number-at .ensures, c .before .before .number-at2 .ensures, c .before .number-at3 .ensures, c .number-at4 .ensures) (is-whole (c .before .before .before .before .before .before .args .s .now) 10 _ ((c .before .before .before .before .if1 .left))), (omega arith, (c .before .before .before .before .if1 .left)))))
+    returns
+    -- by search: number-at-requires 53:9, number-at-requires-2 54:9, number-at-requires-3 55:9,
+    -- number-at-requires-4 56:9
+    (λ c κs. search needs) (λ c κs. search needs) (λ c κs. search needs) (λ c κs. search needs)
+    returns-2)

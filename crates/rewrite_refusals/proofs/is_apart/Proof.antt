@@ -7,13 +7,63 @@ use borrow.Author.Needs.{needs}
 use Rattle.rewrite_refusals.proofs.is_apart.Statement.{statement}
 use Rattle.rewrite_refusals.proofs.is_apart.Tie as tie
 
+-- src/lib.rt:13:9
+put-rewritten-requires : tie.Need-put-rewritten-requires
+put-rewritten-requires c κs =
+    let t = c .before .before .args .t .now in
+    let (p, a, u) = c .before .before .pre in
+    (checked-passes t (a .bytes) (a .valid), small-table t (a .valid))
+
+-- src/lib.rt:14:28
+array-share-prefix-work : tie.Need-array-share-prefix-work
+array-share-prefix-work c =
+    let start = c .before .before .before .before in
+    let args = start .args in
+    let put-rewritten = c .before .put-rewritten in
+    let (p, a, u) = start .pre in
+    fits-aside (args .t .now) (args .side) (args .id) p a u (put-rewritten .result) _ (put-rewritten .last .0)
+    (put-rewritten .ensures .0) (put-rewritten .ensures .1)
+
+-- src/lib.rt:14:28
+slice-aggregate-breaks-7 : tie.Need-slice-aggregate-breaks-7
+slice-aggregate-breaks-7 c =
+    let start = c .before .before .before .before .before in
+    let args = start .args in
+    let put-rewritten = c .before .before .put-rewritten in
+    let (p, a, u) = start .pre in
+    sym (length-take-le (put-rewritten .result) (put-rewritten .last .0)
+    (fits-aside (args .t .now) (args .side) (args .id) p a u (put-rewritten .result) _ (put-rewritten .last .0)
+    (put-rewritten .ensures .0) (put-rewritten .ensures .1)))
+
+-- src/lib.rt:14:5
+breaks-7-requires : tie.Need-breaks-7-requires
+breaks-7-requires c κs =
+    let start = c .before .before .before .before .before in
+    let args = start .args in
+    let put-rewritten = c .before .before .put-rewritten in
+    let (p, a, u) = start .pre in
+    aside-passes (args .t .now) (args .side) (args .id) p a u (put-rewritten .result) _ (put-rewritten .last .0)
+    (put-rewritten .ensures .0) (put-rewritten .ensures .1)
+
+-- src/lib.rt:8:1
+returns : tie.Need-returns
+returns c =
+    let start = c .before .before .before .before .before .before in
+    let args = start .args in
+    let put-rewritten = c .before .before .before .put-rewritten in
+    let (p, a, u) = start .pre in
+    c .breaks-7 .ensures
+    ∙ aside-judged (args .t .now) (args .side) (args .id) p a u (put-rewritten .result) _ (put-rewritten .last .0)
+    (put-rewritten .ensures .0) (put-rewritten .ensures .1)
+
 pub is-apart-spec : {M : Type 1} → statement M
 is-apart-spec =
     tie.close
     (tie.spec
+    -- by search: slice-aggregate-put-rewritten 13:42
     (λ c. search needs)
-    (λ c κs. let (p, a, u) = (c .before .before .pre) in (checked-passes (c .before .before .args .t .now) (a .bytes) (a .valid), small-table (c .before .before .args .t .now) (a .valid)))
-    (λ c. let (p, a, u) = (c .before .before .before .before .pre) in fits-aside (c .before .before .before .before .args .t .now) (c .before .before .before .before .args .side) (c .before .before .before .before .args .id) p a u (c .before .put-rewritten .result) _ (c .before .put-rewritten .last .0) (c .before .put-rewritten .ensures .0) (c .before .put-rewritten .ensures .1))
-    (λ c. let (p, a, u) = (c .before .before .before .before .before .pre) in sym (length-take-le (c .before .before .put-rewritten .result) (c .before .before .put-rewritten .last .0) (fits-aside (c .before .before .before .before .before .args .t .now) (c .before .before .before .before .before .args .side) (c .before .before .before .before .before .args .id) p a u (c .before .before .put-rewritten .result) _ (c .before .before .put-rewritten .last .0) (c .before .before .put-rewritten .ensures .0) (c .before .before .put-rewritten .ensures .1))))
-    (λ c κs. let (p, a, u) = (c .before .before .before .before .before .pre) in aside-passes (c .before .before .before .before .before .args .t .now) (c .before .before .before .before .before .args .side) (c .before .before .before .before .before .args .id) p a u (c .before .before .put-rewritten .result) _ (c .before .before .put-rewritten .last .0) (c .before .before .put-rewritten .ensures .0) (c .before .before .put-rewritten .ensures .1))
-    (λ c. let (p, a, u) = (c .before .before .before .before .before .before .pre) in (c .breaks-7 .ensures) ∙ aside-judged (c .before .before .before .before .before .before .args .t .now) (c .before .before .before .before .before .before .args .side) (c .before .before .before .before .before .before .args .id) p a u (c .before .before .before .put-rewritten .result) _ (c .before .before .before .put-rewritten .last .0) (c .before .before .before .put-rewritten .ensures .0) (c .before .before .before .put-rewritten .ensures .1)))
+    put-rewritten-requires
+    array-share-prefix-work
+    slice-aggregate-breaks-7
+    breaks-7-requires
+    returns)

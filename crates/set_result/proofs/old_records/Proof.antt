@@ -7,15 +7,73 @@ use borrow.Author.Needs.{needs}
 use Rattle.set_result.proofs.old_records.Statement.{statement}
 use Rattle.set_result.proofs.old_records.Tie as tie
 
+-- src/lib.rt:64:34
+sub-count-records : tie.Need-sub-count-records
+sub-count-records c =
+    let start = c .before .before .before in
+    let args = start .args in
+    let t = args .t .now in
+    let (v, st) = start .pre in
+    let (b, p, a, s) = st in
+    let h = target-there t (bytes-known t (c .before .before .shared-slice-known .given)) b p a (args .place) s
+    (c .before .if1 .taken) in
+    omega (arith, h .ordered)
+
+-- src/lib.rt:64:34
+part-count-records-start : tie.Need-part-count-records-start
+part-count-records-start c =
+    let start = c .before .before .before in
+    let args = start .args in
+    let t = args .t .now in
+    let (v, st) = start .pre in
+    let (b, p, a, s) = st in
+    let h = target-there t (bytes-known t (c .before .before .shared-slice-known .given)) b p a (args .place) s
+    (c .before .if1 .taken) in
+    omega (arith, h .ordered)
+
+-- src/lib.rt:64:20
+count-records-requires : tie.Need-count-records-requires
+count-records-requires c κs =
+    let start = c .before .before .before .before in
+    let args = start .args in
+    let t = args .t .now in
+    let known = c .before .before .before .shared-slice-known .given in
+    let (v, st) = start .pre in
+    let (b, p, a, s) = st in
+    let h = target-there t (bytes-known t known) b p a (args .place) s (c .before .before .if1 .taken) in
+    (target-items (p .target), h .holds)
+
+-- src/lib.rt:64:9
+returns : tie.Need-returns
+returns c =
+    let args = c .before .before .before .before .before .args in
+    let t = args .t .now in
+    let place = args .place in
+    let known = c .before .before .before .before .shared-slice-known .given in
+    let if1 = c .before .before .before .if1 in
+    λ b p a s.
+    old-there t place (p .target) (s .target) (if1 .taken) (c .count-records .result)
+    (c .count-records .ensures .1 (target-items (p .target))
+    (target-there t (bytes-known t known) b p a place s (if1 .taken) .holds))
+
+-- src/lib.rt:57:1
+returns-2 : tie.Need-returns-2
+returns-2 c =
+    let args = c .before .before .args in
+    λ b p a s. no-old (args .t .now) (args .place) (p .target) (s .target) (c .if1 .left)
+
 pub old-records-spec : {M : Type 1} → statement M
 old-records-spec =
     tie.close
     (tie.spec
+    -- by search: add-from 62:20
     (λ c. search needs)
-    (λ c. let (v, st) = (c .before .before .before .pre) in let (b, p, a, s) = st in let h = target-there (c .before .before .before .args .t .now) (bytes-known (c .before .before .before .args .t .now) ((c .before .before .shared-slice-known .given))) b p a (c .before .before .before .args .place) s ((c .before .if1 .taken)) in omega (arith, h .ordered))
-    (λ c. let (v, st) = (c .before .before .before .pre) in let (b, p, a, s) = st in let h = target-there (c .before .before .before .args .t .now) (bytes-known (c .before .before .before .args .t .now) ((c .before .before .shared-slice-known .given))) b p a (c .before .before .before .args .place) s ((c .before .if1 .taken)) in omega (arith, h .ordered))
+    sub-count-records
+    part-count-records-start
+    -- by search: part-count-records-end 64:34
     (λ c. search needs)
-    (λ c κs. let (v, st) = (c .before .before .before .before .pre) in let (b, p, a, s) = st in let h = target-there (c .before .before .before .before .args .t .now) (bytes-known (c .before .before .before .before .args .t .now) ((c .before .before .before .shared-slice-known .given))) b p a (c .before .before .before .before .args .place) s ((c .before .before .if1 .taken)) in (target-items (p .target), h .holds))
+    count-records-requires
+    -- by search: add-result 64:16
     (λ c. search needs)
-    (λ c. λ b p a s. old-there (c .before .before .before .before .before .args .t .now) (c .before .before .before .before .before .args .place) (p .target) (s .target) ((c .before .before .before .if1 .taken)) (c .count-records .result) (c .count-records .ensures .1 (target-items (p .target)) (target-there (c .before .before .before .before .before .args .t .now) (bytes-known (c .before .before .before .before .before .args .t .now) ((c .before .before .before .before .shared-slice-known .given))) b p a (c .before .before .before .before .before .args .place) s ((c .before .before .before .if1 .taken)) .holds)))
-    (λ c. λ b p a s. no-old (c .before .before .args .t .now) (c .before .before .args .place) (p .target) (s .target) ((c .if1 .left))))
+    returns
+    returns-2)

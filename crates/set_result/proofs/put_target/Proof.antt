@@ -4,16 +4,24 @@ use borrow.Author.Needs.{needs}
 use Rattle.set_result.proofs.put_target.Statement.{statement}
 use Rattle.set_result.proofs.put_target.Tie as tie
 
+-- src/lib.rt:12:1
+returns : tie.Need-returns
+returns c =
+    let after-put-number = c .before .before .before .before .before .before in
+    let args = after-put-number .before .before .before .before .before .before .before .before .before .args in
+    let put-mark = after-put-number .before .before .before .before .put-mark in
+    let put-number = after-put-number .put-number in
+    let put = c .before .before .put in
+    target-wrote (args .order) (args .content .now) (args .out .now) (put-mark .last .0) (put-mark .ensures .1)
+    (put-number .last .0) (put-mark .result) (put-mark .ensures .0) (put-number .ensures .1) (put-number .result)
+    (omega (arith, put-mark .ensures .0, put-number .ensures .0)) (put .last .0) (put .result) (put .ensures)
+
 pub put-target-spec : {M : Type 1} → statement M
 put-target-spec =
     tie.close
     (tie.spec
-    (λ c κs. search needs)
-    (λ c κs. search needs)
-    (λ c. search needs)
-    (λ c. search needs)
-    (λ c. search needs)
-    (λ c κs. search needs)
-    (λ c. search needs)
-    (λ c. search needs)
-    (λ c. target-wrote (c .before .before .before .before .before .before .before .before .before .before .before .before .before .before .before .args .order) (c .before .before .before .before .before .before .before .before .before .before .before .before .before .before .before .args .content .now) (c .before .before .before .before .before .before .before .before .before .before .before .before .before .before .before .args .out .now) (c .before .before .before .before .before .before .before .before .before .before .put-mark .last .0) (c .before .before .before .before .before .before .before .before .before .before .put-mark .ensures .1) (c .before .before .before .before .before .before .put-number .last .0) (c .before .before .before .before .before .before .before .before .before .before .put-mark .result) (c .before .before .before .before .before .before .before .before .before .before .put-mark .ensures .0) (c .before .before .before .before .before .before .put-number .ensures .1) (c .before .before .before .before .before .before .put-number .result) (omega (arith, c .before .before .before .before .before .before .before .before .before .before .put-mark .ensures .0, c .before .before .before .before .before .before .put-number .ensures .0)) (c .before .before .put .last .0) (c .before .before .put .result) (c .before .before .put .ensures)))
+    -- by search: put-mark-requires 16:9, put-number-requires 17:9, sub-put 18:25, part-put-start 18:25,
+    -- part-put-end 18:25, put-requires 18:9, add-result 19:5, same-length 12:1
+    (λ c κs. search needs) (λ c κs. search needs) (λ c. search needs) (λ c. search needs) (λ c. search needs)
+    (λ c κs. search needs) (λ c. search needs) (λ c. search needs)
+    returns)

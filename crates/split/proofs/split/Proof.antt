@@ -2,14 +2,21 @@ use borrow.Author.Needs.{needs}
 use Rattle.split.proofs.split.Statement.{statement}
 use Rattle.split.proofs.split.Tie as tie
 
+-- src/lib.rt:96:1
+returns : tie.Need-returns
+returns c =
+    let after-wide2 = c .before .before .before .before .before in
+    let wide = after-wide2 .before .wide in
+    let wide2 = after-wide2 .wide2 in
+    let wide3 = c .before .before .before .before .wide3 in
+    simp (wide .ensures, wide2 .ensures, wide3 .ensures) at (c .before .before .split-checked .ensures)
+
 pub split-spec : {M : Type 1} → statement M
 split-spec =
     tie.close
     (tie.spec
-    (λ c κs. search needs)
-    (λ c κs. search needs)
-    (λ c κs. search needs)
-    (λ c κs. search needs)
-    (λ c κs. search needs)
-    (λ c. search needs)
-    (λ c. simp (c .before .before .before .before .before .before .wide .ensures, c .before .before .before .before .before .wide2 .ensures, c .before .before .before .before .wide3 .ensures) at (c .before .before .split-checked .ensures)))
+    -- by search: check-requires 108:9, wide-requires 109:9, wide-requires-2 110:9, wide-requires-3 111:9,
+    -- split-checked-requires 106:5, same-length 96:1
+    (λ c κs. search needs) (λ c κs. search needs) (λ c κs. search needs) (λ c κs. search needs)
+    (λ c κs. search needs) (λ c. search needs)
+    returns)

@@ -5,15 +5,43 @@ use borrow.Author.Needs.{needs}
 use Rattle.split.proofs.split_checked.Statement.{statement}
 use Rattle.split.proofs.split_checked.Tie as tie
 
+-- src/lib.rt:79:13
+part-at-requires : tie.Need-part-at-requires
+unfolding split
+part-at-requires c κs =
+    let start = c .before .before .before .before in
+    let table = start .args .table .now in
+    let known = c .before .before .before .shared-slice-known .given in
+    table-passes table known (accepted-none table _ (rw (c .enum-told .given .1) at (start .pre)))
+
+-- src/lib.rt:76:32
+split-found-requires : tie.Need-split-found-requires
+unfolding split
+split-found-requires c κs =
+    let start = c .before .before .before .before .before .before in (
+      accepted-none (start .args .table .now) _ (rw (c .before .before .enum-told .given .1) at (start .pre)),
+      c .before .part-at .ensures,
+    )
+
+-- src/lib.rt:63:1
+returns-2 : tie.Need-returns-2
+unfolding split
+returns-2 c =
+    let start = c .before .before .before .before .before in
+    let args = start .args in
+    let table = args .table .now in
+    answers-refused _ _ _ (args .out .now)
+    (on-refused table _ _ _ _ (refused-some table _ _ (rw (c .before .a .given .1) at (start .pre))))
+
 pub split-checked-spec : {M : Type 1} → statement M
 unfolding split
 split-checked-spec =
     tie.close
     (tie.spec
+    -- by search: enum-told 79:13
     (λ c. search needs)
-    (λ c κs. table-passes (c .before .before .before .before .args .table .now) (c .before .before .before .shared-slice-known .given) (accepted-none (c .before .before .before .before .args .table .now) _ (rw (c .enum-told .given .1) at ((c .before .before .before .before .pre)))))
-    (λ c κs. (accepted-none (c .before .before .before .before .before .before .args .table .now) _ (rw (c .before .before .enum-told .given .1) at ((c .before .before .before .before .before .before .pre))), c .before .part-at .ensures))
-    (λ c. search needs)
-    (λ c. search needs)
-    (λ c. search needs)
-    (λ c. answers-refused _ _ _ (c .before .before .before .before .before .args .out .now) (on-refused (c .before .before .before .before .before .args .table .now) _ _ _ _ (refused-some (c .before .before .before .before .before .args .table .now) _ _ (rw (c .before .a .given .1) at ((c .before .before .before .before .before .pre)))))))
+    part-at-requires
+    split-found-requires
+    -- by search: enum-known-a 85:25, same-length 63:1, returns 63:1
+    (λ c. search needs) (λ c. search needs) (λ c. search needs)
+    returns-2)

@@ -5,13 +5,30 @@ use borrow.Author.Needs.{needs}
 use Rattle.split.proofs.split_found.Statement.{statement}
 use Rattle.split.proofs.split_found.Tie as tie
 
+-- src/lib.rt:58:33
+split-there-requires : tie.Need-split-there-requires
+split-there-requires c κs =
+    let pre = c .before .before .before .before .before .before .pre in
+    (pre .0, rw (c .before .before .found .given .1) at (pre .1))
+
+-- src/lib.rt:45:1
+returns-2 : tie.Need-returns-2
+returns-2 c =
+    let start = c .before .before .before .before in
+    let args = start .args in
+    let out = args .out .now in
+    let pre = start .pre in
+    answers-refused _ 11 0 out
+    (no-part (args .table .now) (args .n) (args .cut) (args .tcut) (args .id) (length out) (pre .0)
+    (rw (c .enum-told .given .1) at (pre .1)))
+
 pub split-found-spec : {M : Type 1} → statement M
 split-found-spec =
     tie.close
     (tie.spec
+    -- by search: enum-known-found 58:23
     (λ c. search needs)
-    (λ c κs. (c .before .before .before .before .before .before .pre .0, rw (c .before .before .found .given .1) at (c .before .before .before .before .before .before .pre .1)))
-    (λ c. search needs)
-    (λ c. search needs)
-    (λ c. search needs)
-    (λ c. answers-refused _ 11 0 (c .before .before .before .before .args .out .now) (no-part (c .before .before .before .before .args .table .now) (c .before .before .before .before .args .n) (c .before .before .before .before .args .cut) (c .before .before .before .before .args .tcut) (c .before .before .before .before .args .id) (length (c .before .before .before .before .args .out .now)) (c .before .before .before .before .pre .0) (rw (c .enum-told .given .1) at (c .before .before .before .before .pre .1)))))
+    split-there-requires
+    -- by search: enum-told 59:31, same-length 45:1, returns 45:1
+    (λ c. search needs) (λ c. search needs) (λ c. search needs)
+    returns-2)

@@ -5,11 +5,30 @@ use borrow.Author.Needs.{needs}
 use Rattle.split_limits.proofs.added.Statement.{statement}
 use Rattle.split_limits.proofs.added.Tie as tie
 
+-- src/lib.rt:107:5
+add-result : tie.Need-add-result
+add-result c =
+    let pre = c .before .before .before .pre in
+    let (v, st) = pre in
+    let (b, p, a, s) = st in
+    let x = c .before .source-added .ensures b p a s in
+    let y = c .target-added .ensures b p a s in
+    omega (arith, x .few, y .few)
+
+-- src/lib.rt:101:1
+returns : tie.Need-returns
+returns c =
+    let args = c .before .before .before .args in
+    let source-added = c .before .source-added in
+    λ b p a s.
+    part-added (args .cut) (args .tcut) p (source-added .result) (c .target-added .result)
+    (source-added .ensures b p a s) (c .target-added .ensures b p a s)
+
 pub added-spec : {M : Type 1} → statement M
 added-spec =
     tie.close
     (tie.spec
-    (λ c κs. search needs)
-    (λ c κs. search needs)
-    (λ c. let (v, st) = (c .before .before .before .pre) in let (b, p, a, s) = st in let x = c .before .source-added .ensures b p a s in let y = c .target-added .ensures b p a s in omega (arith, x .few, y .few))
-    (λ c. λ b p a s. part-added (c .before .before .before .args .cut) (c .before .before .before .args .tcut) p (c .before .source-added .result) (c .target-added .result) (c .before .source-added .ensures b p a s) (c .target-added .ensures b p a s)))
+    -- by search: source-added-requires 105:9, target-added-requires 106:9
+    (λ c κs. search needs) (λ c κs. search needs)
+    add-result
+    returns)

@@ -7,10 +7,36 @@ use Rattle.xliff.specs.Encode.{content-records}
 use Rattle.split_limits.proofs.added_in.Statement.{statement}
 use Rattle.split_limits.proofs.added_in.Tie as tie
 
+-- src/lib.rt:71:9
+place-of-requires : tie.Need-place-of-requires
+place-of-requires c κs =
+    let (xs, o) = c .before .pre in
+    (content-records xs, o)
+
+-- src/lib.rt:73:9
+returns : tie.Need-returns
+returns c =
+    let args = c .before .before .before .before .args in
+    let k = args .k in
+    let place-of = c .before .before .place-of in
+    λ xs o.
+    subst (ContentAdded k xs) (none-zero (place-of .result .into) (c .if1 .taken))
+    (content-added k (args .c .now) xs (place-of .result) o (place-of .ensures (content-records xs) o))
+
+-- src/lib.rt:67:1
+returns-2 : tie.Need-returns-2
+returns-2 c =
+    let args = c .before .before .before .before .args in
+    let k = args .k in
+    let place-of = c .before .before .place-of in
+    λ xs o.
+    subst (ContentAdded k xs) (some-one (place-of .result .into) (omega arith))
+    (content-added k (args .c .now) xs (place-of .result) o (place-of .ensures (content-records xs) o))
+
 pub added-in-spec : {M : Type 1} → statement M
 added-in-spec =
     tie.close
     (tie.spec
-    (λ c κs. let (xs, o) = (c .before .pre) in (content-records xs, o))
-    (λ c. λ xs o. subst (ContentAdded (c .before .before .before .before .args .k) xs) (none-zero (c .before .before .place-of .result .into) ((c .if1 .taken))) (content-added (c .before .before .before .before .args .k) (c .before .before .before .before .args .c .now) xs (c .before .before .place-of .result) o (c .before .before .place-of .ensures (content-records xs) o)))
-    (λ c. λ xs o. subst (ContentAdded (c .before .before .before .before .args .k) xs) (some-one (c .before .before .place-of .result .into) (omega arith)) (content-added (c .before .before .before .before .args .k) (c .before .before .before .before .args .c .now) xs (c .before .before .place-of .result) o (c .before .before .place-of .ensures (content-records xs) o))))
+    place-of-requires
+    returns
+    returns-2)

@@ -3,9 +3,23 @@ use Rattle.xliff.specs.Encode.{content-records}
 use Rattle.split_limits.proofs.has_enough.Statement.{statement}
 use Rattle.split_limits.proofs.has_enough.Tie as tie
 
+-- src/lib.rt:29:9
+place-of-requires : tie.Need-place-of-requires
+place-of-requires c κs =
+    let (xs, o) = c .before .pre in
+    (content-records xs, o)
+
+-- src/lib.rt:25:1
+returns : tie.Need-returns
+returns c =
+    let args = c .before .before .before .args in
+    let place-of = c .before .place-of in
+    λ xs o.
+    counted (args .k) (args .c .now) xs (place-of .result) o (place-of .ensures (content-records xs) o) .enough
+
 pub has-enough-spec : {M : Type 1} → statement M
 has-enough-spec =
     tie.close
     (tie.spec
-    (λ c κs. let (xs, o) = (c .before .pre) in (content-records xs, o))
-    (λ c. λ xs o. counted (c .before .before .before .args .k) (c .before .before .before .args .c .now) xs (c .before .place-of .result) o (c .before .place-of .ensures (content-records xs) o) .enough))
+    place-of-requires
+    returns)

@@ -3,10 +3,19 @@ use borrow.Author.Needs.{needs}
 use Rattle.split_limits.proofs.is_bad_cut.Statement.{statement}
 use Rattle.split_limits.proofs.is_bad_cut.Tie as tie
 
+-- src/lib.rt:57:1
+returns : tie.Need-returns
+returns c =
+    let args = c .before .before .before .args in
+    let source-short = c .before .source-short in
+    λ b p a s.
+    bad-cut-is p (args .cut) (args .tcut) (source-short .result) (c .target-short .result)
+    (source-short .ensures b p a s) (c .target-short .ensures b p a s)
+
 pub is-bad-cut-spec : {M : Type 1} → statement M
 is-bad-cut-spec =
     tie.close
     (tie.spec
-    (λ c κs. search needs)
-    (λ c κs. search needs)
-    (λ c. λ b p a s. bad-cut-is p (c .before .before .before .args .cut) (c .before .before .before .args .tcut) (c .before .source-short .result) (c .target-short .result) (c .before .source-short .ensures b p a s) (c .target-short .ensures b p a s)))
+    -- by search: source-short-requires 61:9, target-short-requires 62:9
+    (λ c κs. search needs) (λ c κs. search needs)
+    returns)

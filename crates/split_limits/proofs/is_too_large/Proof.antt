@@ -8,18 +8,114 @@ use borrow.Author.Needs.{needs}
 use Rattle.split_limits.proofs.is_too_large.Statement.{statement}
 use Rattle.split_limits.proofs.is_too_large.Tie as tie
 
+-- src/lib.rt:123:9
+added-requires : tie.Need-added-requires
+added-requires c κs =
+    let args = c .before .args in
+    placed-checked (args .t .now) (args .n) (args .place) (c .before .pre)
+
+-- src/lib.rt:124:19
+count-records-requires : tie.Need-count-records-requires
+count-records-requires c κs =
+    table-passes (c .before .before .args .t .now) (c .before .shared-slice-known .given)
+    (c .before .before .pre .0)
+
+-- src/lib.rt:124:19
+add-records : tie.Need-add-records
+add-records c =
+    let start = c .before .before .before in
+    let q = table-passes (start .args .t .now) (c .before .before .shared-slice-known .given) (start .pre .0) in
+    omega (arith, c .count-records .ensures, q .few)
+
+-- src/lib.rt:124:19
+add-records-2 : tie.Need-add-records-2
+add-records-2 c =
+    let start = c .before .before .before in
+    let args = start .args in
+    let t = args .t .now in
+    let pre = start .pre in
+    let known = c .before .before .shared-slice-known .given in
+    let added = c .before .added in
+    let q = table-passes t known (pre .0) in
+    omega (
+      arith,
+      c .count-records .ensures,
+      q .few,
+      few-added t known (args .n) (args .place) pre (args .cut) (args .tcut) (added .result) (added .ensures),
+    )
+
+-- src/lib.rt:125:17
+count-parts-requires : tie.Need-count-parts-requires
+count-parts-requires c κs =
+    let start = c .before .before .before in
+    table-passes (start .args .t .now) (c .before .before .shared-slice-known .given) (start .pre .0)
+
+-- src/lib.rt:125:17
+add-parts : tie.Need-add-parts
+add-parts c =
+    let start = c .before .before .before .before in
+    let t = start .args .t .now in
+    let known = c .before .before .before .shared-slice-known .given in
+    let q = table-passes t known (start .pre .0) in
+    omega (arith, c .count-parts .ensures, few-parts t q)
+
+-- src/lib.rt:126:57
+mul-bytes : tie.Need-mul-bytes
+mul-bytes c =
+    let start = c .before .before .before .before .before in
+    let args = start .args in
+    let known = c .before .before .before .before .shared-slice-known .given in
+    let added = c .before .before .before .added in
+    omega (
+      arith,
+      few-added (args .t .now) known (args .n) (args .place) (start .pre) (args .cut) (args .tcut) (added .result)
+          (added .ensures),
+    )
+
+-- src/lib.rt:126:17
+add-bytes-2 : tie.Need-add-bytes-2
+add-bytes-2 c =
+    let start = c .before .before .before .before .before in
+    let args = start .args in
+    let t = args .t .now in
+    let pre = start .pre in
+    let known = c .before .before .before .before .shared-slice-known .given in
+    let added = c .before .before .before .added in
+    let (v, st) = pre in
+    let (b, p, a, e, s) = st in
+    omega (
+      arith,
+      few-added t known (args .n) (args .place) pre (args .cut) (args .tcut) (added .result) (added .ensures),
+      small-table t (pre .0),
+      s .head .ordered,
+      s .head .within,
+    )
+
+-- src/lib.rt:111:1
+returns : tie.Need-returns
+returns c =
+    let start = c .before .before .before .before .before in
+    let args = start .args in
+    let known = c .before .before .before .before .shared-slice-known .given in
+    let added = c .before .before .before .added in
+    let count-records = c .before .before .count-records in
+    let count-parts = c .before .count-parts in
+    too-large-at (args .t .now) known (args .n) (args .place) (start .pre) (args .cut) (args .tcut) (added .result)
+    (added .ensures) (args .id) (args .room) (count-records .result) (count-parts .result) (count-records .ensures)
+    (count-parts .ensures)
+
 pub is-too-large-spec : {M : Type 1} → statement M
 is-too-large-spec =
     tie.close
     (tie.spec
-    (λ c κs. placed-checked (c .before .args .t .now) (c .before .args .n) (c .before .args .place) ((c .before .pre)))
-    (λ c κs. table-passes (c .before .before .args .t .now) ((c .before .shared-slice-known .given)) (c .before .before .pre .0))
-    (λ c. let q = table-passes (c .before .before .before .args .t .now) ((c .before .before .shared-slice-known .given)) (c .before .before .before .pre .0) in omega (arith, c .count-records .ensures, q .few))
-    (λ c. let q = table-passes (c .before .before .before .args .t .now) ((c .before .before .shared-slice-known .given)) (c .before .before .before .pre .0) in omega (arith, c .count-records .ensures, q .few, few-added (c .before .before .before .args .t .now) ((c .before .before .shared-slice-known .given)) (c .before .before .before .args .n) (c .before .before .before .args .place) ((c .before .before .before .pre)) (c .before .before .before .args .cut) (c .before .before .before .args .tcut) (c .before .added .result) (c .before .added .ensures)))
-    (λ c κs. table-passes (c .before .before .before .args .t .now) ((c .before .before .shared-slice-known .given)) (c .before .before .before .pre .0))
-    (λ c. let q = table-passes (c .before .before .before .before .args .t .now) ((c .before .before .before .shared-slice-known .given)) (c .before .before .before .before .pre .0) in omega (arith, c .count-parts .ensures, few-parts (c .before .before .before .before .args .t .now) q))
-    (λ c. search needs)
-    (λ c. search needs)
-    (λ c. omega (arith, few-added (c .before .before .before .before .before .args .t .now) ((c .before .before .before .before .shared-slice-known .given)) (c .before .before .before .before .before .args .n) (c .before .before .before .before .before .args .place) ((c .before .before .before .before .before .pre)) (c .before .before .before .before .before .args .cut) (c .before .before .before .before .before .args .tcut) (c .before .before .before .added .result) (c .before .before .before .added .ensures)))
-    (λ c. let (v, st) = (c .before .before .before .before .before .pre) in let (b, p, a, e, s) = st in omega (arith, few-added (c .before .before .before .before .before .args .t .now) ((c .before .before .before .before .shared-slice-known .given)) (c .before .before .before .before .before .args .n) (c .before .before .before .before .before .args .place) ((c .before .before .before .before .before .pre)) (c .before .before .before .before .before .args .cut) (c .before .before .before .before .before .args .tcut) (c .before .before .before .added .result) (c .before .before .before .added .ensures), small-table (c .before .before .before .before .before .args .t .now) (c .before .before .before .before .before .pre .0), s .head .ordered, s .head .within))
-    (λ c. too-large-at (c .before .before .before .before .before .args .t .now) ((c .before .before .before .before .shared-slice-known .given)) (c .before .before .before .before .before .args .n) (c .before .before .before .before .before .args .place) ((c .before .before .before .before .before .pre)) (c .before .before .before .before .before .args .cut) (c .before .before .before .before .before .args .tcut) (c .before .before .before .added .result) (c .before .before .before .added .ensures) (c .before .before .before .before .before .args .id) (c .before .before .before .before .before .args .room) (c .before .before .count-records .result) (c .before .count-parts .result) (c .before .before .count-records .ensures) (c .before .count-parts .ensures)))
+    added-requires
+    count-records-requires
+    add-records
+    add-records-2
+    count-parts-requires
+    add-parts
+    -- by search: sub-bytes 126:28, add-bytes 126:17
+    (λ c. search needs) (λ c. search needs)
+    mul-bytes
+    add-bytes-2
+    returns)

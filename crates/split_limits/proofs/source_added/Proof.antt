@@ -5,12 +5,29 @@ use borrow.Author.Needs.{needs}
 use Rattle.split_limits.proofs.source_added.Statement.{statement}
 use Rattle.split_limits.proofs.source_added.Tie as tie
 
+-- src/lib.rt:84:5
+added-in-requires : tie.Need-added-in-requires
+added-in-requires c κs =
+    let args = c .before .before .args in
+    let t = args .t .now in
+    let (v, st) = c .before .before .pre in
+    let (b, p, a, s) = st in
+    (p .source, holds-source t (bytes-known t (c .before .shared-slice-known .given)) b p a (args .place) s)
+
+-- src/lib.rt:78:1
+returns : tie.Need-returns
+returns c =
+    let args = c .before .before .before .args in
+    let t = args .t .now in
+    λ b p a s.
+    c .added-in .ensures (p .source)
+    (holds-source t (bytes-known t (c .before .before .shared-slice-known .given)) b p a (args .place) s)
+
 pub source-added-spec : {M : Type 1} → statement M
 source-added-spec =
     tie.close
     (tie.spec
-    (λ c. search needs)
-    (λ c. search needs)
-    (λ c. search needs)
-    (λ c κs. let (v, st) = (c .before .before .pre) in let (b, p, a, s) = st in (p .source, holds-source (c .before .before .args .t .now) (bytes-known (c .before .before .args .t .now) ((c .before .shared-slice-known .given))) b p a (c .before .before .args .place) s))
-    (λ c. λ b p a s. c .added-in .ensures (p .source) (holds-source (c .before .before .before .args .t .now) (bytes-known (c .before .before .before .args .t .now) ((c .before .before .shared-slice-known .given))) b p a (c .before .before .before .args .place) s)))
+    -- by search: sub-added-in 84:14, part-added-in-start 84:14, part-added-in-end 84:14
+    (λ c. search needs) (λ c. search needs) (λ c. search needs)
+    added-in-requires
+    returns)

@@ -9,12 +9,30 @@ use borrow.Author.Needs.{needs}
 use Rattle.split_limits.proofs.source_short.Statement.{statement}
 use Rattle.split_limits.proofs.source_short.Tie as tie
 
+-- src/lib.rt:40:6
+has-more-requires : tie.Need-has-more-requires
+has-more-requires c κs =
+    let args = c .before .before .args in
+    let t = args .t .now in
+    let (v, st) = c .before .before .pre in
+    let (b, p, a, s) = st in
+    (p .source, holds-source t (bytes-known t (c .before .shared-slice-known .given)) b p a (args .place) s)
+
+-- src/lib.rt:34:1
+returns : tie.Need-returns
+returns c =
+    let args = c .before .before .before .args in
+    let t = args .t .now in
+    λ b p a s.
+    ap not (c .has-more .ensures (p .source)
+    (holds-source t (bytes-known t (c .before .before .shared-slice-known .given)) b p a (args .place) s))
+    ∙ not-less (args .cut) (length (p .source))
+
 pub source-short-spec : {M : Type 1} → statement M
 source-short-spec =
     tie.close
     (tie.spec
-    (λ c. search needs)
-    (λ c. search needs)
-    (λ c. search needs)
-    (λ c κs. let (v, st) = (c .before .before .pre) in let (b, p, a, s) = st in (p .source, holds-source (c .before .before .args .t .now) (bytes-known (c .before .before .args .t .now) ((c .before .shared-slice-known .given))) b p a (c .before .before .args .place) s))
-    (λ c. λ b p a s. ap not (c .has-more .ensures (p .source) (holds-source (c .before .before .before .args .t .now) (bytes-known (c .before .before .before .args .t .now) ((c .before .before .shared-slice-known .given))) b p a (c .before .before .before .args .place) s)) ∙ not-less (c .before .before .before .args .cut) (length (p .source))))
+    -- by search: sub-has-more 40:15, part-has-more-start 40:15, part-has-more-end 40:15
+    (λ c. search needs) (λ c. search needs) (λ c. search needs)
+    has-more-requires
+    returns)

@@ -8,15 +8,87 @@ use borrow.Author.Needs.{needs}
 use Rattle.split_limits.proofs.target_added.Statement.{statement}
 use Rattle.split_limits.proofs.target_added.Tie as tie
 
+-- src/lib.rt:95:29
+sub-added-in : tie.Need-sub-added-in
+sub-added-in c =
+    let start = c .before .before .before in
+    let args = start .args in
+    let t = args .t .now in
+    let (v, st) = start .pre in
+    let (b, p, a, s) = st in
+    let h = target-there t (bytes-known t (c .before .before .shared-slice-known .given)) b p a (args .place) s
+    (c .before .if1 .taken) in
+    omega (arith, h .ordered)
+
+-- src/lib.rt:95:29
+part-added-in-start : tie.Need-part-added-in-start
+part-added-in-start c =
+    let start = c .before .before .before in
+    let args = start .args in
+    let t = args .t .now in
+    let (v, st) = start .pre in
+    let (b, p, a, s) = st in
+    let h = target-there t (bytes-known t (c .before .before .shared-slice-known .given)) b p a (args .place) s
+    (c .before .if1 .taken) in
+    omega (arith, h .ordered)
+
+-- src/lib.rt:95:20
+added-in-requires : tie.Need-added-in-requires
+added-in-requires c κs =
+    let start = c .before .before .before .before in
+    let args = start .args in
+    let t = args .t .now in
+    let known = c .before .before .before .shared-slice-known .given in
+    let (v, st) = start .pre in
+    let (b, p, a, s) = st in (
+      target-items (p .target),
+      target-there t (bytes-known t known) b p a (args .place) s (c .before .before .if1 .taken) .holds,
+    )
+
+-- src/lib.rt:95:16
+add-result : tie.Need-add-result
+add-result c =
+    let start = c .before .before .before .before .before in
+    let args = start .args in
+    let t = args .t .now in
+    let known = c .before .before .before .before .shared-slice-known .given in
+    let if1 = c .before .before .before .if1 in
+    let (v, st) = start .pre in
+    let (b, p, a, s) = st in
+    let e = c .added-in .ensures (target-items (p .target))
+    (target-there t (bytes-known t known) b p a (args .place) s (if1 .taken) .holds) in
+    omega (arith, e .few)
+
+-- src/lib.rt:95:9
+returns : tie.Need-returns
+returns c =
+    let args = c .before .before .before .before .before .args in
+    let t = args .t .now in
+    let place = args .place in
+    let known = c .before .before .before .before .shared-slice-known .given in
+    let if1 = c .before .before .before .if1 in
+    λ b p a s.
+    grown-there t place (args .cut) (p .target) (c .added-in .result) (s .target) (if1 .taken)
+    (c .added-in .ensures (target-items (p .target))
+    (target-there t (bytes-known t known) b p a place s (if1 .taken) .holds))
+
+-- src/lib.rt:88:1
+returns-2 : tie.Need-returns-2
+returns-2 c =
+    let args = c .before .before .args in
+    λ b p a s. nothing-grown (args .t .now) (args .place) (args .cut) (p .target) (s .target) (c .if1 .left)
+
 pub target-added-spec : {M : Type 1} → statement M
 target-added-spec =
     tie.close
     (tie.spec
+    -- by search: add-from 93:20
     (λ c. search needs)
-    (λ c. let (v, st) = (c .before .before .before .pre) in let (b, p, a, s) = st in let h = target-there (c .before .before .before .args .t .now) (bytes-known (c .before .before .before .args .t .now) ((c .before .before .shared-slice-known .given))) b p a (c .before .before .before .args .place) s ((c .before .if1 .taken)) in omega (arith, h .ordered))
-    (λ c. let (v, st) = (c .before .before .before .pre) in let (b, p, a, s) = st in let h = target-there (c .before .before .before .args .t .now) (bytes-known (c .before .before .before .args .t .now) ((c .before .before .shared-slice-known .given))) b p a (c .before .before .before .args .place) s ((c .before .if1 .taken)) in omega (arith, h .ordered))
+    sub-added-in
+    part-added-in-start
+    -- by search: part-added-in-end 95:29
     (λ c. search needs)
-    (λ c κs. let (v, st) = (c .before .before .before .before .pre) in let (b, p, a, s) = st in (target-items (p .target), target-there (c .before .before .before .before .args .t .now) (bytes-known (c .before .before .before .before .args .t .now) ((c .before .before .before .shared-slice-known .given))) b p a (c .before .before .before .before .args .place) s ((c .before .before .if1 .taken)) .holds))
-    (λ c. let (v, st) = (c .before .before .before .before .before .pre) in let (b, p, a, s) = st in let e = c .added-in .ensures (target-items (p .target)) (target-there (c .before .before .before .before .before .args .t .now) (bytes-known (c .before .before .before .before .before .args .t .now) ((c .before .before .before .before .shared-slice-known .given))) b p a (c .before .before .before .before .before .args .place) s ((c .before .before .before .if1 .taken)) .holds) in omega (arith, e .few))
-    (λ c. λ b p a s. grown-there (c .before .before .before .before .before .args .t .now) (c .before .before .before .before .before .args .place) (c .before .before .before .before .before .args .cut) (p .target) (c .added-in .result) (s .target) ((c .before .before .before .if1 .taken)) (c .added-in .ensures (target-items (p .target)) (target-there (c .before .before .before .before .before .args .t .now) (bytes-known (c .before .before .before .before .before .args .t .now) ((c .before .before .before .before .shared-slice-known .given))) b p a (c .before .before .before .before .before .args .place) s ((c .before .before .before .if1 .taken)) .holds)))
-    (λ c. λ b p a s. nothing-grown (c .before .before .args .t .now) (c .before .before .args .place) (c .before .before .args .cut) (p .target) (s .target) ((c .if1 .left))))
+    added-in-requires
+    add-result
+    returns
+    returns-2)

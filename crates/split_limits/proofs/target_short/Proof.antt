@@ -13,14 +13,73 @@ use borrow.Author.Needs.{needs}
 use Rattle.split_limits.proofs.target_short.Statement.{statement}
 use Rattle.split_limits.proofs.target_short.Tie as tie
 
+-- src/lib.rt:51:28
+sub-has-enough : tie.Need-sub-has-enough
+sub-has-enough c =
+    let start = c .before .before .before in
+    let args = start .args in
+    let t = args .t .now in
+    let (v, st) = start .pre in
+    let (b, p, a, s) = st in
+    let h = target-there t (bytes-known t (c .before .before .shared-slice-known .given)) b p a (args .place) s
+    (c .before .if1 .taken) in
+    omega (arith, h .ordered)
+
+-- src/lib.rt:51:28
+part-has-enough-start : tie.Need-part-has-enough-start
+part-has-enough-start c =
+    let start = c .before .before .before in
+    let args = start .args in
+    let t = args .t .now in
+    let (v, st) = start .pre in
+    let (b, p, a, s) = st in
+    let h = target-there t (bytes-known t (c .before .before .shared-slice-known .given)) b p a (args .place) s
+    (c .before .if1 .taken) in
+    omega (arith, h .ordered)
+
+-- src/lib.rt:51:17
+has-enough-requires : tie.Need-has-enough-requires
+has-enough-requires c κs =
+    let start = c .before .before .before .before in
+    let args = start .args in
+    let t = args .t .now in
+    let known = c .before .before .before .shared-slice-known .given in
+    let (v, st) = start .pre in
+    let (b, p, a, s) = st in (
+      target-items (p .target),
+      target-there t (bytes-known t known) b p a (args .place) s (c .before .before .if1 .taken) .holds,
+    )
+
+-- src/lib.rt:51:9
+returns : tie.Need-returns
+returns c =
+    let args = c .before .before .before .before .before .args in
+    let t = args .t .now in
+    let known = c .before .before .before .before .shared-slice-known .given in
+    let if1 = c .before .before .before .if1 in
+    λ b p a s.
+    ap not (c .has-enough .ensures (target-items (p .target))
+    (target-there t (bytes-known t known) b p a (args .place) s (if1 .taken) .holds))
+    ∙ not-most (args .cut) (length (target-items (p .target)))
+
+-- src/lib.rt:44:1
+returns-2 : tie.Need-returns-2
+returns-2 c =
+    let args = c .before .before .args in
+    λ b p a s.
+    sym (ap (λ (l : Content). ltb (length l) (args .cut))
+    (nothing-there (args .t .now) (args .place) (p .target) (s .target) (c .if1 .left)))
+
 pub target-short-spec : {M : Type 1} → statement M
 target-short-spec =
     tie.close
     (tie.spec
+    -- by search: add-from 49:20
     (λ c. search needs)
-    (λ c. let (v, st) = (c .before .before .before .pre) in let (b, p, a, s) = st in let h = target-there (c .before .before .before .args .t .now) (bytes-known (c .before .before .before .args .t .now) ((c .before .before .shared-slice-known .given))) b p a (c .before .before .before .args .place) s ((c .before .if1 .taken)) in omega (arith, h .ordered))
-    (λ c. let (v, st) = (c .before .before .before .pre) in let (b, p, a, s) = st in let h = target-there (c .before .before .before .args .t .now) (bytes-known (c .before .before .before .args .t .now) ((c .before .before .shared-slice-known .given))) b p a (c .before .before .before .args .place) s ((c .before .if1 .taken)) in omega (arith, h .ordered))
+    sub-has-enough
+    part-has-enough-start
+    -- by search: part-has-enough-end 51:28
     (λ c. search needs)
-    (λ c κs. let (v, st) = (c .before .before .before .before .pre) in let (b, p, a, s) = st in (target-items (p .target), target-there (c .before .before .before .before .args .t .now) (bytes-known (c .before .before .before .before .args .t .now) ((c .before .before .before .shared-slice-known .given))) b p a (c .before .before .before .before .args .place) s ((c .before .before .if1 .taken)) .holds))
-    (λ c. λ b p a s. ap not (c .has-enough .ensures (target-items (p .target)) (target-there (c .before .before .before .before .before .args .t .now) (bytes-known (c .before .before .before .before .before .args .t .now) ((c .before .before .before .before .shared-slice-known .given))) b p a (c .before .before .before .before .before .args .place) s ((c .before .before .before .if1 .taken)) .holds)) ∙ not-most (c .before .before .before .before .before .args .cut) (length (target-items (p .target))))
-    (λ c. λ b p a s. sym (ap (λ (l : Content). ltb (length l) (c .before .before .args .cut)) (nothing-there (c .before .before .args .t .now) (c .before .before .args .place) (p .target) (s .target) ((c .if1 .left))))))
+    has-enough-requires
+    returns
+    returns-2)

@@ -11,10 +11,46 @@ use Rattle.target_order.proofs.lowest_unused.Statement.{statement}
 use Rattle.target_order.proofs.lowest_unused.Tie as tie
 
 abbrev Inv-loop : tie.InvT-loop
-Inv-loop t n q₀ left₀ q left = (set.lowest-unused 1 n (orders (unit t .parts)) ≡ set.lowest-unused q left (orders (unit t .parts))) × (q + left ≡ n + 1)
+Inv-loop t n q₀ left₀ q left =
+    (set.lowest-unused 1 n (orders (unit t .parts)) ≡ set.lowest-unused q left (orders (unit t .parts)))
+    × (q + left ≡ n + 1)
 
 abbrev μ-loop : tie.MeasureT-loop
 μ-loop t n q₀ left₀ q left = left
+
+-- src/lib.rt:20:13
+returns : tie.Need-returns Inv-loop μ-loop
+returns c =
+    let t = c .before .before .before .before .before .args .t .now in
+    let loop = c .before .before .before .loop in
+    sym (loop .inv .0
+    ∙ lowest-here (orders (unit t .parts)) (loop .q) (loop .left) (c .before .before .loop-test .taken)
+    (sym (c .before .is-order .ensures) ∙ not-true _ (c .if1 .taken)))
+
+-- src/lib.rt:22:9
+add-q : tie.Need-add-q Inv-loop μ-loop
+add-q c =
+    let pre = c .before .before .before .before .before .pre in
+    let loop = c .before .before .before .loop in
+    omega (arith, pre .1, loop .inv .1)
+
+-- src/lib.rt:18:5
+loop-again : tie.Need-loop-again Inv-loop μ-loop
+loop-again c =
+    let t = c .before .before .before .before .before .args .t .now in
+    let loop = c .before .before .before .loop in (
+      loop .inv .0
+          ∙ lowest-above (orders (unit t .parts)) (loop .q) (loop .left) (c .before .before .loop-test .taken)
+          (sym (c .before .is-order .ensures) ∙ not-false _ (c .if1 .left)),
+      omega (arith, loop .inv .1),
+    )
+
+-- src/lib.rt:12:1
+returns-2 : tie.Need-returns-2 Inv-loop μ-loop
+returns-2 c =
+    let t = c .before .before .before .args .t .now in
+    let loop = c .before .loop in
+    sym (loop .inv .0 ∙ lowest-none (orders (unit t .parts)) (loop .q) (loop .left) (c .loop-test .left))
 
 pub lowest-unused-spec : {M : Type 1} → statement M
 lowest-unused-spec =
@@ -22,11 +58,11 @@ lowest-unused-spec =
     (tie.spec
     Inv-loop
     μ-loop
-    (λ c. (refl, omega arith))
-    (λ c κs. search needs)
-    (λ c. sym (c .before .before .before .loop .inv .0 ∙ lowest-here (orders (unit (c .before .before .before .before .before .args .t .now) .parts)) (c .before .before .before .loop .q) (c .before .before .before .loop .left) ((c .before .before .loop-test .taken)) (sym (c .before .is-order .ensures) ∙ not-true _ ((c .if1 .taken)))))
-    (λ c. omega (arith, c .before .before .before .before .before .pre .1, c .before .before .before .loop .inv .1))
-    (λ c. search needs)
-    (λ c. omega arith)
-    (λ c. (c .before .before .before .loop .inv .0 ∙ lowest-above (orders (unit (c .before .before .before .before .before .args .t .now) .parts)) (c .before .before .before .loop .q) (c .before .before .before .loop .left) ((c .before .before .loop-test .taken)) (sym (c .before .is-order .ensures) ∙ not-false _ ((c .if1 .left))), omega (arith, c .before .before .before .loop .inv .1)))
-    (λ c. sym (c .before .loop .inv .0 ∙ lowest-none (orders (unit (c .before .before .before .args .t .now) .parts)) (c .before .loop .q) (c .before .loop .left) ((c .loop-test .left)))))
+    -- by one step: loop-holds 18:5, is-order-requires 19:13
+    (λ c. (refl, omega arith)) (λ c κs. search needs)
+    returns
+    add-q
+    -- by one step: sub-left 23:9, loop-less 18:5
+    (λ c. search needs) (λ c. omega arith)
+    loop-again
+    returns-2)

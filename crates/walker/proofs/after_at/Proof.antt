@@ -15,4 +15,5 @@ after-at-spec =
     (λ c. search needs)
     (λ c κs. search needs)
     (λ c. search needs)
-    (λ c. after-width (c .before .before .before .before .args .t .now) (c .before .before .before .before .args .at) _ (simp tail-is at (c .known-width .ensures))))
+    (λ c. after-width (c .before .before .before .before .args .t .now) (c .before .before .before .before .args .at) _
+    (simp tail-is at (c .known-width .ensures))))

@@ -10,13 +10,50 @@ use borrow.Author.Needs.{needs}
 use Rattle.whole_pair.proofs.find.Statement.{statement}
 use Rattle.whole_pair.proofs.find.Tie as tie
 
+-- src/lib.rt:107:9
+returns : tie.Need-returns
+returns c =
+    let args = c .before .before .before .args in
+    c .in-source .ensures
+    ∙ ap (λ (l : Content). pairOf (find-whole (args .id) l))
+    (sym (of-source (args .side) (unit (args .t .now) .parts) (c .before .if1 .taken)))
+
+-- src/lib.rt:109:18
+narrow-requires : tie.Need-narrow-requires
+narrow-requires c κs =
+    let start = c .before .before .before in
+    omega (arith, c .count-parts .ensures, few-parts (start .args .t .now) (start .pre .0))
+
+-- src/lib.rt:109:5
+in-target-requires : tie.Need-in-target-requires
+in-target-requires c κs =
+    let start = c .before .before .before .before in
+    let pre = start .pre in
+    let count-parts = c .before .count-parts in (
+      pre .0,
+      pre .1,
+      c .narrow .ensures ∙ count-parts .ensures,
+      omega (arith, c .narrow .ensures, count-parts .ensures, few-parts (start .args .t .now) (pre .0)),
+    )
+
+-- src/lib.rt:102:1
+returns-2 : tie.Need-returns-2
+returns-2 c =
+    let args = c .before .before .before .before .before .args in
+    let if1 = c .before .before .before .if1 in
+    c .in-target .ensures
+    ∙ ap (λ (l : Content). pairOf (find-whole (args .id) l))
+    (sym (of-target (args .side) (unit (args .t .now) .parts) (if1 .left)))
+
 pub find-spec : {M : Type 1} → statement M
 find-spec =
     tie.close
     (tie.spec
+    -- by search: in-source-requires 107:9
     (λ c κs. search needs)
-    (λ c. (c .in-source .ensures) ∙ ap (λ (l : Content). pairOf (find-whole (c .before .before .before .args .id) l)) (sym (of-source (c .before .before .before .args .side) (unit (c .before .before .before .args .t .now) .parts) (c .before .if1 .taken))))
+    returns
+    -- by search: count-parts-requires 109:25
     (λ c κs. search needs)
-    (λ c κs. omega (arith, (c .count-parts .ensures), few-parts (c .before .before .before .args .t .now) (c .before .before .before .pre .0)))
-    (λ c κs. ((c .before .before .before .before .pre .0), (c .before .before .before .before .pre .1), (c .narrow .ensures) ∙ (c .before .count-parts .ensures), omega (arith, (c .narrow .ensures), (c .before .count-parts .ensures), few-parts (c .before .before .before .before .args .t .now) (c .before .before .before .before .pre .0))))
-    (λ c. (c .in-target .ensures) ∙ ap (λ (l : Content). pairOf (find-whole (c .before .before .before .before .before .args .id) l)) (sym (of-target (c .before .before .before .before .before .args .side) (unit (c .before .before .before .before .before .args .t .now) .parts) (c .before .before .before .if1 .left)))))
+    narrow-requires
+    in-target-requires
+    returns-2)

@@ -10,10 +10,53 @@ use Rattle.whole_pair.proofs.find_start.Statement.{statement}
 use Rattle.whole_pair.proofs.find_start.Tie as tie
 
 abbrev Inv-loop : tie.InvT-loop
-Inv-loop ks id i₀ i = (i ≤ length ks) × (next (startsAt ks id) 0 (length ks) ≡ next (startsAt ks id) i (length ks - i))
+Inv-loop ks id i₀ i =
+    (i ≤ length ks) × (next (startsAt ks id) 0 (length ks) ≡ next (startsAt ks id) i (length ks - i))
 
 abbrev μ-loop : tie.MeasureT-loop
 μ-loop ks id i₀ i = length ks - i
+
+-- src/lib.rt:41:5
+loop-holds : tie.Need-loop-holds Inv-loop μ-loop
+loop-holds c = (
+  omega arith,
+  ap (next (startsAt (c .args .ks .now) (c .args .id)) 0)
+      (let z : length (c .args .ks .now) ≡ length (c .args .ks .now) - 0 = omega arith in z),
+)
+
+-- src/lib.rt:44:13
+returns : tie.Need-returns Inv-loop μ-loop
+returns c =
+    let args = c .before .before .before .before .args in
+    let ks = args .ks .now in
+    let loop = c .before .before .before .loop in (
+      sym (loop .inv .1
+          ∙ next-hit (startsAt ks (args .id)) (length ks) (loop .i) (c .before .before .loop-test .taken)
+          (c .if1 .taken)),
+      loop .inv .0,
+    )
+
+-- src/lib.rt:41:5
+loop-again : tie.Need-loop-again Inv-loop μ-loop
+loop-again c =
+    let args = c .before .before .before .before .args in
+    let ks = args .ks .now in
+    let loop = c .before .before .before .loop in (
+      omega arith,
+      loop .inv .1
+          ∙ next-miss (startsAt ks (args .id)) (length ks) (loop .i) (c .before .before .loop-test .taken)
+          (c .if1 .left),
+    )
+
+-- src/lib.rt:37:1
+returns-2 : tie.Need-returns-2 Inv-loop μ-loop
+returns-2 c =
+    let args = c .before .before .args in
+    let ks = args .ks .now in
+    let loop = c .before .loop in (
+      sym (loop .inv .1 ∙ next-end (startsAt ks (args .id)) (length ks) (loop .i) (c .loop-test .left)),
+      loop .inv .0,
+    )
 
 pub find-start-spec : {M : Type 1} → statement M
 find-start-spec =
@@ -21,11 +64,11 @@ find-start-spec =
     (tie.spec
     Inv-loop
     μ-loop
-    (λ c. (omega arith, ap (next (startsAt (c .args .ks .now) (c .args .id)) 0) (let z : length (c .args .ks .now) ≡ length (c .args .ks .now) - 0 = omega arith in z)))
-    (λ c. search needs)
-    (λ c. search needs)
-    (λ c. (sym ((c .before .before .before .loop .inv .1) ∙ next-hit (startsAt (c .before .before .before .before .args .ks .now) (c .before .before .before .before .args .id)) (length (c .before .before .before .before .args .ks .now)) (c .before .before .before .loop .i) (c .before .before .loop-test .taken) (c .if1 .taken)), (c .before .before .before .loop .inv .0)))
-    (λ c. search needs)
-    (λ c. search needs)
-    (λ c. (omega arith, (c .before .before .before .loop .inv .1) ∙ next-miss (startsAt (c .before .before .before .before .args .ks .now) (c .before .before .before .before .args .id)) (length (c .before .before .before .before .args .ks .now)) (c .before .before .before .loop .i) (c .before .before .loop-test .taken) (c .if1 .left)))
-    (λ c. (sym ((c .before .loop .inv .1) ∙ next-end (startsAt (c .before .before .args .ks .now) (c .before .before .args .id)) (length (c .before .before .args .ks .now)) (c .before .loop .i) (c .loop-test .left)), (c .before .loop .inv .0))))
+    loop-holds
+    -- by search: mul-k 42:17, shared-slice-read-k 42:17
+    (λ c. search needs) (λ c. search needs)
+    returns
+    -- by search: add-i 46:9, loop-less 41:5
+    (λ c. search needs) (λ c. search needs)
+    loop-again
+    returns-2)

@@ -12,19 +12,78 @@ use borrow.Author.Needs.{needs}
 use Rattle.whole_pair.proofs.in_source.Statement.{statement}
 use Rattle.whole_pair.proofs.in_source.Tie as tie
 
+-- src/lib.rt:86:22
+slice-aggregate-keys-at : tie.Need-slice-aggregate-keys-at
+slice-aggregate-keys-at c =
+    let sources = c .before .before .sources in
+    sym (length-take-le (sources .result) (sources .last .1 .0)
+    (omega (arith, sources .ensures .1, sources .ensures .2)))
+
+-- src/lib.rt:86:5
+keys-at-requires : tie.Need-keys-at-requires
+keys-at-requires c κs =
+    let sources = c .before .before .before .sources in
+    omega (
+      arith,
+      length-take-le (sources .result) (sources .last .1 .0)
+          (omega (arith, sources .ensures .1, sources .ensures .2)),
+      sources .ensures .1,
+    )
+
+-- src/lib.rt:87:16
+slice-aggregate-pair-of : tie.Need-slice-aggregate-pair-of
+slice-aggregate-pair-of c =
+    let sources = c .before .before .before .before .before .before .sources in
+    sym (length-take-le (sources .result) (sources .last .1 .0)
+    (omega (arith, sources .ensures .1, sources .ensures .2)))
+
+-- src/lib.rt:87:26
+slice-aggregate-pair-of-2 : tie.Need-slice-aggregate-pair-of-2
+slice-aggregate-pair-of-2 c =
+    let sources = c .before .before .before .before .before .before .before .sources in
+    let keys-at = c .before .before .before .keys-at in
+    sym (length-take-le (sources .result) (keys-at .last .1 .1 .0)
+    (omega (arith, sources .ensures .1, keys-at .ensures .2)))
+
+-- src/lib.rt:87:5
+pair-of-requires : tie.Need-pair-of-requires
+pair-of-requires c κs =
+    let sources = c .before .before .before .before .before .before .before .sources in
+    let keys-at = c .before .before .before .keys-at in
+    ap (λ (k : ℕ). take k (keys-at .last .1 .1 .0))
+    (sym (keys-at .ensures .0
+    ∙ length-take-le (sources .result) (sources .last .1 .0)
+    (omega (arith, sources .ensures .1, sources .ensures .2))))
+    ∙ keys-at .ensures .1
+
+-- src/lib.rt:79:1
+returns : tie.Need-returns
+returns c =
+    let after-sources = c .before .before .before .before .before .before .before .before in
+    let start = after-sources .before .before .before in
+    let args = start .args in
+    let id = args .id in
+    let t = args .t .now in
+    let sources = after-sources .sources in
+    c .pair-of .ensures
+    ∙ ap pairOf
+    (ap (λ (l : List ℕ). find-whole id (itemsAt t l)) (sources .ensures .0) ∙ source-whole t (start .pre .0) id)
+
 pub in-source-spec : {M : Type 1} → statement M
 in-source-spec =
     tie.close
     (tie.spec
+    -- by search: slice-aggregate-sources 85:35, sources-requires 85:9, array-share-prefix-os 86:22
+    (λ c. search needs) (λ c κs. search needs) (λ c. search needs)
+    slice-aggregate-keys-at
+    -- by search: slice-aggregate-keys-at-2 86:32
     (λ c. search needs)
-    (λ c κs. search needs)
+    keys-at-requires
+    -- by search: array-share-prefix-os-2 87:16
     (λ c. search needs)
-    (λ c. sym (length-take-le (c .before .before .sources .result) (c .before .before .sources .last .1 .0) (omega (arith, (c .before .before .sources .ensures .1), (c .before .before .sources .ensures .2)))))
+    slice-aggregate-pair-of
+    -- by search: array-share-prefix-ks 87:26
     (λ c. search needs)
-    (λ c κs. omega (arith, length-take-le (c .before .before .before .sources .result) (c .before .before .before .sources .last .1 .0) (omega (arith, (c .before .before .before .sources .ensures .1), (c .before .before .before .sources .ensures .2))), (c .before .before .before .sources .ensures .1)))
-    (λ c. search needs)
-    (λ c. sym (length-take-le (c .before .before .before .before .before .before .sources .result) (c .before .before .before .before .before .before .sources .last .1 .0) (omega (arith, (c .before .before .before .before .before .before .sources .ensures .1), (c .before .before .before .before .before .before .sources .ensures .2)))))
-    (λ c. search needs)
-    (λ c. sym (length-take-le (c .before .before .before .before .before .before .before .sources .result) (c .before .before .before .keys-at .last .1 .1 .0) (omega (arith, (c .before .before .before .before .before .before .before .sources .ensures .1), (c .before .before .before .keys-at .ensures .2)))))
-    (λ c κs. ap (λ (k : ℕ). take k (c .before .before .before .keys-at .last .1 .1 .0)) (sym ((c .before .before .before .keys-at .ensures .0) ∙ length-take-le (c .before .before .before .before .before .before .before .sources .result) (c .before .before .before .before .before .before .before .sources .last .1 .0) (omega (arith, (c .before .before .before .before .before .before .before .sources .ensures .1), (c .before .before .before .before .before .before .before .sources .ensures .2))))) ∙ (c .before .before .before .keys-at .ensures .1))
-    (λ c. (c .pair-of .ensures) ∙ ap pairOf (ap (λ (l : List ℕ). find-whole (c .before .before .before .before .before .before .before .before .before .before .before .args .id) (itemsAt (c .before .before .before .before .before .before .before .before .before .before .before .args .t .now) l)) (c .before .before .before .before .before .before .before .before .sources .ensures .0) ∙ source-whole (c .before .before .before .before .before .before .before .before .before .before .before .args .t .now) (c .before .before .before .before .before .before .before .before .before .before .before .pre .0) (c .before .before .before .before .before .before .before .before .before .before .before .args .id))))
+    slice-aggregate-pair-of-2
+    pair-of-requires
+    returns)

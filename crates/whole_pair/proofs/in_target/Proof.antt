@@ -13,19 +13,80 @@ use borrow.Author.Needs.{needs}
 use Rattle.whole_pair.proofs.in_target.Statement.{statement}
 use Rattle.whole_pair.proofs.in_target.Tie as tie
 
+-- src/lib.rt:97:22
+slice-aggregate-keys-at : tie.Need-slice-aggregate-keys-at
+slice-aggregate-keys-at c =
+    let targets = c .before .before .targets in
+    sym (length-take-le (targets .result) (targets .last .1 .1 .0)
+    (omega (arith, targets .ensures .1, targets .ensures .2)))
+
+-- src/lib.rt:97:5
+keys-at-requires : tie.Need-keys-at-requires
+keys-at-requires c κs =
+    let targets = c .before .before .before .targets in
+    omega (
+      arith,
+      length-take-le (targets .result) (targets .last .1 .1 .0)
+          (omega (arith, targets .ensures .1, targets .ensures .2)),
+      targets .ensures .1,
+    )
+
+-- src/lib.rt:98:16
+slice-aggregate-pair-of : tie.Need-slice-aggregate-pair-of
+slice-aggregate-pair-of c =
+    let targets = c .before .before .before .before .before .before .targets in
+    sym (length-take-le (targets .result) (targets .last .1 .1 .0)
+    (omega (arith, targets .ensures .1, targets .ensures .2)))
+
+-- src/lib.rt:98:26
+slice-aggregate-pair-of-2 : tie.Need-slice-aggregate-pair-of-2
+slice-aggregate-pair-of-2 c =
+    let targets = c .before .before .before .before .before .before .before .targets in
+    let keys-at = c .before .before .before .keys-at in
+    sym (length-take-le (targets .result) (keys-at .last .1 .1 .0)
+    (omega (arith, targets .ensures .1, keys-at .ensures .2)))
+
+-- src/lib.rt:98:5
+pair-of-requires : tie.Need-pair-of-requires
+pair-of-requires c κs =
+    let targets = c .before .before .before .before .before .before .before .targets in
+    let keys-at = c .before .before .before .keys-at in
+    ap (λ (k : ℕ). take k (keys-at .last .1 .1 .0))
+    (sym (keys-at .ensures .0
+    ∙ length-take-le (targets .result) (targets .last .1 .1 .0)
+    (omega (arith, targets .ensures .1, targets .ensures .2))))
+    ∙ keys-at .ensures .1
+
+-- src/lib.rt:90:1
+returns : tie.Need-returns
+returns c =
+    let after-targets = c .before .before .before .before .before .before .before .before in
+    let start = after-targets .before .before .before in
+    let args = start .args in
+    let id = args .id in
+    let t = args .t .now in
+    let pre = start .pre in
+    let targets = after-targets .targets in
+    c .pair-of .ensures
+    ∙ ap pairOf (ap (λ (l : List ℕ). find-whole id (itemsAt t l))
+    (targets .ensures .0 ∙ ap (target-offsets t 0) (pre .2))
+    ∙ target-whole t (pre .0) id)
+
 pub in-target-spec : {M : Type 1} → statement M
 in-target-spec =
     tie.close
     (tie.spec
+    -- by search: slice-aggregate-targets 96:42, targets-requires 96:9, array-share-prefix-os 97:22
+    (λ c. search needs) (λ c κs. search needs) (λ c. search needs)
+    slice-aggregate-keys-at
+    -- by search: slice-aggregate-keys-at-2 97:32
     (λ c. search needs)
-    (λ c κs. search needs)
+    keys-at-requires
+    -- by search: array-share-prefix-os-2 98:16
     (λ c. search needs)
-    (λ c. sym (length-take-le (c .before .before .targets .result) (c .before .before .targets .last .1 .1 .0) (omega (arith, (c .before .before .targets .ensures .1), (c .before .before .targets .ensures .2)))))
+    slice-aggregate-pair-of
+    -- by search: array-share-prefix-ks 98:26
     (λ c. search needs)
-    (λ c κs. omega (arith, length-take-le (c .before .before .before .targets .result) (c .before .before .before .targets .last .1 .1 .0) (omega (arith, (c .before .before .before .targets .ensures .1), (c .before .before .before .targets .ensures .2))), (c .before .before .before .targets .ensures .1)))
-    (λ c. search needs)
-    (λ c. sym (length-take-le (c .before .before .before .before .before .before .targets .result) (c .before .before .before .before .before .before .targets .last .1 .1 .0) (omega (arith, (c .before .before .before .before .before .before .targets .ensures .1), (c .before .before .before .before .before .before .targets .ensures .2)))))
-    (λ c. search needs)
-    (λ c. sym (length-take-le (c .before .before .before .before .before .before .before .targets .result) (c .before .before .before .keys-at .last .1 .1 .0) (omega (arith, (c .before .before .before .before .before .before .before .targets .ensures .1), (c .before .before .before .keys-at .ensures .2)))))
-    (λ c κs. ap (λ (k : ℕ). take k (c .before .before .before .keys-at .last .1 .1 .0)) (sym ((c .before .before .before .keys-at .ensures .0) ∙ length-take-le (c .before .before .before .before .before .before .before .targets .result) (c .before .before .before .before .before .before .before .targets .last .1 .1 .0) (omega (arith, (c .before .before .before .before .before .before .before .targets .ensures .1), (c .before .before .before .before .before .before .before .targets .ensures .2))))) ∙ (c .before .before .before .keys-at .ensures .1))
-    (λ c. (c .pair-of .ensures) ∙ ap pairOf (ap (λ (l : List ℕ). find-whole (c .before .before .before .before .before .before .before .before .before .before .before .args .id) (itemsAt (c .before .before .before .before .before .before .before .before .before .before .before .args .t .now) l)) ((c .before .before .before .before .before .before .before .before .targets .ensures .0) ∙ ap (target-offsets (c .before .before .before .before .before .before .before .before .before .before .before .args .t .now) 0) (c .before .before .before .before .before .before .before .before .before .before .before .pre .2)) ∙ target-whole (c .before .before .before .before .before .before .before .before .before .before .before .args .t .now) (c .before .before .before .before .before .before .before .before .before .before .before .pre .0) (c .before .before .before .before .before .before .before .before .before .before .before .args .id))))
+    slice-aggregate-pair-of-2
+    pair-of-requires
+    returns)

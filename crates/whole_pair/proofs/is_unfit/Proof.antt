@@ -3,10 +3,19 @@ use Rattle.xliff.specs.Rules.{end-letter}
 use Rattle.whole_pair.proofs.is_unfit.Statement.{statement}
 use Rattle.whole_pair.proofs.is_unfit.Tie as tie
 
-pub is-unfit-spec : {M : Type 1} → statement M
+-- src/lib.rt:56:9
+returns : tie.Need-returns
 unfolding end-letter
+returns c = rw (eq-eqb _ _ (c .if1 .taken))
+
+-- src/lib.rt:52:1
+returns-2 : tie.Need-returns-2
+unfolding end-letter
+returns-2 c = rw (ne-eqb _ _ (c .if1 .left))
+
+pub is-unfit-spec : {M : Type 1} → statement M
 is-unfit-spec =
     tie.close
     (tie.spec
-    (λ c. rw (eq-eqb _ _ (c .if1 .taken)))
-    (λ c. rw (ne-eqb _ _ (c .if1 .left))))
+    returns
+    returns-2)

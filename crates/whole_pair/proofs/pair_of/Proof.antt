@@ -11,22 +11,90 @@ use Rattle.whole_pair.proofs.pair_of.Statement.{statement}
 use Rattle.whole_pair.proofs.pair_of.Tie as tie
 use Rattle.whole_pair.proofs.wide.Reads as wide-reads′
 
+-- src/lib.rt:68:9
+returns : tie.Need-returns
+returns c =
+    let start = c .before .before .before .before .before .before in
+    let args = start .args in
+    let pre = start .pre in
+    let find-start = c .before .find-start in
+    let f = rw (pre, c .before .before .wide .ensures) at (find-start .ensures .0) in
+    let n = ap length pre in
+    none-started (args .t .now) (args .os .now) (args .id) (find-start .result) f (omega (arith, n, c .if1 .taken))
+
+-- src/lib.rt:72:9
+returns-2 : tie.Need-returns-2
+returns-2 c =
+    let start = c .before .before .before .before .before .before .before .before in
+    let args = start .args in
+    let pre = start .pre in
+    let wide = c .before .before .before .before .wide in
+    let find-start = c .before .before .before .find-start in
+    let half-after = c .before .half-after in
+    let f = rw (pre, wide .ensures) at (find-start .ensures .0) in
+    let n = ap length pre in
+    let g = rw pre at (half-after .ensures .0) in
+    none-ended (args .t .now) (args .os .now) (args .id) (find-start .result) f
+    (omega (arith, n, c .before .before .if1 .left)) (half-after .result) g (omega (arith, n, c .if2 .taken))
+
+-- src/lib.rt:74:47
+shared-slice-read-wide : tie.Need-shared-slice-read-wide
+shared-slice-read-wide c =
+    let start = c .before .before .before .before .before .before .before .before .before in
+    let if1 = c .before .before .before .if1 in
+    let n = ap length (start .pre) in
+    omega (arith, n, length-keys (start .args .t .now) (start .args .os .now), if1 .left)
+
+-- src/lib.rt:75:45
+shared-slice-read-wide-2 : tie.Need-shared-slice-read-wide-2
+shared-slice-read-wide-2 c =
+    let start = c .before .before .before .before .before .before .before .before .before .before .before .before in
+    let if2 = c .before .before .before .before .if2 in
+    let n = ap length (start .pre) in
+    omega (arith, n, length-keys (start .args .t .now) (start .args .os .now), if2 .left)
+
+-- src/lib.rt:62:1
+returns-3 : tie.Need-returns-3
+returns-3 c =
+    let after-wide2 = c .before .before .before .before .before in
+    let after-find-start = after-wide2 .before .before .before .before .before in
+    let start = after-find-start .before .before .before .before .before in
+    let args = start .args in
+    let t = args .t .now in
+    let pre = start .pre in
+    let wide = after-find-start .before .wide in
+    let find-start = after-find-start .find-start in
+    let if1 = after-wide2 .before .before .before .before .if1 in
+    let half-after = after-wide2 .before .before .before .half-after in
+    let if2 = after-wide2 .before .before .if2 in
+    let wide2 = after-wide2 .wide2 in
+    let view-at = c .before .before .before .before .view-at in
+    let view-at2 = c .before .view-at2 in
+    let f = rw (pre, wide .ensures) at (find-start .ensures .0) in
+    let n = ap length pre in
+    let g = rw pre at (half-after .ensures .0) in
+    complete t (args .os .now) (args .id) (find-start .result) f (omega (arith, n, if1 .left)) (half-after .result)
+    g (omega (arith, n, if2 .left)) (view-at .result) (view-at2 .result)
+    (view-at .ensures ∙ ap (λ (o : ℕ). viewOf (item-at t o)) (wide2 .ensures .0))
+    (view-at2 .ensures ∙ ap (λ (o : ℕ). viewOf (item-at t o)) (c .before .before .wide3 .ensures .0))
+    (c .is-unfit .result) (c .is-unfit .ensures)
+
 pub pair-of-spec : {M : Type 1} → statement M
 pair-of-spec =
     tie.close
     (tie.spec
+    -- by search: wide-requires 66:28, find-start-requires 66:9
+    (λ c κs. search needs) (λ c κs. search needs)
+    returns
+    -- by search: half-after-requires 70:9
     (λ c κs. search needs)
-    (λ c κs. search needs)
-    (λ c. let f = rw ((c .before .before .before .before .before .before .pre), (c .before .before .wide .ensures)) at ((c .before .find-start .ensures .0)) in let n = ap length (c .before .before .before .before .before .before .pre) in none-started (c .before .before .before .before .before .before .args .t .now) (c .before .before .before .before .before .before .args .os .now) (c .before .before .before .before .before .before .args .id) (c .before .find-start .result) f (omega (arith, n, (c .if1 .taken))))
-    (λ c κs. search needs)
-    (λ c. let f = rw ((c .before .before .before .before .before .before .before .before .pre), (c .before .before .before .before .wide .ensures)) at ((c .before .before .before .find-start .ensures .0)) in let n = ap length (c .before .before .before .before .before .before .before .before .pre) in let g = rw (c .before .before .before .before .before .before .before .before .pre) at ((c .before .half-after .ensures .0)) in none-ended (c .before .before .before .before .before .before .before .before .args .t .now) (c .before .before .before .before .before .before .before .before .args .os .now) (c .before .before .before .before .before .before .before .before .args .id) (c .before .before .before .find-start .result) f (omega (arith, n, (c .before .before .if1 .left))) (c .before .half-after .result) g (omega (arith, n, (c .if2 .taken))))
+    returns-2
+    -- by search: mul-wide 74:47
     (λ c. search needs)
-    (λ c. let n = ap length (c .before .before .before .before .before .before .before .before .before .pre) in omega (arith, n, length-keys (c .before .before .before .before .before .before .before .before .before .args .t .now) (c .before .before .before .before .before .before .before .before .before .args .os .now), (c .before .before .before .if1 .left)))
-    (λ c κs. search needs)
-    (λ c κs. search needs)
-    (λ c. search needs)
-    (λ c. let n = ap length (c .before .before .before .before .before .before .before .before .before .before .before .before .pre) in omega (arith, n, length-keys (c .before .before .before .before .before .before .before .before .before .before .before .before .args .t .now) (c .before .before .before .before .before .before .before .before .before .before .before .before .args .os .now), (c .before .before .before .before .if2 .left)))
-    (λ c κs. search needs)
-    (λ c κs. search needs)
-    (λ c κs. search needs)
-    (λ c. let f = rw ((c .before .before .before .before .before .before .before .before .before .before .before .before .before .before .before .pre), (c .before .before .before .before .before .before .before .before .before .before .before .wide .ensures)) at ((c .before .before .before .before .before .before .before .before .before .before .find-start .ensures .0)) in let n = ap length (c .before .before .before .before .before .before .before .before .before .before .before .before .before .before .before .pre) in let g = rw (c .before .before .before .before .before .before .before .before .before .before .before .before .before .before .before .pre) at ((c .before .before .before .before .before .before .before .before .half-after .ensures .0)) in complete (c .before .before .before .before .before .before .before .before .before .before .before .before .before .before .before .args .t .now) (c .before .before .before .before .before .before .before .before .before .before .before .before .before .before .before .args .os .now) (c .before .before .before .before .before .before .before .before .before .before .before .before .before .before .before .args .id) (c .before .before .before .before .before .before .before .before .before .before .find-start .result) f (omega (arith, n, (c .before .before .before .before .before .before .before .before .before .if1 .left))) (c .before .before .before .before .before .before .before .before .half-after .result) g (omega (arith, n, (c .before .before .before .before .before .before .before .if2 .left))) (c .before .before .before .before .view-at .result) (c .before .view-at2 .result) ((c .before .before .before .before .view-at .ensures) ∙ ap (λ (o : ℕ). viewOf (item-at (c .before .before .before .before .before .before .before .before .before .before .before .before .before .before .before .args .t .now) o)) (c .before .before .before .before .before .wide2 .ensures .0)) ((c .before .view-at2 .ensures) ∙ ap (λ (o : ℕ). viewOf (item-at (c .before .before .before .before .before .before .before .before .before .before .before .before .before .before .before .args .t .now) o)) (c .before .before .wide3 .ensures .0)) (c .is-unfit .result) (c .is-unfit .ensures)))
+    shared-slice-read-wide
+    -- by search: wide-requires-2 74:35, view-at-requires 74:9, mul-wide-2 75:45
+    (λ c κs. search needs) (λ c κs. search needs) (λ c. search needs)
+    shared-slice-read-wide-2
+    -- by search: wide-requires-3 75:33, view-at-requires-2 75:9, is-unfit-requires 76:38
+    (λ c κs. search needs) (λ c κs. search needs) (λ c κs. search needs)
+    returns-3)
