@@ -1,9 +1,11 @@
 // The eighteen marks of a table's records, compared as fixed two-byte strings, and how many bytes a record of a mark takes.
 ghost use mathlib.Core.Path.{_≡_};
-ghost use Prim.Native.Nat.{_≤_};
+ghost use Prim.Native.Nat.{_+_, _<_, _≤_};
 ghost use lib.ListN.{length};
+ghost use Rattle.xliff.specs.Bytes.{two-at};
 ghost use Rattle.xliff.specs.Parse.{mark-at};
-ghost use Rattle.marks.specs.Marks.{marked, startEndMark, headMark, rareMark, meaning};
+ghost use Rattle.xliff.specs.Desk.{size-of};
+ghost use Rattle.marks.specs.Marks.{marked, startEndMark, headMark, rareMark, meaning, fixedWidth};
 
 pub enum Mark {
     UN,
@@ -121,4 +123,52 @@ pub fn mark_of(t: &[u8]) -> Mark
         return Mark::PH;
     }
     head_mark(t)
+}
+
+// How many bytes a record of a mark takes, a text's without its characters.
+pub fn fixed_width(m: Mark) -> usize
+    ensures { λ r. ⌜ r ≡ fixedWidth m ⌝ }
+{
+    match m {
+        Mark::Unknown => 0,
+        Mark::UE => 2,
+        Mark::UN => 3,
+        Mark::IG | Mark::TG | Mark::TX | Mark::MC | Mark::EM => 4,
+        Mark::MO | Mark::SM => 5,
+        Mark::SG | Mark::CP => 6,
+        _ => 12,
+    }
+}
+
+fn wide(x: u8) -> u16
+    ensures { λ r. ⌜ (r ≡ x) × (r < 256) ⌝ }
+{
+    x as u16
+}
+
+// The two-byte number at `at`, high byte first.
+pub fn number_at(s: &[u8], at: usize) -> u16
+    requires { ⌜ at + 2 ≤ length (now s) ⌝ }
+    ensures { λ r. ⌜ r ≡ two-at (now (s .entry)) at ⌝ }
+{
+    wide(s[at]) * 256 + wide(s[at + 1])
+}
+
+// How many bytes the record of the mark `m` at the head of `t` takes.
+fn width_by(m: Mark, t: &[u8]) -> usize
+    requires { ⌜ 4 ≤ length (now t) ⌝ }
+    ensures { λ r. ⌜ r ≡ size-of (meaning m) (now (t .entry)) ⌝ }
+{
+    match m {
+        Mark::TX => 4 + number_at(t, 2) as usize,
+        _ => fixed_width(m),
+    }
+}
+
+// How many bytes the record at the head of `t` takes.
+pub fn width_of(t: &[u8]) -> usize
+    requires { ⌜ 4 ≤ length (now t) ⌝ }
+    ensures { λ r. ⌜ r ≡ size-of (mark-at (now (t .entry))) (now (t .entry)) ⌝ }
+{
+    width_by(mark_of(t), t)
 }

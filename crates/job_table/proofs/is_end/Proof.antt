@@ -4,10 +4,21 @@ use borrow.Author.Needs.{needs}
 use Rattle.job_table.proofs.is_end.Statement.{statement}
 use Rattle.job_table.proofs.is_end.Tie as tie
 
+-- src/lib.rt:33:9
+returns : tie.Need-returns
+returns c = end-short (c .before .before .args .t .now) (c .if1 .taken)
+
+-- src/lib.rt:29:1
+returns-2 : tie.Need-returns-2
+returns-2 c =
+    let t = c .before .before .before .before .args .t .now in
+    c .marked-by .ensures ∙ end-is t (c .before .before .if1 .left)
+
 pub is-end-spec : {M : Type 1} → statement M
 is-end-spec =
     tie.close
     (tie.spec
-    (λ c. end-short (c .before .before .args .t .now) (c .if1 .taken))
+    returns
+    -- by search: marked-by-requires 35:5
     (λ c κs. search needs)
-    (λ c. c .marked-by .ensures ∙ end-is (c .before .before .before .before .args .t .now) (c .before .before .if1 .left)))
+    returns-2)

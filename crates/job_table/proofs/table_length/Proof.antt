@@ -15,25 +15,105 @@ Inv-loop job at₀ at = (at ≤ length job) × Walk job at
 abbrev μ-loop : tie.MeasureT-loop
 μ-loop job at₀ at = length job - at
 
+-- src/lib.rt:43:5
+loop-holds : tie.Need-loop-holds Inv-loop μ-loop
+loop-holds c = (omega arith, walk-start _)
+
+-- src/lib.rt:45:20
+add-result : tie.Need-add-result Inv-loop μ-loop
+add-result c =
+    let job = c .before .before .before .before .before .before .args .job .now in
+    let loop = c .before .before .before .before .loop in
+    let loop-test = c .before .before .before .loop-test in
+    let is-end = c .before .is-end in
+    let u : is-end .result ≡ is-UE (drop (loop .at) job) = simp tail-is at (is-end .ensures) in
+    omega (arith, walk-ends job (loop .at) (loop .inv .1) (loop-test .taken) (sym u ∙ c .if1 .taken) .1)
+
+-- src/lib.rt:45:13
+returns : tie.Need-returns Inv-loop μ-loop
+returns c =
+    let job = c .before .before .before .before .before .before .args .job .now in
+    let loop = c .before .before .before .before .loop in
+    let loop-test = c .before .before .before .loop-test in
+    let is-end = c .before .is-end in
+    let u : is-end .result ≡ is-UE (drop (loop .at) job) = simp tail-is at (is-end .ensures) in
+    walk-ends job (loop .at) (loop .inv .1) (loop-test .taken) (sym u ∙ c .if1 .taken)
+
+-- src/lib.rt:49:13
+returns-2 : tie.Need-returns-2 Inv-loop μ-loop
+returns-2 c =
+    let after-loop = c .before .before .before .before .before .before .before in
+    let job = after-loop .before .before .args .job .now in
+    let loop = after-loop .loop in
+    let at-now = loop .at in
+    let is-end = c .before .before .before .before .is-end in
+    let if1 = c .before .before .before .if1 in
+    let record-size = c .before .record-size in
+    let u : is-end .result ≡ is-UE (drop at-now job) = simp tail-is at (is-end .ensures) in
+    let z : record-size .result ≡ whole-size (drop at-now job) = simp tail-is at (record-size .ensures) in
+    (walk-stuck job at-now (loop .inv .1) (sym u ∙ if1 .left) (sym z ∙ c .if2 .taken), omega arith)
+
+-- src/lib.rt:51:9
+add-at : tie.Need-add-at Inv-loop μ-loop
+add-at c =
+    let after-loop = c .before .before .before .before .before .before .before in
+    let job = after-loop .before .before .args .job .now in
+    let loop = after-loop .loop in
+    let record-size = c .before .record-size in
+    let z : record-size .result ≡ whole-size (drop (loop .at) job) = simp tail-is at (record-size .ensures) in
+    omega (arith, size-within job (loop .at) (record-size .result) (loop .inv .0) z)
+
+-- src/lib.rt:43:5
+loop-less : tie.Need-loop-less Inv-loop μ-loop
+loop-less c =
+    let after-loop = c .before .before .before .before .before .before .before in
+    let job = after-loop .before .before .args .job .now in
+    let loop = after-loop .loop in
+    let record-size = c .before .record-size in
+    let z : record-size .result ≡ whole-size (drop (loop .at) job) = simp tail-is at (record-size .ensures) in
+    omega (arith, size-within job (loop .at) (record-size .result) (loop .inv .0) z, c .if2 .left)
+
+-- src/lib.rt:43:5
+loop-again : tie.Need-loop-again Inv-loop μ-loop
+loop-again c =
+    let after-loop-test = c .before .before .before .before .before .before in
+    let job = after-loop-test .before .before .before .args .job .now in
+    let loop = after-loop-test .before .loop in
+    let at-now = loop .at in
+    let loop-test = after-loop-test .loop-test in
+    let is-end = c .before .before .before .before .is-end in
+    let if1 = c .before .before .before .if1 in
+    let record-size = c .before .record-size in
+    let u : is-end .result ≡ is-UE (drop at-now job) = simp tail-is at (is-end .ensures) in
+    let z : record-size .result ≡ whole-size (drop at-now job) = simp tail-is at (record-size .ensures) in (
+      size-within job at-now (record-size .result) (loop .inv .0) z,
+      walk-on job at-now (record-size .result) (loop .inv .1) (loop-test .taken) (sym u ∙ if1 .left) z
+          (omega (arith, c .if2 .left)),
+    )
+
+-- src/lib.rt:39:1
+returns-3 : tie.Need-returns-3 Inv-loop μ-loop
+returns-3 c =
+    let job = c .before .before .before .args .job .now in
+    let loop = c .before .loop in
+    (walk-over job (loop .at) (loop .inv .1) (c .loop-test .left), omega arith)
+
 pub table-length-spec : {M : Type 1} → statement M
 table-length-spec =
     tie.close
     (tie.spec
     Inv-loop
     μ-loop
-    (λ c. (omega arith, walk-start _))
-    (λ c. search needs)
-    (λ c. search needs)
-    (λ c. search needs)
-    (λ c κs. search needs)
-    (λ c. let u : c .before .is-end .result ≡ is-UE (drop (c .before .before .before .before .loop .at) (c .before .before .before .before .before .before .args .job .now)) = simp tail-is at (c .before .is-end .ensures) in omega (arith, walk-ends (c .before .before .before .before .before .before .args .job .now) (c .before .before .before .before .loop .at) (c .before .before .before .before .loop .inv .1) (c .before .before .before .loop-test .taken) (sym u ∙ (c .if1 .taken)) .1))
-    (λ c. let u : c .before .is-end .result ≡ is-UE (drop (c .before .before .before .before .loop .at) (c .before .before .before .before .before .before .args .job .now)) = simp tail-is at (c .before .is-end .ensures) in walk-ends (c .before .before .before .before .before .before .args .job .now) (c .before .before .before .before .loop .at) (c .before .before .before .before .loop .inv .1) (c .before .before .before .loop-test .taken) (sym u ∙ (c .if1 .taken)))
-    (λ c. search needs)
-    (λ c. search needs)
-    (λ c. search needs)
-    (λ c κs. search needs)
-    (λ c. let u : c .before .before .before .before .is-end .result ≡ is-UE (drop (c .before .before .before .before .before .before .before .loop .at) (c .before .before .before .before .before .before .before .before .before .args .job .now)) = simp tail-is at (c .before .before .before .before .is-end .ensures) in let z : c .before .record-size .result ≡ whole-size (drop (c .before .before .before .before .before .before .before .loop .at) (c .before .before .before .before .before .before .before .before .before .args .job .now)) = simp tail-is at (c .before .record-size .ensures) in (walk-stuck (c .before .before .before .before .before .before .before .before .before .args .job .now) (c .before .before .before .before .before .before .before .loop .at) (c .before .before .before .before .before .before .before .loop .inv .1) (sym u ∙ (c .before .before .before .if1 .left)) (sym z ∙ (c .if2 .taken)), omega arith))
-    (λ c. let z : c .before .record-size .result ≡ whole-size (drop (c .before .before .before .before .before .before .before .loop .at) (c .before .before .before .before .before .before .before .before .before .args .job .now)) = simp tail-is at (c .before .record-size .ensures) in omega (arith, size-within (c .before .before .before .before .before .before .before .before .before .args .job .now) (c .before .before .before .before .before .before .before .loop .at) (c .before .record-size .result) (c .before .before .before .before .before .before .before .loop .inv .0) z))
-    (λ c. let z : c .before .record-size .result ≡ whole-size (drop (c .before .before .before .before .before .before .before .loop .at) (c .before .before .before .before .before .before .before .before .before .args .job .now)) = simp tail-is at (c .before .record-size .ensures) in omega (arith, size-within (c .before .before .before .before .before .before .before .before .before .args .job .now) (c .before .before .before .before .before .before .before .loop .at) (c .before .record-size .result) (c .before .before .before .before .before .before .before .loop .inv .0) z, (c .if2 .left)))
-    (λ c. let u : c .before .before .before .before .is-end .result ≡ is-UE (drop (c .before .before .before .before .before .before .before .loop .at) (c .before .before .before .before .before .before .before .before .before .args .job .now)) = simp tail-is at (c .before .before .before .before .is-end .ensures) in let z : c .before .record-size .result ≡ whole-size (drop (c .before .before .before .before .before .before .before .loop .at) (c .before .before .before .before .before .before .before .before .before .args .job .now)) = simp tail-is at (c .before .record-size .ensures) in (size-within (c .before .before .before .before .before .before .before .before .before .args .job .now) (c .before .before .before .before .before .before .before .loop .at) (c .before .record-size .result) (c .before .before .before .before .before .before .before .loop .inv .0) z, walk-on (c .before .before .before .before .before .before .before .before .before .args .job .now) (c .before .before .before .before .before .before .before .loop .at) (c .before .record-size .result) (c .before .before .before .before .before .before .before .loop .inv .1) (c .before .before .before .before .before .before .loop-test .taken) (sym u ∙ (c .before .before .before .if1 .left)) z (omega (arith, (c .if2 .left)))))
-    (λ c. (walk-over (c .before .before .before .args .job .now) (c .before .loop .at) (c .before .loop .inv .1) (c .loop-test .left), omega arith)))
+    loop-holds
+    -- by search: sub-is-end 44:19, part-is-end-start 44:19, part-is-end-end 44:19, is-end-requires 44:12
+    (λ c. search needs) (λ c. search needs) (λ c. search needs) (λ c κs. search needs)
+    add-result
+    returns
+    -- by search: sub-record-size 47:29, part-record-size-start 47:29, part-record-size-end 47:29,
+    -- record-size-requires 47:13
+    (λ c. search needs) (λ c. search needs) (λ c. search needs) (λ c κs. search needs)
+    returns-2
+    add-at
+    loop-less
+    loop-again
+    returns-3)
