@@ -4,7 +4,7 @@ use Rattle.xliff.proofs.lists.Slices.{tail-is}
 use Rattle.walk.proofs.WalkLaws.{rest-start}
 use Rattle.walk.specs.Kept.{Holds}
 use Rattle.xliff.proofs.lists.Tests.{not-true, not-false}
-use Rattle.xliff.specs.SetTarget.{fixed-list}
+use Rattle.xliff.specs.SetTarget.{fixed-list, fixed-differ}
 use Rattle.xliff.specs.Encode.{content-records}
 use Rattle.xliff.specs.Item.{Content}
 use Rattle.xliff.specs.Bytes.{equal}
@@ -24,6 +24,7 @@ abbrev μ-loop : tie.MeasureT-loop
 μ-loop old new i₀ j₀ i j = length old - i
 
 pub differs-spec : {M : Type 1} → statement M
+unfolding fixed-differ
 differs-spec =
     tie.close
     (tie.spec
