@@ -8,13 +8,14 @@ use lib.ListN.{length, length-append}
 use Rattle.xliff.specs.Bytes.{two, four}
 use Rattle.xliff.specs.Item.{Item, start, end, form-P, form-S, text, character, standalone, isolated, pair, annotation-start, annotation-end, mark}
 use Rattle.xliff.specs.Encode.{Record, text-run, inline, code-bytes, field-bytes, record-bytes}
+use Rattle.xliff.specs.Parse.{is, mark-of, mark-at}
 use Rattle.walk.specs.Kept.{Inline, an-item, a-text}
 use Rattle.walk.specs.Place.{Begins}
 use Rattle.codes.specs.Codes.{codeAt, code}
 
 module _ (s : List ℕ) where
   pub item-code : (x : Item) → GoodItem x → codeAt (record-bytes (inline x) ++ s) ≡ code x
-  unfolding codeAt record-bytes mark field-bytes code-bytes two four
+  unfolding codeAt mark-at mark-of is record-bytes mark field-bytes code-bytes two four
   item-code (text c) g = absurd g
   item-code (character c) g = refl
   item-code (standalone f) g = refl
@@ -30,7 +31,7 @@ module _ (s : List ℕ) where
   item-code (annotation-end form-S i) g = refl
 
   pub text-code : (cs : List ℕ) → codeAt (record-bytes (text-run cs) ++ s) ≡ 0
-  unfolding codeAt record-bytes two
+  unfolding codeAt mark-at mark-of is record-bytes two
   text-code cs = refl
 
 code-width : (x : Item) → 1 ≤ code x → length (record-bytes (inline x)) ≡ 12

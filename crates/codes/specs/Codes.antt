@@ -1,19 +1,33 @@
--- The inline codes by number, marks taken as when flattened: by the bytes of a good record, and of an item.
+-- The inline codes by number, marks taken as when flattened: by the mark of a good record, and of an item. Stepping stones: `item-code` (proofs/CodeLaws) ties the two.
 use Prim.Native.Nat.{ℕ}
-use mathlib.Core.Bool.{_||_, cond}
 use mathlib.Core.List.{List}
-use Rattle.xliff.specs.Bytes.{'C', 'E', 'H', 'I', 'O', 'P', 'S'}
 use Rattle.xliff.specs.Item.{Item, Content, start, end, text, character, standalone, isolated, pair, annotation-start, annotation-end}
 use Rattle.walk.specs.Kept.{Holds}
-use Rattle.walk.specs.Marks.{marked}
+use Rattle.xliff.specs.Parse.{Mark, UN, UE, SG, IG, TG, TX, CP, PH, PO, PC, SC, EC, IS, IE, MO, SM, MC, EM, unknown, mark-at}
+
+abbrev pub codeOf : Mark → ℕ
+codeOf UN = 0
+codeOf UE = 0
+codeOf SG = 0
+codeOf IG = 0
+codeOf TG = 0
+codeOf TX = 0
+codeOf CP = 0
+codeOf PH = 3
+codeOf PO = 1
+codeOf PC = 2
+codeOf SC = 1
+codeOf EC = 2
+codeOf IS = 4
+codeOf IE = 5
+codeOf MO = 0
+codeOf SM = 0
+codeOf MC = 0
+codeOf EM = 0
+codeOf unknown = 0
 
 unfoldable pub codeAt : List ℕ → ℕ
-codeAt t =
-    cond (marked t 'P' 'O' || marked t 'S' 'C') 1
-    (cond (marked t 'P' 'C' || marked t 'E' 'C') 2
-    (cond (marked t 'P' 'H') 3
-    (cond (marked t 'I' 'S') 4
-    (cond (marked t 'I' 'E') 5 0))))
+codeAt t = codeOf (mark-at t)
 
 abbrev pub code : Item → ℕ
 code (text c) = 0

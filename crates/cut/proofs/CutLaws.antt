@@ -9,7 +9,7 @@ use lib.ListN.{length, getD, take, drop}
 use Rattle.xliff.specs.Bytes.{two, four, any}
 use Rattle.xliff.specs.Item.{Item, Content, start, end, form-P, form-S, text, character, standalone, isolated, pair, annotation-start, annotation-end, mark, id-of, class, half, alike, other-half, in-form}
 use Rattle.xliff.specs.Encode.{Record, text-run, inline, code-bytes, field-bytes, record-bytes, spell, content-records, content-bytes, item-before}
-use Rattle.xliff.specs.Parse.{reading, take-record}
+use Rattle.xliff.specs.Parse.{is, mark-of, mark-at, reading, take-record}
 use Rattle.xliff.specs.Split.{cut-item}
 use Rattle.xliff.proofs.lists.Tests.{two-value, and-false}
 use Rattle.xliff.proofs.unit.Table.{starts-text, content-records-text}
@@ -82,7 +82,7 @@ no-other i (y ∷ ys) = no-other i ys
 
 -- the test on a record's bytes
 turn-is : (x : Item) (s : List ℕ) (ys : Content) → GoodItem x → has-other (kindAt (record-bytes (inline x) ++ s)) (number (record-bytes (inline x) ++ s)) ys ≡ any (other-half x) ys
-unfolding kindAt record-bytes mark field-bytes code-bytes two four id-of
+unfolding kindAt mark-at mark-of is record-bytes mark field-bytes code-bytes two four id-of
 turn-is (text c) s ys g = absurd g
 turn-is (character c) s ys g = no-other _ ys ∙ sym (any-other (character c) ys ∙ no-other _ ys)
 turn-is (standalone f) s ys g = no-other _ ys ∙ sym (any-other (standalone f) ys ∙ no-other _ ys)
@@ -146,7 +146,7 @@ cut-if x true g = turned-is x g
 cut-if x false g = refl
 
 text-stays : (cs : List ℕ) (ys : Content) → turnIf (has-other (kindAt (record-bytes (text-run cs))) (number (record-bytes (text-run cs))) ys) (record-bytes (text-run cs)) ≡ record-bytes (text-run cs)
-unfolding kindAt record-bytes two turnIf
+unfolding kindAt mark-at mark-of is record-bytes two turnIf
 text-stays cs ys = rw (no-other _ ys)
 
 -- one record

@@ -11,7 +11,7 @@ use borrow.Author.Tests.{eqb-false}
 use Rattle.xliff.specs.Bytes.{two, four, among, keep, gather}
 use Rattle.xliff.specs.Item.{Item, Content, start, end, form-P, form-S, text, character, standalone, isolated, pair, annotation-start, annotation-end, mark, class, half, id-of, fields, is-fixed}
 use Rattle.xliff.specs.Encode.{Record, text-run, inline, code-bytes, field-bytes, record-bytes, spell}
-use Rattle.xliff.specs.Parse.{reading, take-record}
+use Rattle.xliff.specs.Parse.{is, mark-of, mark-at, reading, take-record}
 use Rattle.xliff.specs.SetTarget.{id-and-half, fixed-list}
 use Rattle.xliff.proofs.lists.Tests.{two-value, and-left}
 use Rattle.walk.specs.Kept.{items, Inline, an-item, a-text, Rest}
@@ -23,7 +23,7 @@ use Rattle.fixed_codes.specs.Fixed.{fixedAt, Found}
 
 module _ (s : List ℕ) where
   item-fixed : (x : Item) → GoodItem x → fixedAt (record-bytes (inline x) ++ s) ≡ is-fixed x
-  unfolding fixedAt codeAt record-bytes mark field-bytes code-bytes two four is-fixed class fields among
+  unfolding fixedAt codeAt mark-at mark-of is record-bytes mark field-bytes code-bytes two four is-fixed class fields among
   item-fixed (text c) g = absurd g
   item-fixed (character c) g = refl
   item-fixed (standalone f) g = refl
@@ -39,7 +39,7 @@ module _ (s : List ℕ) where
   item-fixed (annotation-end form-S i) g = refl
 
   text-fixed : (cs : List ℕ) → fixedAt (record-bytes (text-run cs) ++ s) ≡ false
-  unfolding fixedAt codeAt record-bytes two
+  unfolding fixedAt codeAt mark-at mark-of is record-bytes two
   text-fixed cs = refl
 
   item-number : (x : Item) → is-fixed x ≡ true → number (record-bytes (inline x) ++ s) ≡ id-of x

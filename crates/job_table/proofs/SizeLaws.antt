@@ -9,12 +9,15 @@ use lib.ListN.{length, drop, length-drop, drop-of-length-le}
 use lib.Seq.{drop-drop}
 use borrow.Author.Tests.{ne-eqb}
 use Rattle.xliff.specs.Bytes.{two-at, enough}
-use Rattle.xliff.specs.Parse.{Mark, UN, UE, SG, IG, TG, TX, CP, PH, PO, PC, SC, EC, IS, IE, MO, SM, MC, EM, unknown, is, mark-of, mark-at}
+use Rattle.xliff.specs.Parse as parse
+use Rattle.xliff.specs.Parse.{is, mark-at}
 use Rattle.xliff.specs.Desk.{size-of, whole-size, is-UE, to-UE, table-length}
 use Rattle.xliff.proofs.lists.Tests.{enough-length}
-use Rattle.table.specs.Number.{marked, numberAt}
+use Rattle.marks.specs.Marks.{marked, meaning, fixedWidth}
+use Rattle.marks.specs.declared.Mark.{Mark}
+use Rattle.marks.proofs.MarkLaws.{fixed-or-text}
 use Rattle.requests.proofs.RequestLaws.{enough-yes, enough-not}
-use Rattle.job_table.specs.Sizes.{wholeOf, annotationSize, pairSize, inlineSize, markedSize}
+use Rattle.job_table.specs.Sizes.{wholeOf}
 
 pub whole-not : (n : ℕ) (s : List ℕ) → length s < n → 0 ≡ wholeOf n s
 unfolding wholeOf
@@ -24,59 +27,18 @@ pub whole-yes : (n : ℕ) (s : List ℕ) → n ≤ length s → n ≡ wholeOf n 
 unfolding wholeOf
 whole-yes n s h = rw (enough-yes n s h) refl
 
-pub number-is : (s : List ℕ) → numberAt s 2 ≡ two-at s 2
-unfolding two-at
-number-is s = refl
+-- the size by the mark, where the bytes of a text's length may be missing
+pub short-size : (m : Mark) (s : List ℕ) → length s < 4 → meaning m ≡ mark-at s → wholeOf (fixedWidth m) s ≡ whole-size s
+unfolding whole-size wholeOf size-of
+short-size m s h e =
+    fixed-or-text m s (ap (λ (n : ℕ). wholeOf n s))
+    (λ x. ap (λ (n : Mark). wholeOf (fixedWidth n) s) x ∙ sym (whole-not 4 s (omega arith)) ∙ whole-not (4 + two-at s 2) s (omega arith)
+    ∙ sym (ap (λ (n : Mark). wholeOf (size-of (meaning n) s) s) x))
+    ∙ ap (λ (k : parse.Mark). wholeOf (size-of k s) s) e
 
--- one mark of the chain after the other
-module _ (s : List ℕ) where
-  sized : Mark → ℕ
-  sized m = wholeOf (size-of m s) s
-
-  link : (b : Bool) (m n : Mark) (x : ℕ) → x ≡ sized n → cond b (sized m) x ≡ sized (cond b m n)
-  link true m n x e = refl
-  link false m n x e = e
-
-unfoldable annotation-mark : ℕ → ℕ → Mark
-annotation-mark a b = cond (is 77 79 a b) MO (cond (is 83 77 a b) SM (cond (is 77 67 a b) MC (cond (is 69 77 a b) EM unknown)))
-
-annotation-is : (a b : ℕ) (s : List ℕ) → annotationSize (a ∷ b ∷ s) ≡ sized (a ∷ b ∷ s) (annotation-mark a b)
-unfolding annotationSize annotation-mark is sized size-of wholeOf enough
-annotation-is a b s = link (a ∷ b ∷ s) (is 77 79 a b) MO _ _ (link (a ∷ b ∷ s) (is 83 77 a b) SM _ _ (link (a ∷ b ∷ s) (is 77 67 a b) MC _ _ (link (a ∷ b ∷ s) (is 69 77 a b) EM unknown 0 refl)))
-
-unfoldable pair-mark : ℕ → ℕ → Mark
-pair-mark a b = cond (is 83 67 a b) SC (cond (is 69 67 a b) EC (cond (is 73 83 a b) IS (cond (is 73 69 a b) IE (annotation-mark a b))))
-
-pair-is : (a b : ℕ) (s : List ℕ) → pairSize (a ∷ b ∷ s) ≡ sized (a ∷ b ∷ s) (pair-mark a b)
-unfolding pairSize pair-mark is sized size-of wholeOf enough
-pair-is a b s = link (a ∷ b ∷ s) (is 83 67 a b) SC _ _ (link (a ∷ b ∷ s) (is 69 67 a b) EC _ _ (link (a ∷ b ∷ s) (is 73 83 a b) IS _ _ (link (a ∷ b ∷ s) (is 73 69 a b) IE _ _ (annotation-is a b s))))
-
-unfoldable inline-mark : ℕ → ℕ → Mark
-inline-mark a b = cond (is 84 88 a b) TX (cond (is 67 80 a b) CP (cond (is 80 72 a b) PH (cond (is 80 79 a b) PO (cond (is 80 67 a b) PC (pair-mark a b)))))
-
-inline-is : (a b : ℕ) (s : List ℕ) → inlineSize (a ∷ b ∷ s) ≡ sized (a ∷ b ∷ s) (inline-mark a b)
-unfolding inlineSize inline-mark is sized size-of wholeOf enough
-inline-is a b s = link (a ∷ b ∷ s) (is 84 88 a b) TX _ _ (link (a ∷ b ∷ s) (is 67 80 a b) CP _ _ (link (a ∷ b ∷ s) (is 80 72 a b) PH _ _ (link (a ∷ b ∷ s) (is 80 79 a b) PO _ _ (link (a ∷ b ∷ s) (is 80 67 a b) PC _ _ (pair-is a b s)))))
-
-unfoldable marked-mark : ℕ → ℕ → Mark
-marked-mark a b = cond (is 85 78 a b) UN (cond (is 85 69 a b) UE (cond (is 83 71 a b) SG (cond (is 73 71 a b) IG (cond (is 84 71 a b) TG (inline-mark a b)))))
-
-marked-is : (a b : ℕ) (s : List ℕ) → markedSize (a ∷ b ∷ s) ≡ sized (a ∷ b ∷ s) (marked-mark a b)
-unfolding markedSize marked-mark is sized size-of wholeOf enough
-marked-is a b s = link (a ∷ b ∷ s) (is 85 78 a b) UN _ _ (link (a ∷ b ∷ s) (is 85 69 a b) UE _ _ (link (a ∷ b ∷ s) (is 83 71 a b) SG _ _ (link (a ∷ b ∷ s) (is 73 71 a b) IG _ _ (link (a ∷ b ∷ s) (is 84 71 a b) TG _ _ (inline-is a b s)))))
-
--- the size by the marks is the specification's
-pub size-is : (s : List ℕ) → 2 ≤ length s → markedSize s ≡ whole-size s
-unfolding whole-size mark-at mark-of marked-mark inline-mark pair-mark annotation-mark sized wholeOf
-size-is [] h = absurd (omega arith)
-size-is (a ∷ []) h = absurd (omega arith)
-size-is (a ∷ b ∷ s) h = marked-is a b s
-
-pub size-short : (s : List ℕ) → length s < 2 → 0 ≡ whole-size s
+no-record : whole-size [] ≡ 0
 unfolding whole-size mark-at size-of enough
-size-short [] h = refl
-size-short (a ∷ []) h = refl
-size-short (a ∷ b ∷ s) h = absurd (omega arith)
+no-record = refl
 
 pub end-is : (s : List ℕ) → 2 ≤ length s → marked s (85 ∷ 69 ∷ []) ≡ is-UE s
 unfolding is-UE is
@@ -165,4 +127,4 @@ module _ (job : List ℕ) (at : ℕ) (w : Walk job at) where
   pub walk-over : length job ≤ at → length job ≡ table-length job
   walk-over h =
       let e = drop-of-length-le job h in
-      walk-stuck (ap is-UE e ∙ sym (end-short [] (omega arith))) (ap whole-size e ∙ sym (size-short [] (omega arith)))
+      walk-stuck (ap is-UE e ∙ sym (end-short [] (omega arith))) (ap whole-size e ∙ no-record)

@@ -1,10 +1,9 @@
 // Where the table of a job ends.
 ghost use mathlib.Core.Path.{_≡_};
-ghost use Prim.Native.Nat.{_+_, _≤_};
+ghost use Prim.Native.Nat.{_≤_};
 ghost use lib.ListN.{length};
-ghost use Rattle.xliff.specs.Bytes.{two-at};
 ghost use Rattle.xliff.specs.Desk.{whole-size, is-UE, table-length};
-ghost use Rattle.job_table.specs.Sizes.{wholeOf, annotationSize, pairSize, inlineSize, markedSize};
+ghost use Rattle.job_table.specs.Sizes.{wholeOf};
 
 // `n`, if there are so many bytes, else 0.
 fn whole(t: &[u8], n: usize) -> usize
@@ -16,106 +15,15 @@ fn whole(t: &[u8], n: usize) -> usize
     n
 }
 
-fn text_size(t: &[u8]) -> usize
-    ensures { λ r. ⌜ r ≡ wholeOf (4 + two-at (now (t .entry)) 2) (now (t .entry)) ⌝ }
-{
-    if t.len() < 4 {
-        return 0;
-    }
-    let n = table::number_at(t, 2) as usize;
-    whole(t, 4 + n)
-}
-
-fn annotation_size(t: &[u8]) -> usize
-    requires { ⌜ 2 ≤ length (now t) ⌝ }
-    ensures { λ r. ⌜ r ≡ annotationSize (now (t .entry)) ⌝ }
-{
-    if table::marked_by(t, b"MO") {
-        return whole(t, 5);
-    }
-    if table::marked_by(t, b"SM") {
-        return whole(t, 5);
-    }
-    if table::marked_by(t, b"MC") {
-        return whole(t, 4);
-    }
-    if table::marked_by(t, b"EM") {
-        return whole(t, 4);
-    }
-    0
-}
-
-fn pair_size(t: &[u8]) -> usize
-    requires { ⌜ 2 ≤ length (now t) ⌝ }
-    ensures { λ r. ⌜ r ≡ pairSize (now (t .entry)) ⌝ }
-{
-    if table::marked_by(t, b"SC") {
-        return whole(t, 12);
-    }
-    if table::marked_by(t, b"EC") {
-        return whole(t, 12);
-    }
-    if table::marked_by(t, b"IS") {
-        return whole(t, 12);
-    }
-    if table::marked_by(t, b"IE") {
-        return whole(t, 12);
-    }
-    annotation_size(t)
-}
-
-fn inline_size(t: &[u8]) -> usize
-    requires { ⌜ 2 ≤ length (now t) ⌝ }
-    ensures { λ r. ⌜ r ≡ inlineSize (now (t .entry)) ⌝ }
-{
-    if table::marked_by(t, b"TX") {
-        return text_size(t);
-    }
-    if table::marked_by(t, b"CP") {
-        return whole(t, 6);
-    }
-    if table::marked_by(t, b"PH") {
-        return whole(t, 12);
-    }
-    if table::marked_by(t, b"PO") {
-        return whole(t, 12);
-    }
-    if table::marked_by(t, b"PC") {
-        return whole(t, 12);
-    }
-    pair_size(t)
-}
-
-fn marked_size(t: &[u8]) -> usize
-    requires { ⌜ 2 ≤ length (now t) ⌝ }
-    ensures { λ r. ⌜ r ≡ markedSize (now (t .entry)) ⌝ }
-{
-    if table::marked_by(t, b"UN") {
-        return whole(t, 3);
-    }
-    if table::marked_by(t, b"UE") {
-        return whole(t, 2);
-    }
-    if table::marked_by(t, b"SG") {
-        return whole(t, 6);
-    }
-    if table::marked_by(t, b"IG") {
-        return whole(t, 4);
-    }
-    if table::marked_by(t, b"TG") {
-        return whole(t, 4);
-    }
-    inline_size(t)
-}
-
 // The size of the whole record at the head of `t`, by its mark alone; 0 where there is none.
+// A text's length is read where four bytes are there; of fewer it is cut, whatever its length.
 fn record_size(t: &[u8]) -> usize
     ensures { λ r. ⌜ r ≡ whole-size (now (t .entry)) ⌝ }
 {
-    if t.len() < 2 {
-        return 0;
+    if t.len() < 4 {
+        return whole(t, marks::fixed_width(marks::mark_of(t)));
     }
-    marked_size(t)
+    whole(t, marks::width_of(t))
 }
 
 fn is_end(t: &[u8]) -> bool
@@ -124,7 +32,7 @@ fn is_end(t: &[u8]) -> bool
     if t.len() < 2 {
         return false;
     }
-    table::marked_by(t, b"UE")
+    marks::marked_by(t, b"UE")
 }
 
 // The length of the job's table: up to the first UE reached record by record, else all of it.

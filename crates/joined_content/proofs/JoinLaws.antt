@@ -17,7 +17,8 @@ use Rattle.xliff.specs.Parse.{reading, take-record}
 use Rattle.xliff.proofs.lists.Tests.{two-value, map-append, and-left, and-right}
 use Rattle.xliff.specs.Good.{Allowed, one-point}
 use Rattle.walk.specs.Kept.{Kept, kept-end, kept-item, kept-text, Of, Holds, items, Inline, an-item, a-text, Rest}
-use Rattle.walk.specs.Marks.{widthAt, marked, number}
+use Rattle.marks.specs.Marks.{marked}
+use Rattle.walk.specs.Marks.{widthAt, number}
 use Rattle.walk.proofs.WalkLaws.{Next, next, rest-start, rest-end, inline-least}
 use Rattle.walk.proofs.TextLaws.{utf8s-append}
 use Rattle.xliff.proofs.unit.Pieces.{spell-append}
@@ -74,17 +75,17 @@ kept-last b (inline x ∷ a) r (kept-item g k) = kept-last false a r k
 kept-last b (text-run cs ∷ a) r (kept-text p l k) = kept-last true a r k
 
 -- what does not begin with a text may stand behind one
-text-marked : (cs s : List ℕ) → marked (record-bytes (text-run cs) ++ s) 84 88 ≡ true
+text-marked : (cs s : List ℕ) → marked (record-bytes (text-run cs) ++ s) (84 ∷ 88 ∷ []) ≡ true
 unfolding record-bytes
 text-marked cs s = refl
 
-strong : (qs : List Record) → Kept false qs → marked (spell qs) 84 88 ≡ false → Kept true qs
+strong : (qs : List Record) → Kept false qs → marked (spell qs) (84 ∷ 88 ∷ []) ≡ false → Kept true qs
 unfolding spell gather
 strong [] k e = kept-end
 strong (inline x ∷ qs) (kept-item g k) e = kept-item g k
 strong (text-run cs ∷ qs) (kept-text a l k) e = absurd (true≢false (sym (text-marked cs (spell qs)) ∙ e))
 
-pub kept-meet : (b : Bool) (a : List Record) (r : Record) (qs : List Record) → Kept b (a ++ (r ∷ [])) → Kept false qs → marked (record-bytes r ++ []) 84 88 && marked (spell qs) 84 88 ≡ false
+pub kept-meet : (b : Bool) (a : List Record) (r : Record) (qs : List Record) → Kept b (a ++ (r ∷ [])) → Kept false qs → marked (record-bytes r ++ []) (84 ∷ 88 ∷ []) && marked (spell qs) (84 ∷ 88 ∷ []) ≡ false
     → Kept b ((a ++ (r ∷ [])) ++ qs)
 unfolding record-bytes
 kept-meet b [] r qs (kept-item g k) q e = kept-item g q
@@ -122,17 +123,17 @@ last-least a rs p o m =
 pub first-least : (b : List ℕ) (qs : List Record) → Of b qs → 0 < length b → 4 ≤ length b
 first-least b qs o h = next b 0 qs h (rest-start b qs o) .enough
 
-pub seam-apart : (a b : List ℕ) (rs qs : List Record) (p : ℕ) → Of a rs → Of b qs → Last rs p → marked (drop p a) 84 88 && marked b 84 88 ≡ false → Seam (length a) rs qs (length a)
+pub seam-apart : (a b : List ℕ) (rs qs : List Record) (p : ℕ) → Of a rs → Of b qs → Last rs p → marked (drop p a) (84 ∷ 88 ∷ []) && marked b (84 ∷ 88 ∷ []) ≡ false → Seam (length a) rs qs (length a)
 seam-apart a b rs qs p o q m e =
     apart (subst (λ (l : List Record). Kept false (l ++ qs)) (sym (m .all))
     (kept-meet false (m .before) (m .last) qs (subst (Kept false) (m .all) (o .0)) (q .0)
-    (ap₂ (λ (u v : List ℕ). marked u 84 88 && marked v 84 88) (sym (last-bytes a rs p o m)) (q .1) ∙ e)))
+    (ap₂ (λ (u v : List ℕ). marked u (84 ∷ 88 ∷ []) && marked v (84 ∷ 88 ∷ [])) (sym (last-bytes a rs p o m)) (q .1) ∙ e)))
 
-pub seam-touching : (a b : List ℕ) (rs qs : List Record) (p : ℕ) → Of a rs → Of b qs → 0 < length b → Last rs p → marked (drop p a) 84 88 && marked b 84 88 ≡ true → Seam (length a) rs qs p
+pub seam-touching : (a b : List ℕ) (rs qs : List Record) (p : ℕ) → Of a rs → Of b qs → 0 < length b → Last rs p → marked (drop p a) (84 ∷ 88 ∷ []) && marked b (84 ∷ 88 ∷ []) ≡ true → Seam (length a) rs qs p
 seam-touching a b rs qs p o q h m e =
     let n = next b 0 qs h (rest-start b qs q) in
-    let u = is-text (m .last) (drop p a) [] (last-inline a rs p o m) (last-bytes a rs p o m) (and-left (marked (drop p a) 84 88) _ e) in
-    let v = is-text (n .first) b (spell (n .others)) (n .good) (n .bytes) (and-right (marked (drop p a) 84 88) _ e) in
+    let u = is-text (m .last) (drop p a) [] (last-inline a rs p o m) (last-bytes a rs p o m) (and-left (marked (drop p a) (84 ∷ 88 ∷ [])) _ e) in
+    let v = is-text (n .first) b (spell (n .others)) (n .good) (n .bytes) (and-right (marked (drop p a) (84 ∷ 88 ∷ [])) _ e) in
     subst (λ (j : ℕ). Seam (length a) rs qs j) (sym (m .offset))
     (touching (m .before) (u .points) (v .points) (n .others)
     (m .all ∙ ap (λ (r : Record). m .before ++ (r ∷ [])) (u .is)) (n .all ∙ ap {B = List Record} (λ r. r ∷ n .others) (v .is)))

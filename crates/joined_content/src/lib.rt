@@ -1,9 +1,10 @@
 // Two contents joined.
 ghost use mathlib.Core.Path.{_≡_};
+ghost use mathlib.Core.List.{[], _∷_};
 ghost use Prim.Native.Nat.{_+_, _<_, _≤_};
 ghost use lib.ListN.{length};
 ghost use Rattle.walk.specs.Kept.{Fair};
-ghost use Rattle.walk.specs.Marks.{marked};
+ghost use Rattle.marks.specs.Marks.{marked};
 ghost use Rattle.joined_content.specs.Seam.{LastOf, SeamOf, RoomJoined, WroteJoined};
 
 // Where the last record of a content begins.
@@ -22,9 +23,9 @@ fn last_of(c: &[u8]) -> usize
 
 fn is_text(t: &[u8]) -> bool
     requires { ⌜ 4 ≤ length (now t) ⌝ }
-    ensures { λ r. ⌜ r ≡ marked (now (t .entry)) 84 88 ⌝ }
+    ensures { λ r. ⌜ r ≡ marked (now (t .entry)) (84 ∷ 88 ∷ []) ⌝ }
 {
-    (t[0] == b'T') & (t[1] == b'X')
+    marks::marked_by(t, b"TX")
 }
 
 // Where the text begins that ends the first content, if a text begins the second; else the end of the first.

@@ -9,6 +9,7 @@ use lib.Dec.{eqb}
 use borrow.Author.Tests.{eqb-true, eq-eqb}
 use Rattle.xliff.specs.Bytes.{two, four, equal, among}
 use Rattle.xliff.specs.Item.{Item, Fields, start, end, form-P, form-S, text, character, standalone, isolated, pair, annotation-start, annotation-end, mark, numbers, code-numbers, same, in-form, flat, class, fields, non-removable}
+use Rattle.xliff.specs.Parse.{is, mark-of, mark-at}
 use Rattle.xliff.specs.Encode.{inline, code-bytes, field-bytes, record-bytes, text-run}
 use Rattle.xliff.specs.SetTarget.{same-flat}
 use Rattle.xliff.proofs.lists.Tests.{two-value}
@@ -108,7 +109,7 @@ module _ (s : List ℕ) where
   item-fields (annotation-end w i) h = absurd (let z : ⊥ = omega arith in z)
 
   pub item-non-removable : (x : Item) → GoodItem x → nonRemovableAt (record-bytes (inline x) ++ s) ≡ non-removable x
-  unfolding nonRemovableAt codeAt record-bytes mark field-bytes code-bytes two four non-removable class fields among
+  unfolding nonRemovableAt codeAt mark-at mark-of is record-bytes mark field-bytes code-bytes two four non-removable class fields among
   item-non-removable (text c) g = absurd g
   item-non-removable (character c) g = refl
   item-non-removable (standalone f) g = refl
@@ -124,11 +125,11 @@ module _ (s : List ℕ) where
   item-non-removable (annotation-end form-S i) g = refl
 
   pub text-non-removable : (cs : List ℕ) → nonRemovableAt (record-bytes (text-run cs) ++ s) ≡ false
-  unfolding nonRemovableAt codeAt record-bytes two
+  unfolding nonRemovableAt codeAt mark-at mark-of is record-bytes two
   text-non-removable cs = refl
 
   pub item-same : (t : List ℕ) (y : Item) → GoodItem y → sameAt t (record-bytes (inline y) ++ s) ≡ is-code-at t y
-  unfolding sameAt is-code-at fieldsAt gets codeAt record-bytes mark field-bytes code-bytes two four fields
+  unfolding sameAt is-code-at fieldsAt gets codeAt mark-at mark-of is record-bytes mark field-bytes code-bytes two four fields
   item-same t (text c) g = absurd g
   item-same t (character c) g = refl
   item-same t (standalone f) g = refl
@@ -144,7 +145,7 @@ module _ (s : List ℕ) where
   item-same t (annotation-end form-S i) g = refl
 
   pub text-same : (t cs : List ℕ) → sameAt t (record-bytes (text-run cs) ++ s) ≡ false
-  unfolding sameAt codeAt record-bytes two
+  unfolding sameAt codeAt mark-at mark-of is record-bytes two
   text-same t cs = refl
 
   -- a code is told from the items of a content by its bytes as by the flattened item

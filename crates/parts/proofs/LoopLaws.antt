@@ -11,7 +11,8 @@ use Rattle.xliff.proofs.lists.Tests.{map-append}
 use Rattle.xliff.proofs.unit.Pieces.{spell-append}
 use Rattle.writer.specs.Pieces.{lead}
 use Rattle.writer.proofs.PieceLaws.{two-back, lead-length}
-use Rattle.parts.specs.Parts.{PartsIn, ordered, widthIn, order-record}
+use Rattle.walk.specs.Marks.{widthAt}
+use Rattle.parts.specs.Parts.{PartsIn, ordered, order-record}
 use Rattle.parts.proofs.RecordLaws.{Rest, Next, rest-end}
 use Rattle.parts.proofs.OrderLaws.{parts-in, parts-moved, order-length}
 
@@ -30,7 +31,7 @@ written-start t f ps o (e, h) =
     record { before = []; after = gather part-records ps; all = refl; rest = record { each = parts-in ps h; bytes = e }; done = refl; out = refl }
 
 module _ (t : List ℕ) (f : ℕ → ℕ) (ps : List Part) (o : List ℕ) (at : ℕ) (l : List ℕ) (m : Written t f ps o at l) where
-  pub written-on : (n : Next t at (m .after)) (w : ℕ) (y : List ℕ) → w ≡ widthIn (drop at t)
+  pub written-on : (n : Next t at (m .after)) (w : ℕ) (y : List ℕ) → w ≡ widthAt (drop at t)
       → y ≡ lead (record-bytes (order-record f (n .first))) (take (length l - at) (drop at l))
       → Written t f ps o (at + w) (take at l ++ (y ++ drop (length l - at) (drop at l)))
   unfolding spell gather

@@ -9,45 +9,24 @@ use lib.Seq.{drop-append-seam, take-append-seam, drop-drop}
 use lib.Dec.{eqb}
 use Rattle.xliff.specs.Bytes.{two, gather}
 use Rattle.xliff.specs.Item.{Item, start, end, form-P, form-S, text, character, standalone, isolated, pair, annotation-start, annotation-end, mark}
+use Rattle.xliff.specs.Parse.{is, mark-of, mark-at}
+use Rattle.xliff.specs.Desk.{size-of}
 use Rattle.xliff.specs.Unit.{Head, segment, ignorable}
 use Rattle.xliff.specs.Encode.{Record, part-head, target-head, text-run, inline, head-bytes, record-bytes, spell}
 use Rattle.xliff.proofs.lists.Tests.{two-value, and-false}
 use Rattle.xliff.specs.Good.{Each, each-cons, GoodItem}
-use Rattle.walk.specs.Marks.{marked, number, widthAt}
+use Rattle.marks.specs.Marks.{marked}
+use Rattle.walk.specs.Marks.{number, widthAt}
 use Rattle.walk.proofs.WalkLaws.{item-width, item-least, text-width}
 use Rattle.writer.specs.Pieces.{lead, overlay, numberBytes}
-use Rattle.parts.specs.Parts.{InPart, head-in, target-in, item-in, text-in, widthIn, order-record, One}
+use Rattle.parts.specs.Parts.{InPart, head-in, target-in, item-in, text-in, order-record, One}
 
--- only SG, IG and TG end in G
-item-letter : (x : Item) (s : List ℕ) → GoodItem x → eqb (getD (record-bytes (inline x) ++ s) 1 0) 71 ≡ false
-unfolding record-bytes mark
-item-letter (text c) s g = absurd g
-item-letter (character c) s g = refl
-item-letter (standalone f) s g = refl
-item-letter (isolated start f) s g = refl
-item-letter (isolated end f) s g = refl
-item-letter (pair start form-P f) s g = refl
-item-letter (pair start form-S f) s g = refl
-item-letter (pair end form-P f) s g = refl
-item-letter (pair end form-S f) s g = refl
-item-letter (annotation-start form-P i t) s g = refl
-item-letter (annotation-start form-S i t) s g = refl
-item-letter (annotation-end form-P i) s g = refl
-item-letter (annotation-end form-S i) s g = refl
-
-unmarked : (t : List ℕ) (a : ℕ) → eqb (getD t 1 0) 71 ≡ false → marked t a 71 ≡ false
-unmarked t a e = ap (λ (b : Bool). eqb (getD t 0 0) a && b) e ∙ and-false (eqb (getD t 0 0) a)
-
-unmarked-width : (t : List ℕ) → eqb (getD t 1 0) 71 ≡ false → widthIn t ≡ widthAt t
-unfolding widthIn
-unmarked-width t e = rw (unmarked t 83 e, unmarked t 73 e, unmarked t 84 e)
-
-pub record-width : (r : Record) (s : List ℕ) → InPart r → widthIn (record-bytes r ++ s) ≡ length (record-bytes r)
-unfolding widthIn record-bytes head-bytes two
+pub record-width : (r : Record) (s : List ℕ) → InPart r → widthAt (record-bytes r ++ s) ≡ length (record-bytes r)
+unfolding widthAt size-of mark-at mark-of is record-bytes head-bytes two
 record-width (part-head (segment f)) s (head-in g) = refl
 record-width (part-head (ignorable i)) s (head-in g) = refl
 record-width (target-head q) s (target-in l) = refl
-record-width (inline x) s (item-in g) = unmarked-width (record-bytes (inline x) ++ s) (item-letter x s g) ∙ item-width s x g
+record-width (inline x) s (item-in g) = item-width s x g
 record-width (text-run cs) s (text-in a l) = text-width s cs
 
 pub head-least : (h : Head) → 4 ≤ length (record-bytes (part-head h))
@@ -71,12 +50,23 @@ pub record ATarget (r : Record) : Type 0 where
   pub is : r ≡ target-head order
   pub small : order < 65535
 
-item-bare : (x : Item) → GoodItem x → marked (record-bytes (inline x)) 84 71 ≡ false
-item-bare x g =
-    unmarked (record-bytes (inline x)) 84
-    (ap (λ (l : List ℕ). eqb (getD l 1 0) 71) (sym (append-nil (record-bytes (inline x)))) ∙ item-letter x [] g)
+item-bare : (x : Item) → GoodItem x → marked (record-bytes (inline x)) (84 ∷ 71 ∷ []) ≡ false
+unfolding record-bytes mark
+item-bare (text c) g = absurd g
+item-bare (character c) g = refl
+item-bare (standalone f) g = refl
+item-bare (isolated start f) g = refl
+item-bare (isolated end f) g = refl
+item-bare (pair start form-P f) g = refl
+item-bare (pair start form-S f) g = refl
+item-bare (pair end form-P f) g = refl
+item-bare (pair end form-S f) g = refl
+item-bare (annotation-start form-P i t) g = refl
+item-bare (annotation-start form-S i t) g = refl
+item-bare (annotation-end form-P i) g = refl
+item-bare (annotation-end form-S i) g = refl
 
-pub target-marked : (r : Record) → InPart r → marked (record-bytes r) 84 71 ≡ true → ATarget r
+pub target-marked : (r : Record) → InPart r → marked (record-bytes r) (84 ∷ 71 ∷ []) ≡ true → ATarget r
 unfolding record-bytes head-bytes
 target-marked (part-head (segment f)) (head-in g) h = absurd (true≢false (sym h))
 target-marked (part-head (ignorable i)) (head-in g) h = absurd (true≢false (sym h))
@@ -84,7 +74,7 @@ target-marked (target-head q) (target-in l) h = record { order = q; is = refl; s
 target-marked (inline x) (item-in g) h = absurd (true≢false (sym h ∙ item-bare x g))
 target-marked (text-run cs) (text-in a l) h = absurd (true≢false (sym h))
 
-pub others-stay : (f : ℕ → ℕ) (r : Record) → InPart r → marked (record-bytes r) 84 71 ≡ false → order-record f r ≡ r
+pub others-stay : (f : ℕ → ℕ) (r : Record) → InPart r → marked (record-bytes r) (84 ∷ 71 ∷ []) ≡ false → order-record f r ≡ r
 unfolding record-bytes
 others-stay f (part-head h) (head-in g) e = refl
 others-stay f (target-head q) (target-in l) e = absurd (true≢false e)
@@ -120,11 +110,11 @@ pub record Next (t : List ℕ) (at : ℕ) (rs : List Record) : Type 0 where
   pub all : rs ≡ first ∷ others
   pub good : InPart first
   pub bytes : drop at t ≡ record-bytes first ++ spell others
-  pub width : widthIn (drop at t) ≡ length (record-bytes first)
-  pub least : 4 ≤ widthIn (drop at t)
+  pub width : widthAt (drop at t) ≡ length (record-bytes first)
+  pub least : 4 ≤ widthAt (drop at t)
   pub enough : 4 ≤ length (drop at t)
-  pub fit : at + widthIn (drop at t) ≤ length t
-  pub rest : Rest t (at + widthIn (drop at t)) others
+  pub fit : at + widthAt (drop at t) ≤ length t
+  pub rest : Rest t (at + widthAt (drop at t)) others
 
 each-first : (r : Record) (rs : List Record) → Each InPart (r ∷ rs) → InPart r × Each InPart rs
 each-first r rs (each-cons g h) = (g, h)
@@ -135,7 +125,7 @@ next t at [] h m = absurd (let z : 0 ≡ length (drop at t) = ap length (m .byte
 next t at (r ∷ rs) h m =
     let (g, k) = each-first r rs (m .each) in
     let e : drop at t ≡ record-bytes r ++ spell rs = sym (m .bytes) in
-    let w : widthIn (drop at t) ≡ length (record-bytes r) = ap widthIn e ∙ record-width r (spell rs) g in
+    let w : widthAt (drop at t) ≡ length (record-bytes r) = ap widthAt e ∙ record-width r (spell rs) g in
     let l : 4 ≤ length (record-bytes r) = record-least r g in
     let n : length (drop at t) ≡ length (record-bytes r) + length (spell rs) = ap length e ∙ length-append (record-bytes r) (spell rs) in
     let d = length-drop at t in
@@ -164,7 +154,7 @@ rest-end t at (r ∷ rs) h m =
     absurd (let y : ⊥ = omega (arith, length-drop at t, length-append (record-bytes r) (spell rs)) in y)
 
 -- the bytes of the first record
-pub next-slice : (t : List ℕ) (at w : ℕ) (rs : List Record) (n : Next t at rs) → w ≡ widthIn (drop at t) → take (at + w - at) (drop at t) ≡ record-bytes (n .first)
+pub next-slice : (t : List ℕ) (at w : ℕ) (rs : List Record) (n : Next t at rs) → w ≡ widthAt (drop at t) → take (at + w - at) (drop at t) ≡ record-bytes (n .first)
 next-slice t at w rs n e =
     ap₂ (λ (k : ℕ) (l : List ℕ). take k l) (let z : at + w - at ≡ length (record-bytes (n .first)) = omega (arith, n .width) in z) (n .bytes)
     ∙ take-append-seam (record-bytes (n .first)) (spell (n .others))

@@ -2,10 +2,10 @@
 use Rattle.xliff.specs.Good.{Each, Allowed, GoodItem, GoodHead}
 use Prim.Native.Nat.{ℕ, _<_}
 use mathlib.Core.Path.{_≡_}
-use mathlib.Core.Bool.{Bool, false, _||_, cond}
+use mathlib.Core.Bool.{Bool, false, cond}
 use mathlib.Core.List.{List, _∷_}
 use lib.ListN.{length}
-use Rattle.xliff.specs.Bytes.{'G', 'I', 'S', 'T', gather}
+use Rattle.xliff.specs.Bytes.{gather}
 use Rattle.xliff.specs.Text.{utf8s}
 use Rattle.xliff.specs.Item.{Item}
 use Rattle.xliff.specs.Unit.{Head, Target, no-target, target, Part, XliffUnit}
@@ -14,7 +14,6 @@ use Rattle.xliff.specs.Focus.{order-parts}
 use Rattle.xliff.specs.Split.{raise-above}
 use Rattle.xliff.specs.Join.{lower-above}
 use Rattle.walk.specs.Kept.{Kept}
-use Rattle.walk.specs.Marks.{marked, widthAt}
 use Rattle.writer.specs.Pieces.{lead}
 
 -- the contents of a part are kept, its order can rise, and its head is good
@@ -54,10 +53,6 @@ pub data InPart : Record → Type 0 where
   target-in : {q : ℕ} → q < 65535 → InPart (target-head q)
   item-in : {x : Item} → GoodItem x → InPart (inline x)
   text-in : {d : ℕ} {ds : List ℕ} → Allowed (d ∷ ds) → length (utf8s (d ∷ ds)) < 65536 → InPart (text-run (d ∷ ds))
-
--- the bytes of the record at the head of t
-unfoldable pub widthIn : List ℕ → ℕ
-widthIn t = cond (marked t 'S' 'G') 6 (cond (marked t 'I' 'G' || marked t 'T' 'G') 4 (widthAt t))
 
 -- the order of a target changed; every other record as it is
 abbrev pub order-record : (ℕ → ℕ) → Record → Record

@@ -24,7 +24,7 @@ fn put_record(out: &mut [u8], t: &[u8], q: u16, up: bool)
     ensures { λ r. ⌜ WroteOne (moved up q) (now (t .entry)) (now (out .entry)) (now (out .exit)) ⌝ }
 {
     let n = writer::put(out, t);
-    if (t[0] == b'T') & (t[1] == b'G') {
+    if marks::marked_by(t, b"TG") {
         let e = writer::put_number(out, 2, moved_order(walk::number_of(t), q, up));
     }
 }

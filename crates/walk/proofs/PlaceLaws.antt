@@ -16,7 +16,8 @@ use Rattle.xliff.specs.Encode.{Record, text-run, inline, record-bytes, spell}
 use Rattle.xliff.specs.Parse.{reading, take-record}
 use Rattle.xliff.proofs.lists.Tests.{two-value}
 use Rattle.walk.specs.Kept.{Kept, kept-end, kept-item, kept-text, Of, items, Inline, an-item, a-text, Rest}
-use Rattle.walk.specs.Marks.{marked, number}
+use Rattle.marks.specs.Marks.{marked}
+use Rattle.walk.specs.Marks.{number}
 use Rattle.walk.specs.Place.{Begins, passText, passItem, passOf, Inside, over, between, within, Parted}
 use Rattle.walk.specs.declared.Passed.{Passed}
 use Rattle.walk.specs.declared.Pass.the-variants.{Stop, On}
@@ -25,7 +26,7 @@ use Rattle.walk.proofs.TextLaws.{utf8s-append, no-bytes}
 use Rattle.xliff.proofs.unit.Pieces.{spell-append}
 
 -- only a text has the mark of one
-not-marked : (x : Item) (s : List ℕ) → GoodItem x → marked (record-bytes (inline x) ++ s) 84 88 ≡ false
+not-marked : (x : Item) (s : List ℕ) → GoodItem x → marked (record-bytes (inline x) ++ s) (84 ∷ 88 ∷ []) ≡ false
 unfolding record-bytes mark
 not-marked (text c) s g = absurd g
 not-marked (character c) s g = refl
@@ -64,15 +65,15 @@ of-text cs s a l =
       fit = omega (arith, length-append (utf8s cs) s);
     }
 
-pub is-text : (r : Record) (t s : List ℕ) → Inline r → t ≡ record-bytes r ++ s → marked t 84 88 ≡ true → IsText r t
-is-text (inline x) t s (an-item g) e m = absurd (true≢false (sym m ∙ ap (λ (l : List ℕ). marked l 84 88) e ∙ not-marked x s g))
+pub is-text : (r : Record) (t s : List ℕ) → Inline r → t ≡ record-bytes r ++ s → marked t (84 ∷ 88 ∷ []) ≡ true → IsText r t
+is-text (inline x) t s (an-item g) e m = absurd (true≢false (sym m ∙ ap (λ (l : List ℕ). marked l (84 ∷ 88 ∷ [])) e ∙ not-marked x s g))
 is-text (text-run cs) t s (a-text a l) e m = subst (λ (l : List ℕ). IsText (text-run cs) l) (sym e) (of-text cs s a l)
 
 -- a record with no such mark is an item
-pub pass-item : (r : Record) (t s : List ℕ) (k : ℕ) → Inline r → t ≡ record-bytes r ++ s → marked t 84 88 ≡ false → passOf r k ≡ passItem (length (record-bytes r)) k
+pub pass-item : (r : Record) (t s : List ℕ) (k : ℕ) → Inline r → t ≡ record-bytes r ++ s → marked t (84 ∷ 88 ∷ []) ≡ false → passOf r k ≡ passItem (length (record-bytes r)) k
 unfolding record-bytes
 pass-item (inline x) t s k (an-item g) e m = refl
-pass-item (text-run cs) t s k (a-text a l) e m = let z : true ≡ false = ap (λ (l : List ℕ). marked l 84 88) (sym e) ∙ m in absurd (true≢false z)
+pass-item (text-run cs) t s k (a-text a l) e m = let z : true ≡ false = ap (λ (l : List ℕ). marked l (84 ∷ 88 ∷ [])) (sym e) ∙ m in absurd (true≢false z)
 
 -- items of kept records, one list behind the other
 pub kept-items : (b : Bool) (rs qs : List Record) → Kept b (rs ++ qs) → items (rs ++ qs) ≡ items rs ++ items qs

@@ -8,11 +8,12 @@ use native.Mathlib.Omega.{arith}
 use lib.ListN.{length, drop, length-append, length-drop}
 use lib.Seq.{drop-append-seam, drop-drop}
 use lib.Dec.{eqb}
-use Rattle.xliff.specs.Bytes.{two, four, gather, any}
+use Rattle.xliff.specs.Bytes.{two, four, two-at, gather, any}
 use Rattle.xliff.specs.Text.{utf8s}
 use Rattle.xliff.specs.Item.{Item, Content, start, end, form-P, form-S, text, character, standalone, isolated, pair, annotation-start, annotation-end, mark, id-of}
 use Rattle.xliff.specs.Encode.{Record, text-run, inline, code-bytes, field-bytes, record-bytes, spell}
-use Rattle.xliff.specs.Parse.{reading, take-record}
+use Rattle.xliff.specs.Parse.{is, mark-of, mark-at, reading, take-record}
+use Rattle.xliff.specs.Desk.{size-of}
 use Rattle.xliff.proofs.lists.Tests.{two-value, and-false}
 use Rattle.walk.specs.Kept.{Kept, kept-item, kept-text, Of, items, Inline, an-item, a-text, Rest}
 use Rattle.walk.specs.Marks.{number, widthAt, kindAt, kind, opposite, is-other, has-other}
@@ -27,7 +28,7 @@ none k a b = rw (no-opposite k)
 -- an inline record that is good: its width, its kind, its id; and at least four bytes
 module _ (s : List ℕ) where
   pub item-width : (x : Item) → GoodItem x → widthAt (record-bytes (inline x) ++ s) ≡ length (record-bytes (inline x))
-  unfolding widthAt record-bytes mark field-bytes code-bytes two four
+  unfolding widthAt size-of mark-at mark-of is two-at record-bytes mark field-bytes code-bytes two four
   item-width (text c) g = absurd g
   item-width (character c) g = refl
   item-width (standalone f) g = refl
@@ -43,7 +44,7 @@ module _ (s : List ℕ) where
   item-width (annotation-end form-S i) g = refl
 
   pub item-kind : (x : Item) → GoodItem x → kindAt (record-bytes (inline x) ++ s) ≡ kind x
-  unfolding kindAt record-bytes mark field-bytes code-bytes two four
+  unfolding kindAt mark-at mark-of is record-bytes mark field-bytes code-bytes two four
   item-kind (text c) g = absurd g
   item-kind (character c) g = refl
   item-kind (standalone f) g = refl
@@ -75,16 +76,16 @@ module _ (s : List ℕ) where
   item-least (annotation-end form-S i) g = omega arith
 
   pub text-width : (cs : List ℕ) → widthAt (record-bytes (text-run cs) ++ s) ≡ length (record-bytes (text-run cs))
-  unfolding widthAt record-bytes two
+  unfolding widthAt size-of mark-at mark-of is two-at record-bytes two
   text-width cs = omega (arith, two-value (length (utf8s cs)))
 
   pub text-kind : (cs : List ℕ) → kindAt (record-bytes (text-run cs) ++ s) ≡ 0
-  unfolding kindAt record-bytes two
+  unfolding kindAt mark-at mark-of is record-bytes two
   text-kind cs = refl
 
   -- whether a record is the other half of one of a kind and id, by its bytes
   pub item-other : (k i : ℕ) (x : Item) → GoodItem x → opposite k (kindAt (record-bytes (inline x) ++ s)) && eqb i (number (record-bytes (inline x) ++ s)) ≡ is-other k i x
-  unfolding kindAt record-bytes mark field-bytes code-bytes two four id-of
+  unfolding kindAt mark-at mark-of is record-bytes mark field-bytes code-bytes two four id-of
   item-other k i (text c) g = absurd g
   item-other k i (character c) g = none k _ _
   item-other k i (standalone f) g = none k _ _

@@ -1,35 +1,48 @@
--- What is read of a record that is known to be good: its mark, its width, its id.
+-- What is read of a record that is known to be good: its width, its kind, its id. Stepping stones: the laws of proofs/WalkLaws tie them to the items.
 use Prim.Native.Nat.{ℕ, _+_, _*_}
-use mathlib.Core.Bool.{Bool, _&&_, _||_, cond}
+use mathlib.Core.Bool.{Bool, _&&_, _||_}
 use mathlib.Core.List.{List}
 use lib.ListN.{getD}
 use lib.Dec.{eqb}
-use Rattle.xliff.specs.Bytes.{'C', 'E', 'M', 'O', 'P', 'S', 'T', 'X', any}
+use Rattle.xliff.specs.Bytes.{any}
+use Rattle.xliff.specs.Parse.{Mark, UN, UE, SG, IG, TG, TX, CP, PH, PO, PC, SC, EC, IS, IE, MO, SM, MC, EM, unknown, mark-at}
+use Rattle.xliff.specs.Desk.{size-of}
 use mathlib.Core.Path.{_≡_}
 use Rattle.xliff.specs.Encode.{Record}
 use Rattle.walk.specs.Kept.{Of, items}
 use Rattle.xliff.specs.Item.{Item, Content, start, end, text, character, standalone, isolated, pair, annotation-start, annotation-end, id-of}
 
-abbrev pub marked : List ℕ → ℕ → ℕ → Bool
-marked t m n = eqb (getD t 0 0) m && eqb (getD t 1 0) n
-
+-- the number behind the mark
 abbrev pub number : List ℕ → ℕ
 number t = getD t 2 0 * 256 + getD t 3 0
 
 unfoldable pub widthAt : List ℕ → ℕ
-widthAt t =
-    cond (marked t 'T' 'X') (4 + number t)
-    (cond (marked t 'C' 'P') 6
-    (cond (marked t 'M' 'O' || marked t 'S' 'M') 5
-    (cond (marked t 'M' 'C' || marked t 'E' 'M') 4 12)))
+widthAt t = size-of (mark-at t) t
 
 -- the halves: 1 PO SC, 2 PC EC, 3 MO SM, 4 MC EM; 0 for all others
+abbrev pub kindOf : Mark → ℕ
+kindOf UN = 0
+kindOf UE = 0
+kindOf SG = 0
+kindOf IG = 0
+kindOf TG = 0
+kindOf TX = 0
+kindOf CP = 0
+kindOf PH = 0
+kindOf PO = 1
+kindOf PC = 2
+kindOf SC = 1
+kindOf EC = 2
+kindOf IS = 0
+kindOf IE = 0
+kindOf MO = 3
+kindOf SM = 3
+kindOf MC = 4
+kindOf EM = 4
+kindOf unknown = 0
+
 unfoldable pub kindAt : List ℕ → ℕ
-kindAt t =
-    cond (marked t 'P' 'O' || marked t 'S' 'C') 1
-    (cond (marked t 'P' 'C' || marked t 'E' 'C') 2
-    (cond (marked t 'M' 'O' || marked t 'S' 'M') 3
-    (cond (marked t 'M' 'C' || marked t 'E' 'M') 4 0)))
+kindAt t = kindOf (mark-at t)
 
 abbrev pub kind : Item → ℕ
 kind (text c) = 0

@@ -1,11 +1,13 @@
 // A walk over a content that is known to be good.
+use marks::Mark;
 ghost use mathlib.Core.Path.{_≡_};
 ghost use mathlib.Core.Bool.{true, false, _&&_};
 ghost use Prim.Native.Nat.{_+_, _-_, _*_, _<_, _≤_};
 ghost use lib.ListN.{length, drop};
 ghost use lib.Dec.{eqb};
 ghost use Rattle.walk.specs.Kept.{Fair};
-ghost use Rattle.walk.specs.Marks.{number, widthAt, kindAt, opposite, Answers};
+ghost use Rattle.marks.specs.Marks.{meaning};
+ghost use Rattle.walk.specs.Marks.{number, widthAt, kindOf, kindAt, opposite, Answers};
 ghost use Rattle.walk.specs.Points.{lead, leads, further, sought};
 ghost use Rattle.walk.specs.Place.{PassedOver, passText, Begins, PassedOne, PlaceOf};
 
@@ -16,18 +18,12 @@ pub struct Place {
     pub left: usize,
 }
 
-fn wide(x: u8) -> u16
-    ensures { λ r. ⌜ (r ≡ x) × (r < 256) ⌝ }
-{
-    x as u16
-}
-
 // The two-byte number behind a mark.
 pub fn number_of(t: &[u8]) -> u16
     requires { ⌜ 4 ≤ length (now t) ⌝ }
     ensures { λ r. ⌜ r ≡ number (now (t .entry)) ⌝ }
 {
-    wide(t[2]) * 256 + wide(t[3])
+    marks::number_at(t, 2)
 }
 
 // The bytes of the record at the head of `t`.
@@ -35,43 +31,28 @@ pub fn width_of(t: &[u8]) -> usize
     requires { ⌜ 4 ≤ length (now t) ⌝ }
     ensures { λ r. ⌜ r ≡ widthAt (now (t .entry)) ⌝ }
 {
-    let a = t[0];
-    let b = t[1];
-    if (a == b'T') & (b == b'X') {
-        return 4 + number_of(t) as usize;
-    }
-    if (a == b'C') & (b == b'P') {
-        return 6;
-    }
-    if ((a == b'M') & (b == b'O')) | ((a == b'S') & (b == b'M')) {
-        return 5;
-    }
-    if ((a == b'M') & (b == b'C')) | ((a == b'E') & (b == b'M')) {
-        return 4;
-    }
-    12
+    marks::width_of(t)
 }
 
-// Which half of a pair or of an annotation the record at the head of `t` is.
+// Which half of a pair or of an annotation a mark is: 1 and 2 a pair's start and end, 3 and 4 an annotation's, 0 none.
+fn kind_by(m: Mark) -> u8
+    ensures { λ r. ⌜ r ≡ kindOf (meaning m) ⌝ }
+{
+    match m {
+        Mark::PO | Mark::SC => 1,
+        Mark::PC | Mark::EC => 2,
+        Mark::MO | Mark::SM => 3,
+        Mark::MC | Mark::EM => 4,
+        _ => 0,
+    }
+}
+
+// Which half the record at the head of `t` is.
 pub fn kind_of(t: &[u8]) -> u8
     requires { ⌜ 4 ≤ length (now t) ⌝ }
     ensures { λ r. ⌜ r ≡ kindAt (now (t .entry)) ⌝ }
 {
-    let a = t[0];
-    let b = t[1];
-    if ((a == b'P') & (b == b'O')) | ((a == b'S') & (b == b'C')) {
-        return 1;
-    }
-    if ((a == b'P') & (b == b'C')) | ((a == b'E') & (b == b'C')) {
-        return 2;
-    }
-    if ((a == b'M') & (b == b'O')) | ((a == b'S') & (b == b'M')) {
-        return 3;
-    }
-    if ((a == b'M') & (b == b'C')) | ((a == b'E') & (b == b'M')) {
-        return 4;
-    }
-    0
+    kind_by(marks::mark_of(t))
 }
 
 fn opposite_kinds(a: u8, b: u8) -> bool
@@ -207,7 +188,7 @@ fn pass_one(t: &[u8], k: usize) -> Pass
     requires { ⌜ Begins (now t) ⌝ }
     ensures { λ r. ⌜ PassedOne (now (t .entry)) k r ⌝ }
 {
-    if (t[0] == b'T') & (t[1] == b'X') {
+    if marks::marked_by(t, b"TX") {
         let n = number_of(t) as usize;
         let e = 4 + n;
         return pass_text(pass_points(&t[4..e], k), n);

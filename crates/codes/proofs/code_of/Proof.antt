@@ -1,18 +1,18 @@
-use Rattle.codes.specs.Codes.{codeAt}
+use mathlib.Core.Path.{ap, _∙_}
 use borrow.Author.Needs.{needs}
+use Rattle.codes.specs.Codes.{codeOf, codeAt}
 use Rattle.codes.proofs.code_of.Statement.{statement}
 use Rattle.codes.proofs.code_of.Tie as tie
 
-pub code-of-spec : {M : Type 1} → statement M
+-- the code of the mark found
+returns : tie.Need-returns
 unfolding codeAt
+returns c = c .code-by .ensures ∙ ap codeOf (c .before .mark-of .ensures)
+
+pub code-of-spec : {M : Type 1} → statement M
 code-of-spec =
     tie.close
     (tie.spec
-    (λ c. search needs)
-    (λ c. search needs)
-    (λ c. simp ((c .if1 .taken)))
-    (λ c. simp ((c .before .if1 .left), (c .if2 .taken)))
-    (λ c. simp ((c .before .before .if1 .left), (c .before .if2 .left), (c .if3 .taken)))
-    (λ c. simp ((c .before .before .before .if1 .left), (c .before .before .if2 .left), (c .before .if3 .left), (c .if4 .taken)))
-    (λ c. simp ((c .before .before .before .before .if1 .left), (c .before .before .before .if2 .left), (c .before .before .if3 .left), (c .before .if4 .left), (c .if5 .taken)))
-    (λ c. simp ((c .before .before .before .before .if1 .left), (c .before .before .before .if2 .left), (c .before .before .if3 .left), (c .before .if4 .left), (c .if5 .left))))
+    -- by search: what the calls require
+    (λ c κs. search needs) (λ c κs. search needs)
+    returns)

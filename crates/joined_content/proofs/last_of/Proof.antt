@@ -22,7 +22,7 @@ Inv-loop c at₀ next₀ at next =
 abbrev μ-loop : tie.MeasureT-loop
 μ-loop c at₀ next₀ at next = length c - next
 
--- src/lib.rt:15:9
+-- src/lib.rt:16:9
 width-of-requires : tie.Need-width-of-requires Inv-loop μ-loop
 width-of-requires c κs =
     let c₀ = c .before .args .c .now in
@@ -31,7 +31,7 @@ width-of-requires c κs =
     let n = stands-next c₀ rs 0 (pre .1) (stands-start c₀ rs o) in
     n .enough
 
--- src/lib.rt:16:5
+-- src/lib.rt:17:5
 loop-holds : tie.Need-loop-holds Inv-loop μ-loop
 loop-holds c =
     let c₀ = c .before .before .args .c .now in
@@ -44,7 +44,7 @@ loop-holds c =
       λ rs o. stands-start c₀ rs o,
     )
 
--- src/lib.rt:18:21
+-- src/lib.rt:19:21
 width-of-requires-2 : tie.Need-width-of-requires-2 Inv-loop μ-loop
 width-of-requires-2 c κs =
     let start = c .before .before .before .before .before in
@@ -55,7 +55,7 @@ width-of-requires-2 c κs =
     let n = stands-next c₀ rs (loop .next) (c .before .loop-test .taken) m in
     simp tail-is (n .enough)
 
--- src/lib.rt:18:16
+-- src/lib.rt:19:16
 add-next : tie.Need-add-next Inv-loop μ-loop
 add-next c =
     let start = c .before .before .before .before .before .before in
@@ -67,7 +67,7 @@ add-next c =
     let e = simp tail-is at (c .width-of2 .ensures) in
     omega (arith, n .fit)
 
--- src/lib.rt:16:5
+-- src/lib.rt:17:5
 loop-less : tie.Need-loop-less Inv-loop μ-loop
 loop-less c =
     let start = c .before .before .before .before .before .before in
@@ -79,7 +79,7 @@ loop-less c =
     let e = simp tail-is at (c .width-of2 .ensures) in
     omega (arith, n .fit, n .least)
 
--- src/lib.rt:16:5
+-- src/lib.rt:17:5
 loop-again : tie.Need-loop-again Inv-loop μ-loop
 loop-again c =
     let start = c .before .before .before .before .before .before in
@@ -98,7 +98,7 @@ loop-again c =
       λ rs o. stands-on c₀ rs (loop .at) next (inv .0) (inv .2) (inv .3 rs o),
     )
 
--- src/lib.rt:10:1
+-- src/lib.rt:11:1
 returns : tie.Need-returns Inv-loop μ-loop
 returns c =
     let c₀ = c .before .before .before .before .args .c .now in
@@ -113,7 +113,7 @@ last-of-spec =
     μ-loop
     width-of-requires
     loop-holds
-    -- by search: sub-width-of 18:36, part-width-of-start 18:36, part-width-of-end 18:36
+    -- by search: sub-width-of 19:36, part-width-of-start 19:36, part-width-of-end 19:36
     (λ c. search needs) (λ c. search needs) (λ c. search needs)
     width-of-requires-2
     add-next

@@ -23,14 +23,14 @@ use borrow.Author.Needs.{needs}
 use Rattle.joined_content.proofs.put_joined.Statement.{statement}
 use Rattle.joined_content.proofs.put_joined.Tie as tie
 
--- src/lib.rt:55:9
+-- src/lib.rt:56:9
 seam-requires : tie.Need-seam-requires
 seam-requires c κs =
     let pre = c .before .before .before .pre in
     let (xs, ys, o, q, h, room) = pre in
     ((content-records xs, o), (content-records ys, q))
 
--- src/lib.rt:56:9
+-- src/lib.rt:57:9
 put-requires : tie.Need-put-requires
 put-requires c κs =
     let start = c .before .before .before .before .before in
@@ -40,7 +40,7 @@ put-requires c κs =
     (seam .ensures (content-records xs) (content-records ys) o q) in
     omega arith
 
--- src/lib.rt:58:29
+-- src/lib.rt:59:29
 sub-put : tie.Need-sub-put
 sub-put c =
     let after-seam = c .before .before .before .before .before in
@@ -52,7 +52,7 @@ sub-put c =
     (seam .ensures (content-records xs) (content-records ys) o q) in
     omega (arith, put .ensures .0)
 
--- src/lib.rt:58:29
+-- src/lib.rt:59:29
 part-put-start : tie.Need-part-put-start
 part-put-start c =
     let after-seam = c .before .before .before .before .before in
@@ -64,7 +64,7 @@ part-put-start c =
     (seam .ensures (content-records xs) (content-records ys) o q) in
     omega (arith, put .ensures .0)
 
--- src/lib.rt:58:13
+-- src/lib.rt:59:13
 put-requires-2 : tie.Need-put-requires-2
 put-requires-2 c κs =
     let after-seam = c .before .before .before .before .before .before in
@@ -83,7 +83,7 @@ put-requires-2 c κs =
     let la = length-append a b in
     tail-room (put .last .0) (put .result) (length b) (omega (arith, put .ensures .0))
 
--- src/lib.rt:59:9
+-- src/lib.rt:60:9
 returns : tie.Need-returns
 returns c =
     let after-put = c .before .before .before .before .before .before .before in
@@ -107,7 +107,7 @@ returns c =
           ∙ ap (λ (l : List ℕ). lead l out) (sym j),
     )
 
--- src/lib.rt:61:29
+-- src/lib.rt:62:29
 sub-number-of : tie.Need-sub-number-of
 sub-number-of c =
     let after-seam = c .before .before .before .before .before in
@@ -124,7 +124,7 @@ sub-number-of c =
     let tb = touch-b a b xs ys (seam .result) t in
     omega arith
 
--- src/lib.rt:61:29
+-- src/lib.rt:62:29
 part-number-of-start : tie.Need-part-number-of-start
 part-number-of-start c =
     let after-seam = c .before .before .before .before .before in
@@ -141,7 +141,7 @@ part-number-of-start c =
     let tb = touch-b a b xs ys (seam .result) t in
     omega arith
 
--- src/lib.rt:61:13
+-- src/lib.rt:62:13
 number-of-requires : tie.Need-number-of-requires
 number-of-requires c κs =
     let after-seam = c .before .before .before .before .before .before in
@@ -158,7 +158,7 @@ number-of-requires c κs =
     let tb = touch-b a b xs ys (seam .result) t in
     simp tail-is (let d = length-drop (seam .result) a in omega arith)
 
--- src/lib.rt:61:40
+-- src/lib.rt:62:40
 number-of-requires-2 : tie.Need-number-of-requires-2
 number-of-requires-2 c κs =
     let after-seam = c .before .before .before .before .before .before .before in
@@ -175,7 +175,7 @@ number-of-requires-2 c κs =
     let tb = touch-b a b xs ys (seam .result) t in
     omega arith
 
--- src/lib.rt:61:13
+-- src/lib.rt:62:13
 add-x : tie.Need-add-x
 add-x c =
     let after-seam = c .before .before .before .before .before .before .before .before in
@@ -197,7 +197,7 @@ add-x c =
     let kb = touch-number-b a b xs ys (seam .result) t in
     omega arith
 
--- src/lib.rt:62:37
+-- src/lib.rt:63:37
 add-put-number : tie.Need-add-put-number
 add-put-number c =
     let after-seam = c .before .before .before .before .before .before .before .before .before in
@@ -215,7 +215,7 @@ add-put-number c =
     let tb = touch-b a b xs ys (seam .result) t in
     omega arith
 
--- src/lib.rt:62:9
+-- src/lib.rt:63:9
 put-number-requires : tie.Need-put-number-requires
 put-number-requires c κs =
     let after-seam = c .before .before .before .before .before .before .before .before .before in
@@ -233,7 +233,7 @@ put-number-requires c κs =
     let tb = touch-b a b xs ys (seam .result) t in
     omega arith
 
--- src/lib.rt:63:25
+-- src/lib.rt:64:25
 sub-put-2 : tie.Need-sub-put-2
 sub-put-2 c =
     let after-put = c .before .before .before .before .before .before .before .before .before .before in
@@ -245,7 +245,7 @@ sub-put-2 c =
     (seam .ensures (content-records xs) (content-records ys) o q) in
     omega (arith, put .ensures .0)
 
--- src/lib.rt:63:25
+-- src/lib.rt:64:25
 part-put-start-2 : tie.Need-part-put-start-2
 part-put-start-2 c =
     let after-put = c .before .before .before .before .before .before .before .before .before .before in
@@ -257,7 +257,7 @@ part-put-start-2 c =
     (seam .ensures (content-records xs) (content-records ys) o q) in
     omega (arith, put .ensures .0)
 
--- src/lib.rt:63:40
+-- src/lib.rt:64:40
 sub-put-3 : tie.Need-sub-put-3
 sub-put-3 c =
     let after-if1 = c .before .before .before .before .before .before .before .before in
@@ -276,7 +276,7 @@ sub-put-3 c =
     let tb = touch-b a b xs ys (seam .result) t in
     omega arith
 
--- src/lib.rt:63:40
+-- src/lib.rt:64:40
 part-put-start-3 : tie.Need-part-put-start-3
 part-put-start-3 c =
     let after-if1 = c .before .before .before .before .before .before .before .before in
@@ -295,7 +295,7 @@ part-put-start-3 c =
     let tb = touch-b a b xs ys (seam .result) t in
     omega arith
 
--- src/lib.rt:63:9
+-- src/lib.rt:64:9
 put-requires-3 : tie.Need-put-requires-3
 put-requires-3 c κs =
     let after-if1 = c .before .before .before .before .before .before .before .before .before in
@@ -318,7 +318,7 @@ put-requires-3 c κs =
     tail-room (put-number .last .0) (put .result) (length (take (length b - 4) (drop 4 b)))
     (let e = ap length (tail-is 4 b) in let d = length-drop 4 b in omega (arith, put .ensures .0))
 
--- src/lib.rt:51:1
+-- src/lib.rt:52:1
 returns-2 : tie.Need-returns-2
 returns-2 c =
     let after-put-number = c .before .before .before .before .before .before .before in
@@ -362,15 +362,15 @@ put-joined-spec =
     put-requires
     sub-put
     part-put-start
-    -- by search: part-put-end 58:29
+    -- by search: part-put-end 59:29
     (λ c. search needs)
     put-requires-2
-    -- by search: add-result 59:16, same-length 59:9
+    -- by search: add-result 60:16, same-length 60:9
     (λ c. search needs) (λ c. search needs)
     returns
     sub-number-of
     part-number-of-start
-    -- by search: part-number-of-end 61:29
+    -- by search: part-number-of-end 62:29
     (λ c. search needs)
     number-of-requires
     number-of-requires-2
@@ -379,13 +379,13 @@ put-joined-spec =
     put-number-requires
     sub-put-2
     part-put-start-2
-    -- by search: part-put-end-2 63:25
+    -- by search: part-put-end-2 64:25
     (λ c. search needs)
     sub-put-3
     part-put-start-3
-    -- by search: part-put-end-3 63:40
+    -- by search: part-put-end-3 64:40
     (λ c. search needs)
     put-requires-3
-    -- by search: add-result-2 64:5, same-length-2 51:1
+    -- by search: add-result-2 65:5, same-length-2 52:1
     (λ c. search needs) (λ c. search needs)
     returns-2)

@@ -25,12 +25,12 @@ Inv-loop c kind id at₀ at =
 abbrev μ-loop : tie.MeasureT-loop
 μ-loop c kind id at₀ at = length c - at
 
--- src/lib.rt:97:5
+-- src/lib.rt:78:5
 loop-holds : tie.Need-loop-holds Inv-loop μ-loop
 unfolding has-other any reading
 loop-holds c = (omega arith, λ rs o. (rs, rest-start (c .before .args .c .now) rs o, refl))
 
--- src/lib.rt:98:12
+-- src/lib.rt:79:12
 other-at-requires : tie.Need-other-at-requires Inv-loop μ-loop
 unfolding has-other any reading
 other-at-requires c κs =
@@ -41,7 +41,7 @@ other-at-requires c κs =
     let n = next (start .args .c .now) (loop .at) (m .0) (c .before .loop-test .taken) (m .1) in
     simp tail-is (n .enough)
 
--- src/lib.rt:99:13
+-- src/lib.rt:80:13
 returns : tie.Need-returns Inv-loop μ-loop
 unfolding has-other any reading
 returns c =
@@ -59,7 +59,7 @@ returns c =
     ∙ ap (λ (b : Bool). b || has-other kind id (items (n .others)))
     (sym (simp tail-is at (c .before .other-at .ensures)) ∙ c .if1 .taken))
 
--- src/lib.rt:101:15
+-- src/lib.rt:82:15
 width-of-requires : tie.Need-width-of-requires Inv-loop μ-loop
 unfolding has-other any reading
 width-of-requires c κs =
@@ -72,7 +72,7 @@ width-of-requires c κs =
     let n = next (start .args .c .now) (loop .at) (m .0) (loop-test .taken) (m .1) in
     simp tail-is (n .enough)
 
--- src/lib.rt:101:9
+-- src/lib.rt:82:9
 add-at : tie.Need-add-at Inv-loop μ-loop
 unfolding has-other any reading
 add-at c =
@@ -86,7 +86,7 @@ add-at c =
     let e = simp tail-is at (c .width-of .ensures) in
     omega (arith, n .fit)
 
--- src/lib.rt:97:5
+-- src/lib.rt:78:5
 loop-less : tie.Need-loop-less Inv-loop μ-loop
 unfolding has-other any reading
 loop-less c =
@@ -100,7 +100,7 @@ loop-less c =
     let e = simp tail-is at (c .width-of .ensures) in
     omega (arith, n .fit, n .least)
 
--- src/lib.rt:97:5
+-- src/lib.rt:78:5
 loop-again : tie.Need-loop-again Inv-loop μ-loop
 unfolding has-other any reading
 loop-again c =
@@ -131,7 +131,7 @@ loop-again c =
           ),
     )
 
--- src/lib.rt:92:1
+-- src/lib.rt:73:1
 returns-2 : tie.Need-returns-2 Inv-loop μ-loop
 unfolding has-other any reading
 returns-2 c =
@@ -151,11 +151,11 @@ has-other-spec =
     Inv-loop
     μ-loop
     loop-holds
-    -- by search: sub-other-at 98:21, part-other-at-start 98:21, part-other-at-end 98:21
+    -- by search: sub-other-at 79:21, part-other-at-start 79:21, part-other-at-end 79:21
     (λ c. search needs) (λ c. search needs) (λ c. search needs)
     other-at-requires
     returns
-    -- by search: sub-width-of 101:24, part-width-of-start 101:24, part-width-of-end 101:24
+    -- by search: sub-width-of 82:24, part-width-of-start 82:24, part-width-of-end 82:24
     (λ c. search needs) (λ c. search needs) (λ c. search needs)
     width-of-requires
     add-at

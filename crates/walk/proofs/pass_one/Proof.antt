@@ -12,58 +12,52 @@ use borrow.Author.Needs.{needs}
 use Rattle.walk.proofs.pass_one.Statement.{statement}
 use Rattle.walk.proofs.pass_one.Tie as tie
 
--- src/lib.rt:204:9
-shared-slice-read-if1 : tie.Need-shared-slice-read-if1
-shared-slice-read-if1 c = omega (arith, begins-least (c .before .before .args .t .now) (c .before .before .pre))
+-- `marks::marked_by(t, b"TX")`
+marked-by-requires : tie.Need-marked-by-requires
+marked-by-requires c κs = omega (arith, begins-least (c .before .before .args .t .now) (c .before .before .pre))
 
--- src/lib.rt:204:26
-shared-slice-read-if1-2 : tie.Need-shared-slice-read-if1-2
-shared-slice-read-if1-2 c =
-    let start = c .before .before .before in
-    omega (arith, begins-least (start .args .t .now) (start .pre))
-
--- src/lib.rt:205:17
+-- src/lib.rt:186:17
 number-of-requires : tie.Need-number-of-requires
 number-of-requires c κs =
     let start = c .before .before .before .before in
     begins-least (start .args .t .now) (start .pre)
 
--- src/lib.rt:206:17
+-- src/lib.rt:187:17
 add-e : tie.Need-add-e
 add-e c =
     let start = c .before .before .before .before .before in
     let (r, s, g, e) = start .pre in
-    let x = is-text r (start .args .t .now) s g e (c .before .if1 .taken) in
+    let x = is-text r (start .args .t .now) s g e (sym (c .before .before .marked-by .ensures) ∙ c .before .if1 .taken) in
     omega (arith, x .small, c .number-of .ensures)
 
--- src/lib.rt:207:38
+-- src/lib.rt:188:38
 part-pass-points-end : tie.Need-part-pass-points-end
 part-pass-points-end c =
     let start = c .before .before .before .before .before in
     let (r, s, g, e) = start .pre in
-    let x = is-text r (start .args .t .now) s g e (c .before .if1 .taken) in
+    let x = is-text r (start .args .t .now) s g e (sym (c .before .before .marked-by .ensures) ∙ c .before .if1 .taken) in
     omega (arith, x .fit, c .number-of .ensures)
 
--- src/lib.rt:207:9
+-- src/lib.rt:188:9
 pass-text-requires : tie.Need-pass-text-requires
 pass-text-requires c κs =
     let start = c .before .before .before .before .before .before .before in
-    let if1 = c .before .before .before .if1 in
+    let after-if = c .before .before .before in
     let (r, s, g, e) = start .pre in
-    let x = is-text r (start .args .t .now) s g e (if1 .taken) in
+    let x = is-text r (start .args .t .now) s g e (sym (after-if .before .marked-by .ensures) ∙ after-if .if1 .taken) in
     omega (arith, x .small, c .before .before .number-of .ensures)
 
--- src/lib.rt:207:9
+-- src/lib.rt:188:9
 returns : tie.Need-returns
 returns c =
     let args = c .before .before .before .before .before .before .before .before .args in
     let t = args .t .now in
     let k₀ = args .k in
-    let if1 = c .before .before .before .before .if1 in
+    let after-if = c .before .before .before .before in
     let number-of = c .before .before .before .number-of in
     let pass-points = c .before .pass-points in
     λ r s g e.
-    let x = is-text r t s g e (if1 .taken) in
+    let x = is-text r t s g e (sym (after-if .before .marked-by .ensures) ∙ after-if .if1 .taken) in
     let y = pass-points .ensures (x .points) (x .allowed)
     (x .bytes
     ∙ ap (λ (k : ℕ). take k (drop 4 t))
@@ -73,27 +67,27 @@ returns c =
     (number-of .ensures ∙ x .size)
     ∙ ap (λ (q : Record). passOf q k₀) (sym (x .is))
 
--- src/lib.rt:210:9
+-- src/lib.rt:191:9
 returns-2 : tie.Need-returns-2
 returns-2 c =
     let args = c .before .before .before .before .before .args in
     λ r s g e.
-    sym (pass-item r (args .t .now) s (args .k) g e (c .before .if1 .left)
+    sym (pass-item r (args .t .now) s (args .k) g e (sym (c .before .before .marked-by .ensures) ∙ c .before .if1 .left)
     ∙ ap (λ (k : ℕ). passItem (length (record-bytes r)) k) (c .if2 .taken))
 
--- src/lib.rt:212:14
+-- src/lib.rt:193:14
 width-of-requires : tie.Need-width-of-requires
 width-of-requires c κs =
     let start = c .before .before .before .before .before in
     begins-least (start .args .t .now) (start .pre)
 
--- src/lib.rt:200:1
+-- src/lib.rt:181:1
 returns-3 : tie.Need-returns-3
 returns-3 c =
     let args = c .before .before .before .before .before .before .args in
     let k = args .k in
     λ r s g e.
-    sym (pass-item r (args .t .now) s k g e (c .before .before .if1 .left)
+    sym (pass-item r (args .t .now) s k g e (sym (c .before .before .before .marked-by .ensures) ∙ c .before .before .if1 .left)
     ∙ pass-some (length (record-bytes r)) k (omega arith)
     ∙ ap (λ (w : ℕ). On w (k - 1)) (sym (c .width-of .ensures ∙ ap widthAt e ∙ inline-width r s g)))
 
@@ -101,21 +95,20 @@ pub pass-one-spec : {M : Type 1} → statement M
 pass-one-spec =
     tie.close
     (tie.spec
-    shared-slice-read-if1
-    shared-slice-read-if1-2
+    marked-by-requires
     number-of-requires
-    -- by search: cast-n 205:17
+    -- by search: cast-n 186:17
     (λ c. search needs)
     add-e
-    -- by search: sub-pass-points 207:38, part-pass-points-start 207:38
+    -- by search: sub-pass-points 188:38, part-pass-points-start 188:38
     (λ c. search needs) (λ c. search needs)
     part-pass-points-end
-    -- by search: pass-points-requires 207:26
+    -- by search: pass-points-requires 188:26
     (λ c κs. search needs)
     pass-text-requires
     returns
     returns-2
     width-of-requires
-    -- by search: sub-t20 212:27
+    -- by search: sub-t20 193:27
     (λ c. search needs)
     returns-3)

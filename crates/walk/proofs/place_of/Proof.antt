@@ -18,11 +18,11 @@ Inv-loop c k at₀ left₀ at left = (at ≤ length c) × ((rs : List Record) �
 abbrev μ-loop : tie.MeasureT-loop
 μ-loop c k at₀ left₀ at left = length c - at
 
--- src/lib.rt:222:5
+-- src/lib.rt:203:5
 loop-holds : tie.Need-loop-holds Inv-loop μ-loop
 loop-holds c = (omega arith, λ rs o. along-start (c .before .args .c .now) (c .before .args .k) rs o)
 
--- src/lib.rt:223:15
+-- src/lib.rt:204:15
 pass-one-requires : tie.Need-pass-one-requires Inv-loop μ-loop
 pass-one-requires c κs =
     let start = c .before .before .before .before in
@@ -33,7 +33,7 @@ pass-one-requires c κs =
     let n = next c₀ (loop .at) (m .after) (c .before .loop-test .taken) (m .rest) in
     (n .first, spell (n .others), n .good, tail-is (loop .at) c₀ ∙ n .bytes)
 
--- src/lib.rt:225:17
+-- src/lib.rt:206:17
 returns : tie.Need-returns Inv-loop μ-loop
 returns c =
     let after-loop-test = c .before .before .before .before .before in
@@ -50,7 +50,7 @@ returns c =
     (sym (pass-one .ensures (n .first) (spell (n .others)) (n .good) (tail-is at-now c₀ ∙ n .bytes))
     ∙ c .before .into .given .1)
 
--- src/lib.rt:232:17
+-- src/lib.rt:213:17
 add-at : tie.Need-add-at Inv-loop μ-loop
 add-at c =
     let after-loop-test = c .before .before .before .before .before in
@@ -67,7 +67,7 @@ add-at c =
     ∙ c .before .w .given .1) in
     omega (arith, n .fit, n .width, v .width)
 
--- src/lib.rt:222:5
+-- src/lib.rt:203:5
 loop-less : tie.Need-loop-less Inv-loop μ-loop
 loop-less c =
     let after-loop-test = c .before .before .before .before .before in
@@ -84,7 +84,7 @@ loop-less c =
     ∙ c .before .w .given .1) in
     omega (arith, n .fit, n .width, v .width, n .least)
 
--- src/lib.rt:222:5
+-- src/lib.rt:203:5
 loop-again : tie.Need-loop-again Inv-loop μ-loop
 loop-again c =
     let after-loop-test = c .before .before .before .before .before in
@@ -111,7 +111,7 @@ loop-again c =
           ∙ w .given .1),
     )
 
--- src/lib.rt:216:1
+-- src/lib.rt:197:1
 returns-2 : tie.Need-returns-2 Inv-loop μ-loop
 returns-2 c =
     let args = c .before .before .before .args in
@@ -125,13 +125,13 @@ place-of-spec =
     Inv-loop
     μ-loop
     loop-holds
-    -- by search: sub-pass-one 223:24, part-pass-one-start 223:24, part-pass-one-end 223:24
+    -- by search: sub-pass-one 204:24, part-pass-one-start 204:24, part-pass-one-end 204:24
     (λ c. search needs) (λ c. search needs) (λ c. search needs)
     pass-one-requires
-    -- by search: enum-known-into 224:24
+    -- by search: enum-known-into 205:24
     (λ c. search needs)
     returns
-    -- by search: enum-known-w 231:22
+    -- by search: enum-known-w 212:22
     (λ c. search needs)
     add-at
     loop-less

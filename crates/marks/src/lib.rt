@@ -1,0 +1,174 @@
+// The eighteen marks of a table's records, compared as fixed two-byte strings, and how many bytes a record of a mark takes.
+ghost use mathlib.Core.Path.{_≡_};
+ghost use Prim.Native.Nat.{_+_, _<_, _≤_};
+ghost use lib.ListN.{length};
+ghost use Rattle.xliff.specs.Bytes.{two-at};
+ghost use Rattle.xliff.specs.Parse.{mark-at};
+ghost use Rattle.xliff.specs.Desk.{size-of};
+ghost use Rattle.marks.specs.Marks.{marked, startEndMark, headMark, rareMark, meaning, fixedWidth};
+
+pub enum Mark {
+    UN,
+    UE,
+    SG,
+    IG,
+    TG,
+    TX,
+    CP,
+    PH,
+    PO,
+    PC,
+    SC,
+    EC,
+    IS,
+    IE,
+    MO,
+    SM,
+    MC,
+    EM,
+    Unknown,
+}
+
+// Whether `t` begins with the mark `m`.
+pub fn marked_by(t: &[u8], m: &[u8; 2]) -> bool
+    requires { ⌜ 2 ≤ length (now t) ⌝ }
+    ensures { λ r. ⌜ r ≡ marked (now (t .entry)) (now (m .entry)) ⌝ }
+{
+    (t[0] == m[0]) & (t[1] == m[1])
+}
+
+// The rare marks.
+fn rare_mark(t: &[u8]) -> Mark
+    requires { ⌜ 2 ≤ length (now t) ⌝ }
+    ensures { λ r. ⌜ r ≡ rareMark (now (t .entry)) ⌝ }
+{
+    if marked_by(t, b"CP") {
+        return Mark::CP;
+    }
+    if marked_by(t, b"IS") {
+        return Mark::IS;
+    }
+    if marked_by(t, b"IE") {
+        return Mark::IE;
+    }
+    if marked_by(t, b"UN") {
+        return Mark::UN;
+    }
+    if marked_by(t, b"UE") {
+        return Mark::UE;
+    }
+    Mark::Unknown
+}
+
+// The marks of start and end, and of an ignorable.
+fn start_end_mark(t: &[u8]) -> Mark
+    requires { ⌜ 2 ≤ length (now t) ⌝ }
+    ensures { λ r. ⌜ r ≡ startEndMark (now (t .entry)) ⌝ }
+{
+    if marked_by(t, b"SC") {
+        return Mark::SC;
+    }
+    if marked_by(t, b"EC") {
+        return Mark::EC;
+    }
+    if marked_by(t, b"SM") {
+        return Mark::SM;
+    }
+    if marked_by(t, b"EM") {
+        return Mark::EM;
+    }
+    if marked_by(t, b"IG") {
+        return Mark::IG;
+    }
+    rare_mark(t)
+}
+
+// The marks of segments, targets and mrk.
+fn head_mark(t: &[u8]) -> Mark
+    requires { ⌜ 2 ≤ length (now t) ⌝ }
+    ensures { λ r. ⌜ r ≡ headMark (now (t .entry)) ⌝ }
+{
+    if marked_by(t, b"SG") {
+        return Mark::SG;
+    }
+    if marked_by(t, b"TG") {
+        return Mark::TG;
+    }
+    if marked_by(t, b"MO") {
+        return Mark::MO;
+    }
+    if marked_by(t, b"MC") {
+        return Mark::MC;
+    }
+    start_end_mark(t)
+}
+
+// The mark at the head of `t`. The tests stand by how often a mark comes.
+pub fn mark_of(t: &[u8]) -> Mark
+    ensures { λ r. ⌜ meaning r ≡ mark-at (now (t .entry)) ⌝ }
+{
+    if t.len() < 2 {
+        return Mark::Unknown;
+    }
+    if marked_by(t, b"TX") {
+        return Mark::TX;
+    }
+    if marked_by(t, b"PO") {
+        return Mark::PO;
+    }
+    if marked_by(t, b"PC") {
+        return Mark::PC;
+    }
+    if marked_by(t, b"PH") {
+        return Mark::PH;
+    }
+    head_mark(t)
+}
+
+// How many bytes a record of a mark takes, a text's without its characters.
+pub fn fixed_width(m: Mark) -> usize
+    ensures { λ r. ⌜ r ≡ fixedWidth m ⌝ }
+{
+    match m {
+        Mark::Unknown => 0,
+        Mark::UE => 2,
+        Mark::UN => 3,
+        Mark::IG | Mark::TG | Mark::TX | Mark::MC | Mark::EM => 4,
+        Mark::MO | Mark::SM => 5,
+        Mark::SG | Mark::CP => 6,
+        _ => 12,
+    }
+}
+
+fn wide(x: u8) -> u16
+    ensures { λ r. ⌜ (r ≡ x) × (r < 256) ⌝ }
+{
+    x as u16
+}
+
+// The two-byte number at `at`, high byte first.
+pub fn number_at(s: &[u8], at: usize) -> u16
+    requires { ⌜ at + 2 ≤ length (now s) ⌝ }
+    ensures { λ r. ⌜ r ≡ two-at (now (s .entry)) at ⌝ }
+{
+    wide(s[at]) * 256 + wide(s[at + 1])
+}
+
+// How many bytes the record of the mark `m` at the head of `t` takes.
+fn width_by(m: Mark, t: &[u8]) -> usize
+    requires { ⌜ 4 ≤ length (now t) ⌝ }
+    ensures { λ r. ⌜ r ≡ size-of (meaning m) (now (t .entry)) ⌝ }
+{
+    match m {
+        Mark::TX => 4 + number_at(t, 2) as usize,
+        _ => fixed_width(m),
+    }
+}
+
+// How many bytes the record at the head of `t` takes.
+pub fn width_of(t: &[u8]) -> usize
+    requires { ⌜ 4 ≤ length (now t) ⌝ }
+    ensures { λ r. ⌜ r ≡ size-of (mark-at (now (t .entry))) (now (t .entry)) ⌝ }
+{
+    width_by(mark_of(t), t)
+}
