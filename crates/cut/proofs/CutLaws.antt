@@ -9,7 +9,7 @@ use lib.ListN.{length, getD, take, drop}
 use Rattle.xliff.specs.Bytes.{two, four, any}
 use Rattle.xliff.specs.Item.{Item, Content, start, end, form-P, form-S, text, character, standalone, isolated, pair, annotation-start, annotation-end, mark, id-of, class, half, alike, other-half, in-form}
 use Rattle.xliff.specs.Encode.{Record, text-run, inline, code-bytes, field-bytes, record-bytes, spell, content-records, content-bytes, item-before}
-use Rattle.xliff.specs.Parse.{is, mark-of, mark-at, reading, take-record}
+use Rattle.xliff.specs.Parse.{Mark, UN, UE, SG, IG, TG, TX, CP, PH, PO, PC, SC, EC, IS, IE, MO, SM, MC, EM, unknown, is, mark-of, mark-at, reading, take-record}
 use Rattle.xliff.specs.Split.{cut-item}
 use Rattle.xliff.proofs.lists.Tests.{two-value, and-false}
 use Rattle.xliff.proofs.unit.Table.{starts-text, content-records-text}
@@ -18,7 +18,7 @@ use Rattle.walk.specs.Marks.{number, kindAt, kind, is-other, has-other}
 use Rattle.walk.proofs.WalkLaws.{inline-least}
 use Rattle.writer.specs.Pieces.{lead, overlay, numberBytes}
 use Rattle.writer.proofs.PieceLaws.{over-lead, two-back}
-use Rattle.cut.specs.Turned.{turnIf, formP, startOrEnd, codeOrMark, cut-record, cut-records, One, textPiece}
+use Rattle.cut.specs.Turned.{turnedMark, turnIf, cut-record, cut-records, One, textPiece}
 
 and-true : (a : Bool) → a && true ≡ a
 and-true true = refl
@@ -99,7 +99,7 @@ turn-is (annotation-end form-S i) s ys g = rw (two-value i) (sym (any-other (ann
 
 -- the bytes turned
 turned-is : (x : Item) → GoodItem x → turnIf true (record-bytes (inline x)) ≡ record-bytes (inline (in-form form-S x))
-unfolding turnIf record-bytes mark field-bytes in-form
+unfolding turnIf mark-at mark-of is record-bytes mark field-bytes in-form
 turned-is (text c) g = absurd g
 turned-is (character c) g = refl
 turned-is (standalone f) g = refl
@@ -229,19 +229,38 @@ unfolding content-bytes
 cut-bytes b ys rs k =
     ap (λ (l : Content). spell (content-records l)) (sym (cut-items b ys rs k)) ∙ ap spell (kept-records b (cut-records ys rs) (cut-kept b ys rs k))
 
--- for the code: two bytes written over the first two of a piece
-pub turn-over : (t out l m n : List ℕ) (x y i : ℕ) → 4 ≤ length t → l ≡ lead t out → m ≡ overlay l 0 (x ∷ []) → i ≡ 0 + 1 → n ≡ overlay m i (y ∷ []) → n ≡ lead (x ∷ y ∷ drop 2 t) out
-turn-over [] out l m n x y i h e f g k = absurd (let z : ⊥ = omega arith in z)
-turn-over (a ∷ []) out l m n x y i h e f g k = absurd (let z : ⊥ = omega arith in z)
-turn-over (a ∷ b ∷ t) out l m n x y i h e f g k = k ∙ rw (g, f, e)
+-- for the code: the turned mark written over that of a copy
+over-copy : (m : Mark) (a b : ℕ) (s o : List ℕ) → lead (turnedMark m) (lead (a ∷ b ∷ s) o) ≡ lead (lead (turnedMark m) (a ∷ b ∷ s)) o
+over-copy UN a b s o = refl
+over-copy UE a b s o = refl
+over-copy SG a b s o = refl
+over-copy IG a b s o = refl
+over-copy TG a b s o = refl
+over-copy TX a b s o = refl
+over-copy CP a b s o = refl
+over-copy PH a b s o = refl
+over-copy PO a b s o = refl
+over-copy PC a b s o = refl
+over-copy SC a b s o = refl
+over-copy EC a b s o = refl
+over-copy IS a b s o = refl
+over-copy IE a b s o = refl
+over-copy MO a b s o = refl
+over-copy SM a b s o = refl
+over-copy MC a b s o = refl
+over-copy EM a b s o = refl
+over-copy unknown a b s o = refl
 
-pub turn-yes : (b : Bool) (t : List ℕ) → b && formP t ≡ true → turnIf b t ≡ startOrEnd (getD t 1 0) ∷ codeOrMark (getD t 0 0) ∷ drop 2 t
+pub turned-over : (t o l n : List ℕ) (m : Mark) → 4 ≤ length t → m ≡ mark-at t → l ≡ lead t o → n ≡ lead (turnedMark m) l → n ≡ lead (turnIf true t) o
 unfolding turnIf
-turn-yes b t e = rw e
+turned-over [] o l n m h e f g = absurd (let z : ⊥ = omega arith in z)
+turned-over (a ∷ []) o l n m h e f g = absurd (let z : ⊥ = omega arith in z)
+turned-over (a ∷ b ∷ s) o l n m h e f g =
+    g ∙ ap (lead (turnedMark m)) f ∙ over-copy m a b s o ∙ ap (λ (k : Mark). lead (lead (turnedMark k) (a ∷ b ∷ s)) o) e
 
-pub turn-no : (b : Bool) (t : List ℕ) → b && formP t ≡ false → turnIf b t ≡ t
+pub not-turned : (t o l : List ℕ) → l ≡ lead t o → l ≡ lead (turnIf false t) o
 unfolding turnIf
-turn-no b t e = rw e
+not-turned t o l e = e
 
 pub one-least : (t : List ℕ) → One t → 4 ≤ length t
 one-least t (r, g, e) = let l : length t ≡ length (record-bytes r) = ap length e in omega (arith, inline-least r g)

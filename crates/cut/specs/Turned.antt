@@ -1,30 +1,42 @@
--- The marks of start and end for those of pc and mrk.
+-- The marks of start and end for those of pc and mrk. Stepping stones: `cut-one` (proofs/CutLaws) ties them to the specification's `cut-item`.
 use Prim.Native.Nat.{ℕ, _+_}
 use mathlib.Core.Path.{_≡_}
-use mathlib.Core.Bool.{Bool, _&&_, _||_, cond}
-use mathlib.Core.List.{List, _∷_, _++_, map}
-use lib.ListN.{length, getD, drop}
-use lib.Dec.{eqb}
-use Rattle.xliff.specs.Bytes.{'C', 'E', 'M', 'O', 'P', 'S', 'T', 'X', two}
+use mathlib.Core.Bool.{Bool, cond}
+use mathlib.Core.List.{List, [], _∷_, _++_, map}
+use lib.ListN.{length}
+use Rattle.xliff.specs.Bytes.{'C', 'E', 'M', 'S', 'T', 'X', two}
 use Rattle.xliff.specs.Item.{Content}
 use Rattle.xliff.specs.Encode.{Record, opening, closing, part-head, target-head, text-run, inline, ill-text, broken, record-bytes, spell}
+use Rattle.xliff.specs.Parse.{Mark, UN, UE, SG, IG, TG, TX, CP, PH, PO, PC, SC, EC, IS, IE, MO, SM, MC, EM, unknown, mark-at}
 use Rattle.xliff.specs.Split.{cut-item}
 use Rattle.walk.specs.Kept.{Of, items, Inline}
 use Rattle.writer.specs.Pieces.{lead}
 
--- PO PC MO MC, of a record with one of the marks of a content
-abbrev pub formP : List ℕ → Bool
-formP t = (eqb (getD t 0 0) 'P' || eqb (getD t 0 0) 'M') && (eqb (getD t 1 0) 'O' || eqb (getD t 1 0) 'C')
+-- SC for PO, EC for PC, SM for MO, EM for MC; no mark for all others
+abbrev pub turnedMark : Mark → List ℕ
+turnedMark UN = []
+turnedMark UE = []
+turnedMark SG = []
+turnedMark IG = []
+turnedMark TG = []
+turnedMark TX = []
+turnedMark CP = []
+turnedMark PH = []
+turnedMark PO = 'S' ∷ 'C' ∷ []
+turnedMark PC = 'E' ∷ 'C' ∷ []
+turnedMark SC = []
+turnedMark EC = []
+turnedMark IS = []
+turnedMark IE = []
+turnedMark MO = 'S' ∷ 'M' ∷ []
+turnedMark SM = []
+turnedMark MC = 'E' ∷ 'M' ∷ []
+turnedMark EM = []
+turnedMark unknown = []
 
-abbrev pub startOrEnd : ℕ → ℕ
-startOrEnd b = cond (eqb b 'O') 'S' 'E'
-
-abbrev pub codeOrMark : ℕ → ℕ
-codeOrMark a = cond (eqb a 'P') 'C' 'M'
-
--- the bytes of a record, turned if asked
+-- the bytes of a record, with the turned mark over its own if asked
 unfoldable pub turnIf : Bool → List ℕ → List ℕ
-turnIf b t = cond (b && formP t) (startOrEnd (getD t 1 0) ∷ codeOrMark (getD t 0 0) ∷ drop 2 t) t
+turnIf b t = cond b (lead (turnedMark (mark-at t)) t) t
 
 -- a record of a half, with what stands beyond the cut
 abbrev pub cut-record : Content → Record → Record

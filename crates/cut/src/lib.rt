@@ -1,23 +1,35 @@
-// The two halves of a content that is cut, and two contents joined.
+// The two halves of a content that is cut.
+use marks::Mark;
 ghost use mathlib.Core.Path.{_≡_};
 ghost use Prim.Native.Nat.{_+_, _<_, _≤_};
 ghost use lib.ListN.{length};
+ghost use Rattle.marks.specs.Marks.{meaning};
 ghost use Rattle.writer.specs.Pieces.{lead};
 ghost use Rattle.walk.specs.Kept.{Fair};
-ghost use Rattle.cut.specs.Turned.{startOrEnd, codeOrMark, turnIf, One, CutOne, CutAll, textPiece};
+ghost use Rattle.cut.specs.Turned.{turnedMark, turnIf, One, CutOne, CutAll, textPiece};
 ghost use Rattle.xliff.specs.Split.{first-items, second-items};
 ghost use Rattle.cut.specs.Halves.{Room, Wrote};
 
-fn start_or_end(b: u8) -> u8
-    ensures { λ r. ⌜ r ≡ startOrEnd b ⌝ }
+// The mark of start or end over that of pc or mrk at the head of `out`; every other mark stays.
+fn put_turned_mark(out: &mut [u8], m: Mark)
+    requires { ⌜ 2 ≤ length (now out) ⌝ }
+    ensures { λ r. ⌜ now (out .exit) ≡ lead (turnedMark (meaning m)) (now (out .entry)) ⌝ }
 {
-    if b == b'O' { b'S' } else { b'E' }
-}
-
-fn code_or_mark(a: u8) -> u8
-    ensures { λ r. ⌜ r ≡ codeOrMark a ⌝ }
-{
-    if a == b'P' { b'C' } else { b'M' }
+    match m {
+        Mark::PO => {
+            let n = writer::put_mark(out, 0, b"SC");
+        }
+        Mark::PC => {
+            let n = writer::put_mark(out, 0, b"EC");
+        }
+        Mark::MO => {
+            let n = writer::put_mark(out, 0, b"SM");
+        }
+        Mark::MC => {
+            let n = writer::put_mark(out, 0, b"EM");
+        }
+        _ => {}
+    }
 }
 
 // A record's bytes at the head of `out`, with the marks of start and end if asked.
@@ -26,11 +38,8 @@ fn put_turned(out: &mut [u8], t: &[u8], turn: bool)
     ensures { λ r. ⌜ now (out .exit) ≡ lead (turnIf turn (now (t .entry))) (now (out .entry)) ⌝ }
 {
     let n = writer::put(out, t);
-    let a = t[0];
-    let b = t[1];
-    if turn & (((a == b'P') | (a == b'M')) & ((b == b'O') | (b == b'C'))) {
-        let i = writer::put_byte(out, 0, start_or_end(b));
-        let j = writer::put_byte(out, i, code_or_mark(a));
+    if turn {
+        put_turned_mark(out, marks::mark_of(t));
     }
 }
 

@@ -148,11 +148,11 @@ same-number m n e = sym (number-back m) ∙ ap by-number e ∙ number-back n
 abbrev pub Arm : List Mark → Mark → Type 0
 Arm ms m = OneOf (map number ms) (number m)
 
--- an arm whose marks all have the number k
-pub in-arm : (f : Mark → ℕ) (k : ℕ) (ms : List Mark) (m : Mark) → Arm ms m → map f ms ≡ map (λ (n : Mark). k) ms → k ≡ f m
+-- an arm for all of whose marks f says k
+pub in-arm : {A : Type 0} (f : Mark → A) (k : A) (ms : List Mark) (m : Mark) → Arm ms m → map f ms ≡ map (λ (n : Mark). k) ms → k ≡ f m
 in-arm f k [] m a h = absurd a
-in-arm f k (n ∷ []) m a h = sym (ap f (same-number m n a) ∙ ap (λ (l : List ℕ). getD l 0 0) h)
-in-arm f k (n ∷ o ∷ ms) m (inl a) h = sym (ap f (same-number m n a) ∙ ap (λ (l : List ℕ). getD l 0 0) h)
+in-arm {A} f k (n ∷ []) m a h = sym (ap f (same-number m n a) ∙ ap (λ (l : List A). getD l 0 k) h)
+in-arm {A} f k (n ∷ o ∷ ms) m (inl a) h = sym (ap f (same-number m n a) ∙ ap (λ (l : List A). getD l 0 k) h)
 in-arm f k (n ∷ o ∷ ms) m (inr a) h = in-arm f k (o ∷ ms) m a (ap (drop 1) h)
 
 -- all but that of a text

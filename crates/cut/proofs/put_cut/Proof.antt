@@ -21,13 +21,13 @@ Inv-loop out₀ a beyond at₀ out at =
 abbrev μ-loop : tie.MeasureT-loop
 μ-loop out₀ a beyond at₀ out at = length a - at
 
--- src/lib.rt:52:5
+-- src/lib.rt:61:5
 loop-holds : tie.Need-loop-holds Inv-loop μ-loop
 loop-holds c =
     let args = c .before .before .before .args in
     (omega arith, refl, λ rs qs o p. written-start (args .a .now) (items qs) rs (args .out .now) o)
 
--- src/lib.rt:53:22
+-- src/lib.rt:62:22
 width-of-requires : tie.Need-width-of-requires Inv-loop μ-loop
 width-of-requires c κs =
     let start = c .before .before .before .before .before .before in
@@ -39,7 +39,7 @@ width-of-requires c κs =
     let n = next (start .args .a .now) (loop .at) (m .after) (c .before .loop-test .taken) (m .rest) in
     simp tail-is (n .enough)
 
--- src/lib.rt:53:17
+-- src/lib.rt:62:17
 add-e : tie.Need-add-e Inv-loop μ-loop
 add-e c =
     let start = c .before .before .before .before .before .before .before in
@@ -52,7 +52,7 @@ add-e c =
     let e = simp tail-is at (c .width-of .ensures) in
     omega (arith, n .fit)
 
--- src/lib.rt:54:21
+-- src/lib.rt:63:21
 part-put-cut-one-end : tie.Need-part-put-cut-one-end Inv-loop μ-loop
 part-put-cut-one-end c =
     let start = c .before .before .before .before .before .before .before in
@@ -65,7 +65,7 @@ part-put-cut-one-end c =
     let e = simp tail-is at (c .width-of .ensures) in
     omega (arith, n .fit)
 
--- src/lib.rt:54:37
+-- src/lib.rt:63:37
 part-put-cut-one-end-2 : tie.Need-part-put-cut-one-end-2 Inv-loop μ-loop
 part-put-cut-one-end-2 c =
     let start = c .before .before .before .before .before .before .before .before in
@@ -79,7 +79,7 @@ part-put-cut-one-end-2 c =
     let e = simp tail-is at (c .before .width-of .ensures) in
     omega (arith, n .fit)
 
--- src/lib.rt:54:9
+-- src/lib.rt:63:9
 put-cut-one-requires : tie.Need-put-cut-one-requires Inv-loop μ-loop
 put-cut-one-requires c κs =
     let after-loop = c .before .before .before .before .before in
@@ -105,7 +105,7 @@ put-cut-one-requires c κs =
           omega (arith, n .fit, n .width),
     )
 
--- src/lib.rt:52:5
+-- src/lib.rt:61:5
 loop-less : tie.Need-loop-less Inv-loop μ-loop
 loop-less c =
     let after-width-of = c .before .before .before .before .before in
@@ -121,7 +121,7 @@ loop-less c =
     let e = simp tail-is at (width-of .ensures) in
     omega (arith, n .fit, n .least)
 
--- src/lib.rt:52:5
+-- src/lib.rt:61:5
 loop-again : tie.Need-loop-again Inv-loop μ-loop
 loop-again c =
     let after-width-of = c .before .before .before .before .before in
@@ -152,11 +152,11 @@ loop-again c =
           (put-cut-one .ensures (n .first) qs (n .good) (next-slice a at-now (width-of .result) (m .after) n e) p),
     )
 
--- src/lib.rt:47:1
+-- src/lib.rt:56:1
 same-length : tie.Need-same-length Inv-loop μ-loop
 same-length c = c .before .loop .inv .1
 
--- src/lib.rt:47:1
+-- src/lib.rt:56:1
 returns : tie.Need-returns Inv-loop μ-loop
 returns c =
     let args = c .before .before .before .before .before .args in
@@ -174,14 +174,14 @@ put-cut-spec =
     Inv-loop
     μ-loop
     loop-holds
-    -- by search: sub-width-of 53:37, part-width-of-start 53:37, part-width-of-end 53:37
+    -- by search: sub-width-of 62:37, part-width-of-start 62:37, part-width-of-end 62:37
     (λ c. search needs) (λ c. search needs) (λ c. search needs)
     width-of-requires
     add-e
-    -- by search: sub-put-cut-one 54:21, part-put-cut-one-start 54:21
+    -- by search: sub-put-cut-one 63:21, part-put-cut-one-start 63:21
     (λ c. search needs) (λ c. search needs)
     part-put-cut-one-end
-    -- by search: sub-put-cut-one-2 54:37, part-put-cut-one-start-2 54:37
+    -- by search: sub-put-cut-one-2 63:37, part-put-cut-one-start-2 63:37
     (λ c. search needs) (λ c. search needs)
     part-put-cut-one-end-2
     put-cut-one-requires

@@ -11,26 +11,26 @@ use borrow.Author.Needs.{needs}
 use Rattle.cut.proofs.put_cut_one.Statement.{statement}
 use Rattle.cut.proofs.put_cut_one.Tie as tie
 
--- src/lib.rt:42:40
+-- src/lib.rt:51:40
 kind-of-requires : tie.Need-kind-of-requires
 kind-of-requires c κs =
     let start = c .before .before .before in
     one-least (start .args .t .now) (start .pre .0)
 
--- src/lib.rt:42:58
+-- src/lib.rt:51:58
 number-of-requires : tie.Need-number-of-requires
 number-of-requires c κs =
     let start = c .before .before .before .before in
     one-least (start .args .t .now) (start .pre .0)
 
--- src/lib.rt:43:5
+-- src/lib.rt:52:5
 put-turned-requires : tie.Need-put-turned-requires
 put-turned-requires c κs =
     let start = c .before .before .before .before .before .before .before in
     let pre = start .pre in
     (one-least (start .args .t .now) (pre .0), pre .2)
 
--- src/lib.rt:38:1
+-- src/lib.rt:47:1
 returns : tie.Need-returns
 returns c =
     let after-number-of = c .before .before .before .before .before in
@@ -53,9 +53,9 @@ put-cut-one-spec =
     (tie.spec
     kind-of-requires
     number-of-requires
-    -- by search: has-other-requires 42:9
+    -- by search: has-other-requires 51:9
     (λ c κs. search needs)
     put-turned-requires
-    -- by search: same-length 38:1
+    -- by search: same-length 47:1
     (λ c. search needs)
     returns)

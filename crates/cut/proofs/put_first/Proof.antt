@@ -18,13 +18,13 @@ use borrow.Author.Needs.{needs}
 use Rattle.cut.proofs.put_first.Statement.{statement}
 use Rattle.cut.proofs.put_first.Tie as tie
 
--- src/lib.rt:76:9
+-- src/lib.rt:85:9
 place-of-requires : tie.Need-place-of-requires
 place-of-requires c κs =
     let (xs, o, room) = c .before .before .pre in
     (content-records xs, o)
 
--- src/lib.rt:79:26
+-- src/lib.rt:88:26
 slice-aggregate-put-cut : tie.Need-slice-aggregate-put-cut
 slice-aggregate-put-cut c =
     let start = c .before .before .before .before .before in
@@ -35,7 +35,7 @@ slice-aggregate-put-cut c =
     let s = sides (args .k) c₀ xs (place-of .result) o (place-of .ensures (content-records xs) o) in
     sym (length-take-le (place-of .result .at) c₀ (s .fit))
 
--- src/lib.rt:79:36
+-- src/lib.rt:88:36
 sub-put-cut : tie.Need-sub-put-cut
 sub-put-cut c =
     let start = c .before .before .before .before .before in
@@ -45,7 +45,7 @@ sub-put-cut c =
     (place-of .ensures (content-records xs) o) in
     s .fit
 
--- src/lib.rt:79:36
+-- src/lib.rt:88:36
 part-put-cut-start : tie.Need-part-put-cut-start
 part-put-cut-start c =
     let start = c .before .before .before .before .before in
@@ -58,7 +58,7 @@ part-put-cut-start c =
     let f = first-least k c₀ xs (place-of .result) s in
     omega (arith, s .fit)
 
--- src/lib.rt:79:9
+-- src/lib.rt:88:9
 put-cut-requires : tie.Need-put-cut-requires
 put-cut-requires c κs =
     let start = c .before .before .before .before .before .before in
@@ -72,7 +72,7 @@ put-cut-requires c κs =
     let tl = length-take-le (place-of .result .at) c₀ (s .fit) in
     ((s .before, s .front), (s .after, as-slice c₀ (place-of .result .at) (s .after) (s .back)), omega arith)
 
--- src/lib.rt:81:9
+-- src/lib.rt:90:9
 returns : tie.Need-returns
 returns c =
     let after-place-of = c .before .before .before .before .before .before .before in
@@ -90,7 +90,7 @@ returns c =
           ∙ ap (λ (l : List ℕ). lead l (args .out .now)) (sym (s .first (c .if1 .taken))),
     )
 
--- src/lib.rt:83:13
+-- src/lib.rt:92:13
 add-s : tie.Need-add-s
 add-s c =
     let after-place-of = c .before .before .before .before .before .before .before in
@@ -105,7 +105,7 @@ add-s c =
     let i = s .inner (omega arith) in
     omega (arith, i .fit, i .less)
 
--- src/lib.rt:84:13
+-- src/lib.rt:93:13
 add-e : tie.Need-add-e
 add-e c =
     let after-place-of = c .before .before .before .before .before .before .before in
@@ -120,7 +120,7 @@ add-e c =
     let i = s .inner (omega arith) in
     omega (arith, i .fit, i .less)
 
--- src/lib.rt:85:22
+-- src/lib.rt:94:22
 sub-put-text : tie.Need-sub-put-text
 sub-put-text c =
     let after-place-of = c .before .before .before .before .before .before .before in
@@ -136,7 +136,7 @@ sub-put-text c =
     let tl = length-take-le (place-of .result .at) c₀ (s .fit) in
     omega (arith, put-cut .ensures .0)
 
--- src/lib.rt:85:22
+-- src/lib.rt:94:22
 part-put-text-start : tie.Need-part-put-text-start
 part-put-text-start c =
     let after-place-of = c .before .before .before .before .before .before .before in
@@ -152,7 +152,7 @@ part-put-text-start c =
     let tl = length-take-le (place-of .result .at) c₀ (s .fit) in
     omega (arith, put-cut .ensures .0)
 
--- src/lib.rt:85:37
+-- src/lib.rt:94:37
 part-put-text-end-2 : tie.Need-part-put-text-end-2
 part-put-text-end-2 c =
     let after-place-of = c .before .before .before .before .before .before .before .before in
@@ -167,7 +167,7 @@ part-put-text-end-2 c =
     let i = s .inner (omega arith) in
     omega (arith, i .fit, i .less)
 
--- src/lib.rt:85:9
+-- src/lib.rt:94:9
 put-text-requires : tie.Need-put-text-requires
 put-text-requires c κs =
     let after-put-cut = c .before .before .before .before .before in
@@ -191,7 +191,7 @@ put-text-requires c κs =
           (drop (place-of .result .at + 4) c₀))) (omega (arith, put-cut .ensures .0)),
     )
 
--- src/lib.rt:86:5
+-- src/lib.rt:95:5
 add-result : tie.Need-add-result
 add-result c =
     let after-put-cut = c .before .before .before .before .before .before .before .before in
@@ -211,7 +211,7 @@ add-result c =
     let ld = length-drop (place-of .result .at + 4) c₀ in
     omega (arith, i .fit, i .less, put-cut .ensures .0, c .before .before .put-text .ensures .0)
 
--- src/lib.rt:72:1
+-- src/lib.rt:81:1
 returns-2 : tie.Need-returns-2
 returns-2 c =
     let after-put-cut = c .before .before .before .before .before .before .before .before in
@@ -256,21 +256,21 @@ put-first-spec =
     slice-aggregate-put-cut
     sub-put-cut
     part-put-cut-start
-    -- by search: part-put-cut-end 79:36
+    -- by search: part-put-cut-end 88:36
     (λ c. search needs)
     put-cut-requires
-    -- by search: same-length 81:9
+    -- by search: same-length 90:9
     (λ c. search needs)
     returns
     add-s
     add-e
     sub-put-text
     part-put-text-start
-    -- by search: part-put-text-end 85:22, sub-put-text-2 85:37, part-put-text-start-2 85:37
+    -- by search: part-put-text-end 94:22, sub-put-text-2 94:37, part-put-text-start-2 94:37
     (λ c. search needs) (λ c. search needs) (λ c. search needs)
     part-put-text-end-2
     put-text-requires
     add-result
-    -- by search: same-length-2 72:1
+    -- by search: same-length-2 81:1
     (λ c. search needs)
     returns-2)

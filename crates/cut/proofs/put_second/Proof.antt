@@ -13,13 +13,13 @@ use borrow.Author.Needs.{needs}
 use Rattle.cut.proofs.put_second.Statement.{statement}
 use Rattle.cut.proofs.put_second.Tie as tie
 
--- src/lib.rt:94:9
+-- src/lib.rt:103:9
 place-of-requires : tie.Need-place-of-requires
 place-of-requires c κs =
     let (xs, o, room) = c .before .before .pre in
     (content-records xs, o)
 
--- src/lib.rt:98:29
+-- src/lib.rt:107:29
 sub-put-cut : tie.Need-sub-put-cut
 sub-put-cut c =
     let start = c .before .before .before .before .before in
@@ -29,7 +29,7 @@ sub-put-cut c =
     (place-of .ensures (content-records xs) o) in
     s .fit
 
--- src/lib.rt:98:29
+-- src/lib.rt:107:29
 part-put-cut-start : tie.Need-part-put-cut-start
 part-put-cut-start c =
     let start = c .before .before .before .before .before in
@@ -42,7 +42,7 @@ part-put-cut-start c =
     let q = second-size k c₀ xs (place-of .result) s in
     omega (arith, s .fit)
 
--- src/lib.rt:98:39
+-- src/lib.rt:107:39
 slice-aggregate-put-cut : tie.Need-slice-aggregate-put-cut
 slice-aggregate-put-cut c =
     let start = c .before .before .before .before .before .before .before in
@@ -53,7 +53,7 @@ slice-aggregate-put-cut c =
     let s = sides (args .k) c₀ xs (place-of .result) o (place-of .ensures (content-records xs) o) in
     sym (length-take-le (place-of .result .at) c₀ (s .fit))
 
--- src/lib.rt:98:9
+-- src/lib.rt:107:9
 put-cut-requires : tie.Need-put-cut-requires
 put-cut-requires c κs =
     let start = c .before .before .before .before .before .before .before in
@@ -70,7 +70,7 @@ put-cut-requires c κs =
     let d = length-drop (place-of .result .at) c₀ in
     ((s .after, as-slice c₀ (place-of .result .at) (s .after) (s .back)), (s .before, s .front), omega arith)
 
--- src/lib.rt:98:9
+-- src/lib.rt:107:9
 returns : tie.Need-returns
 returns c =
     let args = c .before .before .before .before .before .before .before .before .before .before .args in
@@ -90,7 +90,7 @@ returns c =
           ∙ ap (λ (l : List ℕ). lead l (args .out .now)) (sym (s .second (if1 .taken))),
     )
 
--- src/lib.rt:100:33
+-- src/lib.rt:109:33
 sub-width-of : tie.Need-sub-width-of
 sub-width-of c =
     let start = c .before .before .before .before in
@@ -100,7 +100,7 @@ sub-width-of c =
     (place-of .ensures (content-records xs) o) in
     s .fit
 
--- src/lib.rt:100:33
+-- src/lib.rt:109:33
 part-width-of-start : tie.Need-part-width-of-start
 part-width-of-start c =
     let start = c .before .before .before .before in
@@ -113,7 +113,7 @@ part-width-of-start c =
     let q = second-size k c₀ xs (place-of .result) s in
     omega (arith, s .fit)
 
--- src/lib.rt:100:18
+-- src/lib.rt:109:18
 width-of-requires : tie.Need-width-of-requires
 width-of-requires c κs =
     let start = c .before .before .before .before .before in
@@ -127,7 +127,7 @@ width-of-requires c κs =
     let i = s .inner (omega arith) in
     simp tail-is (let d = length-drop (place-of .result .at) c₀ in omega (arith, i .fit))
 
--- src/lib.rt:100:13
+-- src/lib.rt:109:13
 add-e : tie.Need-add-e
 add-e c =
     let start = c .before .before .before .before .before .before in
@@ -143,7 +143,7 @@ add-e c =
     let wi = w ∙ i .width in
     omega (arith, i .fit)
 
--- src/lib.rt:101:13
+-- src/lib.rt:110:13
 add-s : tie.Need-add-s
 add-s c =
     let start = c .before .before .before .before .before .before in
@@ -159,7 +159,7 @@ add-s c =
     let wi = w ∙ i .width in
     omega (arith, i .fit)
 
--- src/lib.rt:101:13
+-- src/lib.rt:110:13
 add-s-2 : tie.Need-add-s-2
 add-s-2 c =
     let start = c .before .before .before .before .before .before in
@@ -175,7 +175,7 @@ add-s-2 c =
     let wi = w ∙ i .width in
     omega (arith, i .fit, i .less)
 
--- src/lib.rt:102:27
+-- src/lib.rt:111:27
 sub-put-text : tie.Need-sub-put-text
 sub-put-text c =
     let start = c .before .before .before .before .before .before .before in
@@ -191,7 +191,7 @@ sub-put-text c =
     let wi = w ∙ i .width in
     omega (arith, i .fit, i .less)
 
--- src/lib.rt:102:27
+-- src/lib.rt:111:27
 part-put-text-start : tie.Need-part-put-text-start
 part-put-text-start c =
     let start = c .before .before .before .before .before .before .before in
@@ -207,7 +207,7 @@ part-put-text-start c =
     let wi = w ∙ i .width in
     omega (arith, i .fit, i .less)
 
--- src/lib.rt:102:27
+-- src/lib.rt:111:27
 part-put-text-end : tie.Need-part-put-text-end
 part-put-text-end c =
     let start = c .before .before .before .before .before .before .before in
@@ -223,7 +223,7 @@ part-put-text-end c =
     let wi = w ∙ i .width in
     omega (arith, i .fit, i .less)
 
--- src/lib.rt:102:9
+-- src/lib.rt:111:9
 put-text-requires : tie.Need-put-text-requires
 put-text-requires c κs =
     let start = c .before .before .before .before .before .before .before .before in
@@ -242,7 +242,7 @@ put-text-requires c κs =
     (place-of .result .at + width-of .result) (omega (arith, i .less)) (omega (arith, i .fit)) in
     (omega (arith, i .small), omega (arith, i .fit, i .less))
 
--- src/lib.rt:103:21
+-- src/lib.rt:112:21
 sub-put-cut-2 : tie.Need-sub-put-cut-2
 sub-put-cut-2 c =
     let start = c .before .before .before .before .before .before .before .before .before .before .before in
@@ -261,7 +261,7 @@ sub-put-cut-2 c =
     (place-of .result .at + width-of .result) (omega (arith, i .less)) (omega (arith, i .fit)) in
     omega (arith, i .fit, i .less, c .before .before .put-text .ensures .0)
 
--- src/lib.rt:103:21
+-- src/lib.rt:112:21
 part-put-cut-start-2 : tie.Need-part-put-cut-start-2
 part-put-cut-start-2 c =
     let start = c .before .before .before .before .before .before .before .before .before .before .before in
@@ -280,7 +280,7 @@ part-put-cut-start-2 c =
     (place-of .result .at + width-of .result) (omega (arith, i .less)) (omega (arith, i .fit)) in
     omega (arith, i .fit, i .less, c .before .before .put-text .ensures .0)
 
--- src/lib.rt:103:36
+-- src/lib.rt:112:36
 sub-put-cut-3 : tie.Need-sub-put-cut-3
 sub-put-cut-3 c =
     let start = c .before .before .before .before .before .before .before .before .before .before .before .before in
@@ -297,7 +297,7 @@ sub-put-cut-3 c =
     let wi = w ∙ i .width in
     omega (arith, i .fit)
 
--- src/lib.rt:103:36
+-- src/lib.rt:112:36
 part-put-cut-start-3 : tie.Need-part-put-cut-start-3
 part-put-cut-start-3 c =
     let start = c .before .before .before .before .before .before .before .before .before .before .before .before in
@@ -314,7 +314,7 @@ part-put-cut-start-3 c =
     let wi = w ∙ i .width in
     omega (arith, i .fit)
 
--- src/lib.rt:103:45
+-- src/lib.rt:112:45
 slice-aggregate-put-cut-2 : tie.Need-slice-aggregate-put-cut-2
 slice-aggregate-put-cut-2 c =
     let start = c .before .before .before .before .before .before .before .before .before .before .before .before
@@ -327,7 +327,7 @@ slice-aggregate-put-cut-2 c =
     let s = sides (args .k) c₀ xs (place-of .result) o (place-of .ensures (content-records xs) o) in
     sym (length-take-le (place-of .result .at) c₀ (s .fit))
 
--- src/lib.rt:103:9
+-- src/lib.rt:112:9
 put-cut-requires-2 : tie.Need-put-cut-requires-2
 put-cut-requires-2 c κs =
     let start = c .before .before .before .before .before .before .before .before .before .before .before .before
@@ -358,7 +358,7 @@ put-cut-requires-2 c κs =
       tail-room (put-text .last .0) (put-text .result) _ (omega (arith, i .fit, i .less, put-text .ensures .0)),
     )
 
--- src/lib.rt:104:5
+-- src/lib.rt:113:5
 add-result : tie.Need-add-result
 add-result c =
     let start = c .before .before .before .before .before .before .before .before .before .before .before .before
@@ -381,7 +381,7 @@ add-result c =
           (put-cut2 .result) (put-text .ensures .0) (put-cut2 .ensures .0),
     )
 
--- src/lib.rt:90:1
+-- src/lib.rt:99:1
 returns-2 : tie.Need-returns-2
 returns-2 c =
     let args = c .before .before .before .before .before .before .before .before .before .before .before .before
@@ -407,16 +407,16 @@ put-second-spec =
     place-of-requires
     sub-put-cut
     part-put-cut-start
-    -- by search: part-put-cut-end 98:29
+    -- by search: part-put-cut-end 107:29
     (λ c. search needs)
     slice-aggregate-put-cut
     put-cut-requires
-    -- by search: same-length 98:9
+    -- by search: same-length 107:9
     (λ c. search needs)
     returns
     sub-width-of
     part-width-of-start
-    -- by search: part-width-of-end 100:33
+    -- by search: part-width-of-end 109:33
     (λ c. search needs)
     width-of-requires
     add-e
@@ -428,15 +428,15 @@ put-second-spec =
     put-text-requires
     sub-put-cut-2
     part-put-cut-start-2
-    -- by search: part-put-cut-end-2 103:21
+    -- by search: part-put-cut-end-2 112:21
     (λ c. search needs)
     sub-put-cut-3
     part-put-cut-start-3
-    -- by search: part-put-cut-end-3 103:36
+    -- by search: part-put-cut-end-3 112:36
     (λ c. search needs)
     slice-aggregate-put-cut-2
     put-cut-requires-2
     add-result
-    -- by search: same-length-2 90:1
+    -- by search: same-length-2 99:1
     (λ c. search needs)
     returns-2)
