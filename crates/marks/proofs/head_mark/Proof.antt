@@ -8,48 +8,62 @@ use Rattle.marks.proofs.head_mark.Tie as tie
 returns : tie.Need-returns
 unfolding headMark
 returns c =
-    simp (sym (c .before .marked-by .ensures) ∙ c .if1 .taken)
+    let first = c in
+    simp (sym (first .before .marked-by .ensures) ∙ first .if1 .taken)
 
 -- TG
 returns-2 : tie.Need-returns-2
 unfolding headMark
 returns-2 c =
+    let second = c in
+    let first = second .before .before .before in
     simp (
-      sym (c .before .marked-by2 .ensures) ∙ c .if2 .taken,
-      sym (c .before .before .before .before .marked-by .ensures) ∙ c .before .before .before .if1 .left,
+      sym (second .before .marked-by2 .ensures) ∙ second .if2 .taken,
+      sym (first .before .marked-by .ensures) ∙ first .if1 .left,
     )
 
 -- MO
 returns-3 : tie.Need-returns-3
 unfolding headMark
 returns-3 c =
+    let third = c in
+    let second = third .before .before .before in
+    let first = second .before .before .before in
     simp (
-      sym (c .before .marked-by3 .ensures) ∙ c .if3 .taken,
-      sym (c .before .before .before .before .marked-by2 .ensures) ∙ c .before .before .before .if2 .left,
-      sym (c .before .before .before .before .before .before .before .marked-by .ensures) ∙ c .before .before .before .before .before .before .if1 .left,
+      sym (third .before .marked-by3 .ensures) ∙ third .if3 .taken,
+      sym (second .before .marked-by2 .ensures) ∙ second .if2 .left,
+      sym (first .before .marked-by .ensures) ∙ first .if1 .left,
     )
 
 -- MC
 returns-4 : tie.Need-returns-4
 unfolding headMark
 returns-4 c =
+    let fourth = c in
+    let third = fourth .before .before .before in
+    let second = third .before .before .before in
+    let first = second .before .before .before in
     simp (
-      sym (c .before .marked-by4 .ensures) ∙ c .if4 .taken,
-      sym (c .before .before .before .before .marked-by3 .ensures) ∙ c .before .before .before .if3 .left,
-      sym (c .before .before .before .before .before .before .before .marked-by2 .ensures) ∙ c .before .before .before .before .before .before .if2 .left,
-      sym (c .before .before .before .before .before .before .before .before .before .before .marked-by .ensures) ∙ c .before .before .before .before .before .before .before .before .before .if1 .left,
+      sym (fourth .before .marked-by4 .ensures) ∙ fourth .if4 .taken,
+      sym (third .before .marked-by3 .ensures) ∙ third .if3 .left,
+      sym (second .before .marked-by2 .ensures) ∙ second .if2 .left,
+      sym (first .before .marked-by .ensures) ∙ first .if1 .left,
     )
 
 -- none of them
 returns-5 : tie.Need-returns-5
 unfolding headMark
 returns-5 c =
+    let fourth = c .before in
+    let third = fourth .before .before .before in
+    let second = third .before .before .before in
+    let first = second .before .before .before in
     simp (
       c .start-end-mark .ensures,
-      sym (c .before .before .marked-by4 .ensures) ∙ c .before .if4 .left,
-      sym (c .before .before .before .before .before .marked-by3 .ensures) ∙ c .before .before .before .before .if3 .left,
-      sym (c .before .before .before .before .before .before .before .before .marked-by2 .ensures) ∙ c .before .before .before .before .before .before .before .if2 .left,
-      sym (c .before .before .before .before .before .before .before .before .before .before .before .marked-by .ensures) ∙ c .before .before .before .before .before .before .before .before .before .before .if1 .left,
+      sym (fourth .before .marked-by4 .ensures) ∙ fourth .if4 .left,
+      sym (third .before .marked-by3 .ensures) ∙ third .if3 .left,
+      sym (second .before .marked-by2 .ensures) ∙ second .if2 .left,
+      sym (first .before .marked-by .ensures) ∙ first .if1 .left,
     )
 
 pub head-mark-spec : {M : Type 1} → statement M

@@ -15,20 +15,21 @@ returns c = sym (no-mark (c .before .before .args .t .now) (omega arith))
 returns-2 : tie.Need-returns-2
 unfolding commonMark
 returns-2 c =
-    let t = c .before .before .before .before .before .args .t .now in
-    let found : commonMark t ≡ TX =
-    simp (sym (c .before .marked-by .ensures) ∙ c .if2 .taken) in
+    let first = c in
+    let t = first .before .before .before .before .before .args .t .now in
+    let found : commonMark t ≡ TX = simp (sym (first .before .marked-by .ensures) ∙ first .if2 .taken) in
     sym (ap meaning found) ∙ mark-same t (omega arith)
 
 -- PO
 returns-3 : tie.Need-returns-3
 unfolding commonMark
 returns-3 c =
-    let t = c .before .before .before .before .before .before .before .before .args .t .now in
-    let found : commonMark t ≡ PO =
-    simp (
-      sym (c .before .marked-by2 .ensures) ∙ c .if3 .taken,
-      sym (c .before .before .before .before .marked-by .ensures) ∙ c .before .before .before .if2 .left,
+    let second = c in
+    let first = second .before .before .before in
+    let t = first .before .before .before .before .before .args .t .now in
+    let found : commonMark t ≡ PO = simp (
+      sym (second .before .marked-by2 .ensures) ∙ second .if3 .taken,
+      sym (first .before .marked-by .ensures) ∙ first .if2 .left,
     ) in
     sym (ap meaning found) ∙ mark-same t (omega arith)
 
@@ -36,12 +37,14 @@ returns-3 c =
 returns-4 : tie.Need-returns-4
 unfolding commonMark
 returns-4 c =
-    let t = c .before .before .before .before .before .before .before .before .before .before .before .args .t .now in
-    let found : commonMark t ≡ PC =
-    simp (
-      sym (c .before .marked-by3 .ensures) ∙ c .if4 .taken,
-      sym (c .before .before .before .before .marked-by2 .ensures) ∙ c .before .before .before .if3 .left,
-      sym (c .before .before .before .before .before .before .before .marked-by .ensures) ∙ c .before .before .before .before .before .before .if2 .left,
+    let third = c in
+    let second = third .before .before .before in
+    let first = second .before .before .before in
+    let t = first .before .before .before .before .before .args .t .now in
+    let found : commonMark t ≡ PC = simp (
+      sym (third .before .marked-by3 .ensures) ∙ third .if4 .taken,
+      sym (second .before .marked-by2 .ensures) ∙ second .if3 .left,
+      sym (first .before .marked-by .ensures) ∙ first .if2 .left,
     ) in
     sym (ap meaning found) ∙ mark-same t (omega arith)
 
@@ -49,13 +52,16 @@ returns-4 c =
 returns-5 : tie.Need-returns-5
 unfolding commonMark
 returns-5 c =
-    let t = c .before .before .before .before .before .before .before .before .before .before .before .before .before .before .args .t .now in
-    let found : commonMark t ≡ PH =
-    simp (
-      sym (c .before .marked-by4 .ensures) ∙ c .if5 .taken,
-      sym (c .before .before .before .before .marked-by3 .ensures) ∙ c .before .before .before .if4 .left,
-      sym (c .before .before .before .before .before .before .before .marked-by2 .ensures) ∙ c .before .before .before .before .before .before .if3 .left,
-      sym (c .before .before .before .before .before .before .before .before .before .before .marked-by .ensures) ∙ c .before .before .before .before .before .before .before .before .before .if2 .left,
+    let fourth = c in
+    let third = fourth .before .before .before in
+    let second = third .before .before .before in
+    let first = second .before .before .before in
+    let t = first .before .before .before .before .before .args .t .now in
+    let found : commonMark t ≡ PH = simp (
+      sym (fourth .before .marked-by4 .ensures) ∙ fourth .if5 .taken,
+      sym (third .before .marked-by3 .ensures) ∙ third .if4 .left,
+      sym (second .before .marked-by2 .ensures) ∙ second .if3 .left,
+      sym (first .before .marked-by .ensures) ∙ first .if2 .left,
     ) in
     sym (ap meaning found) ∙ mark-same t (omega arith)
 
@@ -63,14 +69,17 @@ returns-5 c =
 returns-6 : tie.Need-returns-6
 unfolding commonMark
 returns-6 c =
-    let t = c .before .before .before .before .before .before .before .before .before .before .before .before .before .before .before .args .t .now in
-    let found : commonMark t ≡ c .head-mark .result =
-    simp (
+    let fourth = c .before in
+    let third = fourth .before .before .before in
+    let second = third .before .before .before in
+    let first = second .before .before .before in
+    let t = first .before .before .before .before .before .args .t .now in
+    let found : commonMark t ≡ c .head-mark .result = simp (
       c .head-mark .ensures,
-      sym (c .before .before .marked-by4 .ensures) ∙ c .before .if5 .left,
-      sym (c .before .before .before .before .before .marked-by3 .ensures) ∙ c .before .before .before .before .if4 .left,
-      sym (c .before .before .before .before .before .before .before .before .marked-by2 .ensures) ∙ c .before .before .before .before .before .before .before .if3 .left,
-      sym (c .before .before .before .before .before .before .before .before .before .before .before .marked-by .ensures) ∙ c .before .before .before .before .before .before .before .before .before .before .if2 .left,
+      sym (fourth .before .marked-by4 .ensures) ∙ fourth .if5 .left,
+      sym (third .before .marked-by3 .ensures) ∙ third .if4 .left,
+      sym (second .before .marked-by2 .ensures) ∙ second .if3 .left,
+      sym (first .before .marked-by .ensures) ∙ first .if2 .left,
     ) in
     sym (ap meaning found) ∙ mark-same t (omega arith)
 
