@@ -10,8 +10,8 @@ use lib.Seq.{drop-drop}
 use borrow.Author.Tests.{ne-eqb}
 use Rattle.xliff.specs.Bytes.{two-at, enough}
 use Rattle.xliff.specs.Parse as parse
-use Rattle.xliff.specs.Parse.{is, mark-at}
-use Rattle.xliff.specs.Desk.{size-of, whole-size, is-UE, to-UE, table-length}
+use Rattle.xliff.specs.Parse.{is, mark-at, size-of}
+use Rattle.xliff.specs.Desk.{whole-size, is-UE, to-UE, table-length}
 use Rattle.xliff.proofs.lists.Tests.{enough-length}
 use Rattle.marks.specs.Marks.{marked, meaning, fixedWidth}
 use Rattle.marks.specs.declared.Mark.{Mark}
@@ -29,7 +29,7 @@ whole-yes n s h = rw (enough-yes n s h) refl
 
 -- the size by the mark, where the bytes of a text's length may be missing
 pub short-size : (m : Mark) (s : List ℕ) → length s < 4 → meaning m ≡ mark-at s → wholeOf (fixedWidth m) s ≡ whole-size s
-unfolding whole-size wholeOf size-of
+unfolding whole-size wholeOf two-at
 short-size m s h e =
     fixed-or-text m s (ap (λ (n : ℕ). wholeOf n s))
     (λ x. ap (λ (n : Mark). wholeOf (fixedWidth n) s) x ∙ sym (whole-not 4 s (omega arith)) ∙ whole-not (4 + two-at s 2) s (omega arith)
@@ -37,7 +37,7 @@ short-size m s h e =
     ∙ ap (λ (k : parse.Mark). wholeOf (size-of k s) s) e
 
 no-record : whole-size [] ≡ 0
-unfolding whole-size mark-at size-of enough
+unfolding whole-size mark-at enough
 no-record = refl
 
 pub end-is : (s : List ℕ) → 2 ≤ length s → marked s (85 ∷ 69 ∷ []) ≡ is-UE s

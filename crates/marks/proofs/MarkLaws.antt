@@ -10,8 +10,7 @@ use lib.Dec.{eqb, leb}
 use borrow.Author.Tests.{eqb-true, le-leb}
 use types.Run.{OneOf, miss}
 use denote.Enum.Declared.{tagOf}
-use Rattle.xliff.specs.Parse.{unknown, is, mark-of, mark-at}
-use Rattle.xliff.specs.Desk.{size-of}
+use Rattle.xliff.specs.Parse.{unknown, is, mark-of, mark-at, size-of}
 use Rattle.xliff.proofs.lists.Tests.{and-left, and-right}
 use Rattle.marks.specs.Marks.{marked, rareMark, startEndMark, headMark, commonMark, meaning, fixedWidth}
 use Rattle.marks.specs.declared.Mark.{Mark}
@@ -88,7 +87,6 @@ no-mark (a ∷ b ∷ s) h = absurd (omega arith)
 
 -- A mark is that of a text, or all its records have one width: the specification's
 pub fixed-or-text : {A : Type 0} (m : Mark) (s : List ℕ) → (fixedWidth m ≡ size-of (meaning m) s → A) → (m ≡ TX → A) → A
-unfolding size-of
 fixed-or-text UN s fixed text = fixed refl
 fixed-or-text UE s fixed text = fixed refl
 fixed-or-text SG s fixed text = fixed refl

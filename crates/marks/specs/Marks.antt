@@ -70,22 +70,4 @@ meaning Unknown = parse.unknown
 
 -- the bytes of a record of a mark, a text's without its characters
 abbrev pub fixedWidth : Mark → ℕ
-fixedWidth UN = 3
-fixedWidth UE = 2
-fixedWidth SG = 6
-fixedWidth IG = 4
-fixedWidth TG = 4
-fixedWidth TX = 4
-fixedWidth CP = 6
-fixedWidth PH = 12
-fixedWidth PO = 12
-fixedWidth PC = 12
-fixedWidth SC = 12
-fixedWidth EC = 12
-fixedWidth IS = 12
-fixedWidth IE = 12
-fixedWidth MO = 5
-fixedWidth SM = 5
-fixedWidth MC = 4
-fixedWidth EM = 4
-fixedWidth Unknown = 0
+fixedWidth m = parse.size-of (meaning m) []

@@ -3,8 +3,7 @@ ghost use mathlib.Core.Path.{_≡_};
 ghost use Prim.Native.Nat.{_+_, _<_, _≤_};
 ghost use lib.ListN.{length};
 ghost use Rattle.xliff.specs.Bytes.{two-at};
-ghost use Rattle.xliff.specs.Parse.{mark-at};
-ghost use Rattle.xliff.specs.Desk.{size-of};
+ghost use Rattle.xliff.specs.Parse.{mark-at, size-of};
 ghost use Rattle.marks.specs.Marks.{marked, startEndMark, headMark, rareMark, meaning, fixedWidth};
 
 pub enum Mark {

@@ -9,8 +9,7 @@ use lib.Seq.{drop-append-seam, take-append-seam, drop-drop}
 use lib.Dec.{eqb}
 use Rattle.xliff.specs.Bytes.{two, gather}
 use Rattle.xliff.specs.Item.{Item, start, end, form-P, form-S, text, character, standalone, isolated, pair, annotation-start, annotation-end, mark}
-use Rattle.xliff.specs.Parse.{is, mark-of, mark-at}
-use Rattle.xliff.specs.Desk.{size-of}
+use Rattle.xliff.specs.Parse.{is, mark-of, mark-at, size-of}
 use Rattle.xliff.specs.Unit.{Head, segment, ignorable}
 use Rattle.xliff.specs.Encode.{Record, part-head, target-head, text-run, inline, head-bytes, record-bytes, spell}
 use Rattle.xliff.proofs.lists.Tests.{two-value, and-false}
@@ -22,7 +21,7 @@ use Rattle.writer.specs.Pieces.{lead, overlay, numberBytes}
 use Rattle.parts.specs.Parts.{InPart, head-in, target-in, item-in, text-in, order-record, One}
 
 pub record-width : (r : Record) (s : List ℕ) → InPart r → widthAt (record-bytes r ++ s) ≡ length (record-bytes r)
-unfolding widthAt size-of mark-at mark-of is record-bytes head-bytes two
+unfolding widthAt mark-at mark-of is record-bytes head-bytes two
 record-width (part-head (segment f)) s (head-in g) = refl
 record-width (part-head (ignorable i)) s (head-in g) = refl
 record-width (target-head q) s (target-in l) = refl

@@ -12,8 +12,7 @@ use Rattle.xliff.specs.Bytes.{two, four, two-at, gather, any}
 use Rattle.xliff.specs.Text.{utf8s}
 use Rattle.xliff.specs.Item.{Item, Content, start, end, form-P, form-S, text, character, standalone, isolated, pair, annotation-start, annotation-end, mark, id-of}
 use Rattle.xliff.specs.Encode.{Record, text-run, inline, code-bytes, field-bytes, record-bytes, spell}
-use Rattle.xliff.specs.Parse.{is, mark-of, mark-at, reading, take-record}
-use Rattle.xliff.specs.Desk.{size-of}
+use Rattle.xliff.specs.Parse.{is, mark-of, mark-at, reading, take-record, size-of}
 use Rattle.xliff.proofs.lists.Tests.{two-value, and-false}
 use Rattle.walk.specs.Kept.{Kept, kept-item, kept-text, Of, items, Inline, an-item, a-text, Rest}
 use Rattle.walk.specs.Marks.{number, widthAt, kindAt, kind, opposite, is-other, has-other}
@@ -28,7 +27,7 @@ none k a b = rw (no-opposite k)
 -- an inline record that is good: its width, its kind, its id; and at least four bytes
 module _ (s : List ℕ) where
   pub item-width : (x : Item) → GoodItem x → widthAt (record-bytes (inline x) ++ s) ≡ length (record-bytes (inline x))
-  unfolding widthAt size-of mark-at mark-of is two-at record-bytes mark field-bytes code-bytes two four
+  unfolding widthAt mark-at mark-of is two-at record-bytes mark field-bytes code-bytes two four
   item-width (text c) g = absurd g
   item-width (character c) g = refl
   item-width (standalone f) g = refl
@@ -76,7 +75,7 @@ module _ (s : List ℕ) where
   item-least (annotation-end form-S i) g = omega arith
 
   pub text-width : (cs : List ℕ) → widthAt (record-bytes (text-run cs) ++ s) ≡ length (record-bytes (text-run cs))
-  unfolding widthAt size-of mark-at mark-of is two-at record-bytes two
+  unfolding widthAt mark-at mark-of is two-at record-bytes two
   text-width cs = omega (arith, two-value (length (utf8s cs)))
 
   pub text-kind : (cs : List ℕ) → kindAt (record-bytes (text-run cs) ++ s) ≡ 0

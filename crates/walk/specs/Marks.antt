@@ -5,8 +5,7 @@ use mathlib.Core.List.{List}
 use lib.ListN.{getD}
 use lib.Dec.{eqb}
 use Rattle.xliff.specs.Bytes.{any}
-use Rattle.xliff.specs.Parse.{Mark, UN, UE, SG, IG, TG, TX, CP, PH, PO, PC, SC, EC, IS, IE, MO, SM, MC, EM, unknown, mark-at}
-use Rattle.xliff.specs.Desk.{size-of}
+use Rattle.xliff.specs.Parse.{Mark, UN, UE, SG, IG, TG, TX, CP, PH, PO, PC, SC, EC, IS, IE, MO, SM, MC, EM, unknown, mark-at, size-of}
 use mathlib.Core.Path.{_≡_}
 use Rattle.xliff.specs.Encode.{Record}
 use Rattle.walk.specs.Kept.{Of, items}

@@ -1,6 +1,7 @@
 use mathlib.Core.Path.{_≡_, refl, sym, ap}
 use mathlib.Core.List.{[], _∷_}
 use borrow.Author.Needs.{needs}
+use Rattle.xliff.specs.Bytes.{two-at}
 use Rattle.marks.specs.Marks.{fixedWidth}
 use Rattle.marks.specs.declared.Mark.{Mark}
 use Rattle.marks.specs.declared.Mark.the-variants.{IG, TG, TX, CP, PH, PO, PC, SC, EC, IS, IE, MO, SM, MC, EM, SG}
@@ -22,6 +23,7 @@ returns-3 c = sym (ap fixedWidth (c .enum-told3 .given .1))
 
 -- IG TG TX MC EM
 returns-4 : tie.Need-returns-4
+unfolding two-at
 returns-4 c = in-arm fixedWidth 4 (IG ∷ TG ∷ TX ∷ MC ∷ EM ∷ []) (c .before .args .m) (c .match .keys4) refl
 
 -- MO SM

@@ -1,7 +1,7 @@
 use mathlib.Core.Path.{_≡_, sym, ap, _∙_}
 use Prim.Native.Nat.{ℕ, _+_}
 use borrow.Author.Needs.{needs}
-use Rattle.xliff.specs.Desk.{size-of}
+use Rattle.xliff.specs.Parse.{size-of}
 use Rattle.marks.specs.Marks.{meaning}
 use Rattle.marks.specs.declared.Mark.{Mark}
 use Rattle.marks.proofs.MarkLaws.{fixed-size}
@@ -10,7 +10,6 @@ use Rattle.marks.proofs.width_by.Tie as tie
 
 -- a text: the length behind its mark
 returns : tie.Need-returns
-unfolding size-of
 returns c =
     let t = c .before .before .before .before .args .t .now in
     ap (λ (n : ℕ). 4 + n) (c .number-at .ensures) ∙ sym (ap (λ (m : Mark). size-of (meaning m) t) (c .before .enum-told .given .1))

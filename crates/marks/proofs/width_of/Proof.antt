@@ -1,7 +1,7 @@
 use mathlib.Core.Path.{_≡_, ap, _∙_}
 use borrow.Author.Needs.{needs}
 use Rattle.xliff.specs.Parse as parse
-use Rattle.xliff.specs.Desk.{size-of}
+use Rattle.xliff.specs.Parse.{size-of}
 use Rattle.marks.proofs.width_of.Statement.{statement}
 use Rattle.marks.proofs.width_of.Tie as tie
 
