@@ -146,12 +146,18 @@ same-number m n e = sym (number-back m) ∙ ap by-number e ∙ number-back n
 abbrev pub Arm : List Mark → Mark → Type 0
 Arm ms m = OneOf (map number ms) (number m)
 
+-- an arm for all of whose marks f and g say the same
+pub same-in-arm : {A : Type 0} (f g : Mark → A) (ms : List Mark) (m : Mark) → Arm ms m → map f ms ≡ map g ms → f m ≡ g m
+same-in-arm f g [] m a h = absurd a
+same-in-arm {A} f g (n ∷ []) m a h =
+    ap f (same-number m n a) ∙ ap (λ (l : List A). getD l 0 (f m)) h ∙ ap g (sym (same-number m n a))
+same-in-arm {A} f g (n ∷ o ∷ ms) m (inl a) h =
+    ap f (same-number m n a) ∙ ap (λ (l : List A). getD l 0 (f m)) h ∙ ap g (sym (same-number m n a))
+same-in-arm f g (n ∷ o ∷ ms) m (inr a) h = same-in-arm f g (o ∷ ms) m a (ap (drop 1) h)
+
 -- an arm for all of whose marks f says k
 pub in-arm : {A : Type 0} (f : Mark → A) (k : A) (ms : List Mark) (m : Mark) → Arm ms m → map f ms ≡ map (λ (n : Mark). k) ms → k ≡ f m
-in-arm f k [] m a h = absurd a
-in-arm {A} f k (n ∷ []) m a h = sym (ap f (same-number m n a) ∙ ap (λ (l : List A). getD l 0 k) h)
-in-arm {A} f k (n ∷ o ∷ ms) m (inl a) h = sym (ap f (same-number m n a) ∙ ap (λ (l : List A). getD l 0 k) h)
-in-arm f k (n ∷ o ∷ ms) m (inr a) h = in-arm f k (o ∷ ms) m a (ap (drop 1) h)
+in-arm f k ms m a h = same-in-arm (λ n. k) f ms m a (sym h)
 
 -- all but that of a text
 abbrev others : List Mark

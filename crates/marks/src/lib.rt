@@ -6,6 +6,27 @@ ghost use Rattle.xliff.specs.Bytes.{two-at};
 ghost use Rattle.xliff.specs.Parse.{mark-at, size-of};
 ghost use Rattle.marks.specs.Marks.{marked, startEndMark, headMark, rareMark, meaning, fixedWidth};
 
+// How many bytes a record takes, a text's without its characters.
+pub const UNIT_WIDTH: usize = 3;
+
+pub const UNIT_END_WIDTH: usize = 2;
+
+pub const SEGMENT_WIDTH: usize = 6;
+
+pub const IGNORABLE_WIDTH: usize = 4;
+
+pub const TARGET_WIDTH: usize = 4;
+
+pub const TEXT_WIDTH: usize = 4;
+
+pub const CHARACTER_WIDTH: usize = 6;
+
+pub const CODE_WIDTH: usize = 12;
+
+pub const ANNOTATION_START_WIDTH: usize = 5;
+
+pub const ANNOTATION_END_WIDTH: usize = 4;
+
 pub enum Mark {
     UN,
     UE,
@@ -130,19 +151,36 @@ pub fn fixed_width(m: Mark) -> usize
 {
     match m {
         Mark::Unknown => 0,
-        Mark::UE => 2,
-        Mark::UN => 3,
-        Mark::IG | Mark::TG | Mark::TX | Mark::MC | Mark::EM => 4,
-        Mark::MO | Mark::SM => 5,
-        Mark::SG | Mark::CP => 6,
-        _ => 12,
+        Mark::UN => UNIT_WIDTH,
+        Mark::UE => UNIT_END_WIDTH,
+        Mark::SG => SEGMENT_WIDTH,
+        Mark::IG => IGNORABLE_WIDTH,
+        Mark::TG => TARGET_WIDTH,
+        Mark::TX => TEXT_WIDTH,
+        Mark::CP => CHARACTER_WIDTH,
+        Mark::MO | Mark::SM => ANNOTATION_START_WIDTH,
+        Mark::MC | Mark::EM => ANNOTATION_END_WIDTH,
+        _ => CODE_WIDTH,
     }
 }
 
-fn wide(x: u8) -> u16
+// The same number in more bits: of a byte, and of a number of two bytes.
+pub fn wide(x: u8) -> u16
     ensures { λ r. ⌜ (r ≡ x) × (r < 256) ⌝ }
 {
     x as u16
+}
+
+pub fn wide_to_u32(x: u16) -> u32
+    ensures { λ r. ⌜ (r ≡ x) × (r < 65536) ⌝ }
+{
+    x as u32
+}
+
+pub fn wide_to_usize(x: u16) -> usize
+    ensures { λ r. ⌜ (r ≡ x) × (r < 65536) ⌝ }
+{
+    x as usize
 }
 
 // The two-byte number at `at`, high byte first.
@@ -159,7 +197,7 @@ fn width_by(m: Mark, t: &[u8]) -> usize
     ensures { λ r. ⌜ r ≡ size-of (meaning m) (now (t .entry)) ⌝ }
 {
     match m {
-        Mark::TX => 4 + number_at(t, 2) as usize,
+        Mark::TX => TEXT_WIDTH + wide_to_usize(number_at(t, 2)),
         _ => fixed_width(m),
     }
 }

@@ -11,8 +11,9 @@ use Rattle.marks.proofs.width_by.Tie as tie
 -- a text: the length behind its mark
 returns : tie.Need-returns
 returns c =
-    let t = c .before .before .before .before .args .t .now in
-    ap (λ (n : ℕ). 4 + n) (c .number-at .ensures) ∙ sym (ap (λ (m : Mark). size-of (meaning m) t) (c .before .enum-told .given .1))
+    let t = c .before .before .before .before .before .args .t .now in
+    ap (λ (n : ℕ). 4 + n) (c .wide-to-usize .ensures .0 ∙ c .before .number-at .ensures)
+    ∙ sym (ap (λ (m : Mark). size-of (meaning m) t) (c .before .before .enum-told .given .1))
 
 -- every other mark
 returns-2 : tie.Need-returns-2
@@ -25,6 +26,6 @@ width-by-spec =
     tie.close
     (tie.spec
     -- by search: the mark is TX, its length is there, the sum fits; no need of `fixed_width`
-    (λ c. search needs) (λ c κs. search needs) (λ c. search needs) (λ c. search needs) (λ c κs. search needs)
+    (λ c. search needs) (λ c κs. search needs) (λ c κs. search needs) (λ c. search needs) (λ c κs. search needs)
     returns
     returns-2)
