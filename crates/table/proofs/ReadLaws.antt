@@ -8,25 +8,23 @@ use native.Mathlib.Omega.{arith}
 use borrow.Author.Tests.{leb-true, le-leb, lt-leb, eqb-true}
 use lib.ListN.{drop-of-length-le, length, take, drop, getD, length-drop}
 use lib.Dec.{leb, eqb}
-use Rattle.xliff.specs.Bytes.{'-', 'C', 'E', 'F', 'G', 'H', 'I', 'M', 'N', 'O', 'P', 'R', 'S', 'T', 'U', 'X', 'Y', two, four, two-at, four-at, enough, among}
+use Rattle.xliff.specs.Bytes.{'-', 'F', 'I', 'N', 'R', 'T', 'Y', two, four, two-at, enough, among}
 use Rattle.xliff.specs.Text as text
 use Rattle.xliff.specs.Text.{text-of}
 use Rattle.xliff.specs.Item as spec
 use Rattle.xliff.specs.Item.{mark}
 use Rattle.xliff.specs.Encode as encode
 use Rattle.xliff.specs.Encode.{text-run, inline, ill-text, broken, code-bytes, field-bytes, head-bytes, record-bytes}
-use Rattle.xliff.specs.Parse.{Mark, UN, UE, SG, IG, TG, TX, CP, PH, PO, PC, SC, EC, IS, IE, MO, SM, MC, EM, unknown, is, mark-of, mark-at, whole, whole-part, code-at, good-id, good-code, code, mark-start, mark-end, text-record, read-as, read, opening-at, good-opening, segment-at, good-segment}
+use Rattle.xliff.specs.Parse.{Mark, UN, UE, SG, IG, TG, TX, CP, PH, PO, PC, SC, EC, IS, IE, MO, SM, MC, EM, unknown, mark-at, whole, whole-part, code-at, good-id, good-code, code, mark-start, mark-end, text-record, read-as, read, opening-at, good-opening, segment-at, good-segment}
 use Rattle.xliff.proofs.text.Utf8.{text-of-some}
-use Rattle.table.specs.Number.{numberAt}
-use Rattle.table.specs.Letters.{yesNo, reorderLetter, overlapLetter, fieldsOk}
+use Rattle.table.specs.Letters.{yesNo, yesNoNone, reorderLetter, overlapLetter, fieldsOk}
 use Rattle.text.specs.Utf8.{textOk}
-use Rattle.table.specs.Records.{sized, sizedPart, unitOf, segmentOf, ignorableOf, targetOf, fieldsOf, standaloneOf, isolatedOf, pairOf, annotationStartOf, annotationEndOf, textOf, characterOf, codeAt, afterT, afterP, afterS, afterE, afterM, afterI, afterU, afterC, rareOf, markedOf, recordOf}
+use Rattle.table.specs.Records.{sized, unitOf, segmentOf, ignorableOf, targetOf, fieldsOf, standaloneOf, isolatedOf, pairOf, annotationStartOf, annotationEndOf, textOf, characterOf, recordBy, recordOf}
 use Rattle.table.specs.Known.{Known, same-record, some-text}
 use Rattle.table.specs.Meaning.{half, form, fields, record-meaning, meaning, width, points, body}
 use Rattle.table.specs.declared.Fields.{Fields}
 use Rattle.table.specs.declared.Record.{Record}
-use Rattle.table.specs.declared.Record.the-variants.{UnitEnd, Text, Inline}
-use Rattle.table.specs.declared.Item.the-variants.{Character}
+use Rattle.table.specs.declared.Record.the-variants.{Text}
 use Rattle.table.specs.declared.Read.{Read}
 use Rattle.table.specs.declared.Read.the-variants.{Good, Ill, Broken}
 use Rattle.table.specs.declared.Half.{Half}
@@ -108,25 +106,16 @@ broken-tied : (t : List ℕ) (known b : Bool) → Tied t known (Broken b) (broke
 unfolding record-bytes
 broken-tied t known b = tied refl refl
 
-whole-tied : (t : List ℕ) (known : Bool) (n : ℕ) (ok good : Bool) (r : Record) (x : encode.Record) → ok ≡ good → record-meaning (body t) r ≡ x → n ≡ length (record-bytes x)
-    → Tied t known (sized t n ok r) (whole t n good x)
-unfolding sized whole
-whole-tied t known n ok good r x e m w = rw (enough-is n t, ← e) (by (leb n (length t)) ok)
+-- a record of n bytes, read so and by the specification
+sized-tied : (part : Bool) (t : List ℕ) (known : Bool) (n : ℕ) (ok good : Bool) (r : Record) (x : encode.Record) → ok ≡ good → record-meaning (body t) r ≡ x → n ≡ length (record-bytes x)
+    → Tied t known (sized part t n ok r) (cond (enough n t && good) x (broken part))
+unfolding sized
+sized-tied part t known n ok good r x e m w = rw (enough-is n t, ← e) (by (leb n (length t)) ok)
   where
-    by : (a b : Bool) → Tied t known (cond a (cond b (Good r n) (Broken false)) (Broken false)) (cond (a && b) x (broken false))
+    by : (a b : Bool) → Tied t known (cond a (cond b (Good r n) (Broken part)) (Broken part)) (cond (a && b) x (broken part))
     by true true = tied m w
-    by true false = broken-tied t known false
-    by false b = broken-tied t known false
-
-part-tied : (t : List ℕ) (known : Bool) (n : ℕ) (ok good : Bool) (r : Record) (x : encode.Record) → ok ≡ good → record-meaning (body t) r ≡ x → n ≡ length (record-bytes x)
-    → Tied t known (sizedPart t n ok r) (whole-part t n good x)
-unfolding sizedPart whole-part
-part-tied t known n ok good r x e m w = rw (enough-is n t, ← e) (by (leb n (length t)) ok)
-  where
-    by : (a b : Bool) → Tied t known (cond a (cond b (Good r n) (Broken true)) (Broken true)) (cond (a && b) x (broken true))
-    by true true = tied m w
-    by true false = broken-tied t known true
-    by false b = broken-tied t known true
+    by true false = broken-tied t known part
+    by false b = broken-tied t known part
 
 take-length : (n : ℕ) (s : List ℕ) → n ≤ length s → length (take n s) ≡ n
 take-length zero s e = refl
@@ -135,59 +124,55 @@ take-length (suc n) (b ∷ s) e = ap suc (take-length n s (omega arith))
 
 module _ (t : List ℕ) (known : Bool) where
   unit-tied : Tied t known (unitOf t) (read-as UN t)
-  unfolding unitOf read-as opening-at good-opening record-bytes
-  unit-tied = whole-tied t known 3 _ _ _ _ (two-letters (getD t 2 0) 'Y' 'N') refl refl
+  unfolding unitOf read-as whole opening-at good-opening record-bytes
+  unit-tied = sized-tied false t known 3 _ _ _ _ (two-letters (getD t 2 0) 'Y' 'N') refl refl
 
   segment-tied : Tied t known (segmentOf t) (read-as SG t)
-  unfolding segmentOf read-as segment-at good-segment record-bytes head-bytes two two-at
+  unfolding segmentOf read-as whole-part segment-at good-segment record-bytes head-bytes two
   segment-tied =
-      part-tied t known 6 _ _ _ _ (ap₂ _&&_ (three-letters (getD t 4 0) 'Y' 'N' '-') (four-letters (getD t 5 0) 'I' 'T' 'R' 'F')) refl refl
+      sized-tied true t known 6 _ _ _ _ (ap₂ _&&_ (three-letters (getD t 4 0) 'Y' 'N' '-') (four-letters (getD t 5 0) 'I' 'T' 'R' 'F')) refl refl
 
   ignorable-tied : Tied t known (ignorableOf t) (read-as IG t)
-  unfolding ignorableOf read-as record-bytes head-bytes two two-at
-  ignorable-tied = part-tied t known 4 _ _ _ _ refl refl refl
+  unfolding ignorableOf read-as whole-part record-bytes head-bytes two
+  ignorable-tied = sized-tied true t known 4 _ _ _ _ refl refl refl
 
   target-tied : Tied t known (targetOf t) (read-as TG t)
-  unfolding targetOf read-as record-bytes two two-at
-  target-tied = whole-tied t known 4 _ _ _ _ refl refl refl
-
-  code-same : fields (fieldsOf t) ≡ code-at t
-  unfolding code-at two-at
-  code-same = refl
+  unfolding targetOf read-as whole record-bytes two
+  target-tied = sized-tied false t known 4 _ _ _ _ refl refl refl
 
   standalone-tied : Tied t known (standaloneOf t) (read-as PH t)
-  unfolding standaloneOf read-as record-bytes mark field-bytes code-bytes two overlaps code-at two-at
-  standalone-tied = whole-tied t known 12 _ _ _ _ (fields-same true (fieldsOf t)) refl refl
+  unfolding standaloneOf read-as whole record-bytes mark field-bytes code-bytes two overlaps code-at
+  standalone-tied = sized-tied false t known 12 _ _ _ _ (fields-same true (fieldsOf t)) refl refl
 
   isolated-tied : (h : Half) → Tied t known (isolatedOf t h) (code t (spec.isolated (half h)))
-  unfolding isolatedOf code record-bytes mark field-bytes code-bytes two overlaps code-at two-at
-  isolated-tied Start = whole-tied t known 12 _ _ _ _ (fields-same false (fieldsOf t)) refl refl
-  isolated-tied End = whole-tied t known 12 _ _ _ _ (fields-same false (fieldsOf t)) refl refl
+  unfolding isolatedOf code whole record-bytes mark field-bytes code-bytes two overlaps code-at
+  isolated-tied Start = sized-tied false t known 12 _ _ _ _ (fields-same false (fieldsOf t)) refl refl
+  isolated-tied End = sized-tied false t known 12 _ _ _ _ (fields-same false (fieldsOf t)) refl refl
 
   pair-tied : (f : Form) (h : Half) → Tied t known (pairOf t f h) (code t (spec.pair (half h) (form f)))
-  unfolding pairOf code record-bytes mark field-bytes code-bytes two overlaps code-at two-at
-  pair-tied FormP Start = whole-tied t known 12 _ _ _ _ (fields-same false (fieldsOf t)) refl refl
-  pair-tied FormP End = whole-tied t known 12 _ _ _ _ (fields-same false (fieldsOf t)) refl refl
-  pair-tied FormS Start = whole-tied t known 12 _ _ _ _ (fields-same false (fieldsOf t)) refl refl
-  pair-tied FormS End = whole-tied t known 12 _ _ _ _ (fields-same false (fieldsOf t)) refl refl
+  unfolding pairOf code whole record-bytes mark field-bytes code-bytes two overlaps code-at
+  pair-tied FormP Start = sized-tied false t known 12 _ _ _ _ (fields-same false (fieldsOf t)) refl refl
+  pair-tied FormP End = sized-tied false t known 12 _ _ _ _ (fields-same false (fieldsOf t)) refl refl
+  pair-tied FormS Start = sized-tied false t known 12 _ _ _ _ (fields-same false (fieldsOf t)) refl refl
+  pair-tied FormS End = sized-tied false t known 12 _ _ _ _ (fields-same false (fieldsOf t)) refl refl
+
+  start-good : not (eqb (two-at t 2) 0) && yesNoNone (getD t 4 0) ≡ good-id (two-at t 2) && among (getD t 4 0) ('Y' ∷ 'N' ∷ '-' ∷ [])
+  unfolding good-id
+  start-good = ap (λ (b : Bool). not (eqb (two-at t 2) 0) && b) (three-letters (getD t 4 0) 'Y' 'N' '-')
 
   start-tied : (f : Form) → Tied t known (annotationStartOf t f) (mark-start t (form f))
-  unfolding annotationStartOf mark-start record-bytes mark field-bytes two two-at good-id
-  start-tied FormP = whole-tied t known 5 _ _ _ _ (ap (λ (b : Bool). not (eqb (numberAt t 2) 0) && b) (three-letters (getD t 4 0) 'Y' 'N' '-')) refl refl
-  start-tied FormS = whole-tied t known 5 _ _ _ _ (ap (λ (b : Bool). not (eqb (numberAt t 2) 0) && b) (three-letters (getD t 4 0) 'Y' 'N' '-')) refl refl
+  unfolding annotationStartOf mark-start whole record-bytes mark field-bytes two
+  start-tied FormP = sized-tied false t known 5 _ _ _ _ start-good refl refl
+  start-tied FormS = sized-tied false t known 5 _ _ _ _ start-good refl refl
 
   end-tied : (f : Form) → Tied t known (annotationEndOf t f) (mark-end t (form f))
-  unfolding annotationEndOf mark-end record-bytes mark field-bytes two two-at good-id
-  end-tied FormP = whole-tied t known 4 _ _ _ _ refl refl refl
-  end-tied FormS = whole-tied t known 4 _ _ _ _ refl refl refl
+  unfolding annotationEndOf mark-end whole record-bytes mark field-bytes two good-id
+  end-tied FormP = sized-tied false t known 4 _ _ _ _ refl refl refl
+  end-tied FormS = sized-tied false t known 4 _ _ _ _ refl refl refl
 
   character-tied : Tied t known (characterOf t) (read-as CP t)
-  unfolding characterOf read-as whole record-bytes mark field-bytes four four-at two-at
-  character-tied = rw (enough-is 6 t) (by (leb 6 (length t)))
-    where
-      by : (a : Bool) → Tied t known (cond a (Good (Inline (Character (codeAt t))) 6) (Broken false)) (cond (a && true) (inline (spec.character (codeAt t))) (broken false))
-      by true = tied refl refl
-      by false = broken-tied t known false
+  unfolding characterOf read-as whole record-bytes mark field-bytes four
+  character-tied = sized-tied false t known 6 _ _ _ _ refl refl refl
 
   text-found : (n : ℕ) (s : List ℕ) → two-at t 2 ≡ n → take n (drop 4 t) ≡ s → length s ≡ n → (b : Bool) → textOk s ≡ b
       → Tied t known (cond b (Good Text (4 + n)) Ill) (text-record (text-of s))
@@ -213,154 +198,48 @@ module _ (t : List ℕ) (known : Bool) where
   text-by n s e f l m false k = text-found n s e f l (textOk s) refl
 
   text-tied : Tied t known (textOf t known) (read-as TX t)
-  unfolding textOf read-as whole two-at
+  unfolding textOf read-as whole
   text-tied =
-      rw (enough-is 4 t, enough-is (numberAt t 2) (drop 4 t), length-drop 4 t, let e : 4 + numberAt t 2 - 4 ≡ numberAt t 2 = omega arith in e)
-      (by (leb 4 (length t)) (leb (numberAt t 2) (length t - 4)) refl refl)
+      rw (enough-is 4 t, enough-is (two-at t 2) (drop 4 t), length-drop 4 t, let e : 4 + two-at t 2 - 4 ≡ two-at t 2 = omega arith in e)
+      (by (leb 4 (length t)) (leb (two-at t 2) (length t - 4)) refl refl)
     where
-      by : (a b : Bool) → leb 4 (length t) ≡ a → leb (numberAt t 2) (length t - 4) ≡ b
+      by : (a b : Bool) → leb 4 (length t) ≡ a → leb (two-at t 2) (length t - 4) ≡ b
           → Tied t known
-          (cond a (cond b (cond known (Good Text (4 + numberAt t 2)) (cond (textOk (take (numberAt t 2) (drop 4 t))) (Good Text (4 + numberAt t 2)) Ill)) (Broken false)) (Broken false))
-          (cond (a && b) (text-record (text-of (take (numberAt t 2) (drop 4 t)))) (broken false))
+          (cond a (cond b (cond known (Good Text (4 + two-at t 2)) (cond (textOk (take (two-at t 2) (drop 4 t))) (Good Text (4 + two-at t 2)) Ill)) (Broken false)) (Broken false))
+          (cond (a && b) (text-record (text-of (take (two-at t 2) (drop 4 t)))) (broken false))
       by true true p q =
-          text-by (numberAt t 2) (take (numberAt t 2) (drop 4 t)) refl refl
-          (take-length (numberAt t 2) (drop 4 t) (omega (arith, leb-true (numberAt t 2) (length t - 4) q, length-drop 4 t)))
-          (omega (arith, leb-true 4 (length t) p, leb-true (numberAt t 2) (length t - 4) q)) known refl
+          text-by (two-at t 2) (take (two-at t 2) (drop 4 t)) refl refl
+          (take-length (two-at t 2) (drop 4 t) (omega (arith, leb-true (two-at t 2) (length t - 4) q, length-drop 4 t)))
+          (omega (arith, leb-true 4 (length t) p, leb-true (two-at t 2) (length t - 4) q)) known refl
       by true false p q = broken-tied t known false
       by false b p q = broken-tied t known false
 
-  -- a letter of a mark: it is this one, or another
-  letter-tied : (b k : ℕ) (r r′ : Read) (x : ℕ → encode.Record) → Tied t known r (x k) → (eqb b k ≡ false → Tied t known r′ (x b)) → Tied t known (cond (eqb b k) r r′) (x b)
-  letter-tied b k r r′ x p q = by (eqb b k) refl
-    where
-      by : (c : Bool) → eqb b k ≡ c → Tied t known (cond c r r′) (x b)
-      by true e = subst (λ (n : ℕ). Tied t known r (x n)) (sym (eqb-true b k e)) p
-      by false e = q e
-
-  end-of-unit : Tied t known (Good UnitEnd 2) (read-as UE t)
-  unfolding read-as record-bytes
-  end-of-unit = tied refl refl
-
-  PO-tied : Tied t known (pairOf t FormP Start) (read-as PO t)
-  unfolding read-as
-  PO-tied = pair-tied FormP Start
-
-  PC-tied : Tied t known (pairOf t FormP End) (read-as PC t)
-  unfolding read-as
-  PC-tied = pair-tied FormP End
-
-  SC-tied : Tied t known (pairOf t FormS Start) (read-as SC t)
-  unfolding read-as
-  SC-tied = pair-tied FormS Start
-
-  EC-tied : Tied t known (pairOf t FormS End) (read-as EC t)
-  unfolding read-as
-  EC-tied = pair-tied FormS End
-
-  IS-tied : Tied t known (isolatedOf t Start) (read-as IS t)
-  unfolding read-as
-  IS-tied = isolated-tied Start
-
-  IE-tied : Tied t known (isolatedOf t End) (read-as IE t)
-  unfolding read-as
-  IE-tied = isolated-tied End
-
-  MO-tied : Tied t known (annotationStartOf t FormP) (read-as MO t)
-  unfolding read-as
-  MO-tied = start-tied FormP
-
-  SM-tied : Tied t known (annotationStartOf t FormS) (read-as SM t)
-  unfolding read-as
-  SM-tied = start-tied FormS
-
-  MC-tied : Tied t known (annotationEndOf t FormP) (read-as MC t)
-  unfolding read-as
-  MC-tied = end-tied FormP
-
-  EM-tied : Tied t known (annotationEndOf t FormS) (read-as EM t)
-  unfolding read-as
-  EM-tied = end-tied FormS
-
-  unknown-tied : Tied t known (Broken false) (read-as unknown t)
-  unfolding read-as
-  unknown-tied = broken-tied t known false
-
-  after-t-tied : Tied t known (afterT t known) (read-as (mark-of 84 (getD t 1 0)) t)
-  unfolding afterT mark-of is
-  after-t-tied =
-      letter-tied (getD t 1 0) 88 _ _ (λ n. read-as (mark-of 84 n) t) text-tied (λ e0.
-      letter-tied (getD t 1 0) 71 _ _ (λ n. read-as (mark-of 84 n) t) target-tied (λ e1.
-      rw (e0, e1) unknown-tied))
-
-  after-p-tied : Tied t known (afterP t) (read-as (mark-of 80 (getD t 1 0)) t)
-  unfolding afterP mark-of is
-  after-p-tied =
-      letter-tied (getD t 1 0) 79 _ _ (λ n. read-as (mark-of 80 n) t) PO-tied (λ e0.
-      letter-tied (getD t 1 0) 67 _ _ (λ n. read-as (mark-of 80 n) t) PC-tied (λ e1.
-      letter-tied (getD t 1 0) 72 _ _ (λ n. read-as (mark-of 80 n) t) standalone-tied (λ e2.
-      rw (e0, e1, e2) unknown-tied)))
-
-  after-s-tied : Tied t known (afterS t) (read-as (mark-of 83 (getD t 1 0)) t)
-  unfolding afterS mark-of is
-  after-s-tied =
-      letter-tied (getD t 1 0) 71 _ _ (λ n. read-as (mark-of 83 n) t) segment-tied (λ e0.
-      letter-tied (getD t 1 0) 77 _ _ (λ n. read-as (mark-of 83 n) t) SM-tied (λ e1.
-      letter-tied (getD t 1 0) 67 _ _ (λ n. read-as (mark-of 83 n) t) SC-tied (λ e2.
-      rw (e0, e1, e2) unknown-tied)))
-
-  after-e-tied : Tied t known (afterE t) (read-as (mark-of 69 (getD t 1 0)) t)
-  unfolding afterE mark-of is
-  after-e-tied =
-      letter-tied (getD t 1 0) 77 _ _ (λ n. read-as (mark-of 69 n) t) EM-tied (λ e0.
-      letter-tied (getD t 1 0) 67 _ _ (λ n. read-as (mark-of 69 n) t) EC-tied (λ e1.
-      rw (e0, e1) unknown-tied))
-
-  after-m-tied : Tied t known (afterM t) (read-as (mark-of 77 (getD t 1 0)) t)
-  unfolding afterM mark-of is
-  after-m-tied =
-      letter-tied (getD t 1 0) 79 _ _ (λ n. read-as (mark-of 77 n) t) MO-tied (λ e0.
-      letter-tied (getD t 1 0) 67 _ _ (λ n. read-as (mark-of 77 n) t) MC-tied (λ e1.
-      rw (e0, e1) unknown-tied))
-
-  after-i-tied : Tied t known (afterI t) (read-as (mark-of 73 (getD t 1 0)) t)
-  unfolding afterI mark-of is
-  after-i-tied =
-      letter-tied (getD t 1 0) 71 _ _ (λ n. read-as (mark-of 73 n) t) ignorable-tied (λ e0.
-      letter-tied (getD t 1 0) 83 _ _ (λ n. read-as (mark-of 73 n) t) IS-tied (λ e1.
-      letter-tied (getD t 1 0) 69 _ _ (λ n. read-as (mark-of 73 n) t) IE-tied (λ e2.
-      rw (e0, e1, e2) unknown-tied)))
-
-  after-u-tied : Tied t known (afterU t) (read-as (mark-of 85 (getD t 1 0)) t)
-  unfolding afterU mark-of is
-  after-u-tied =
-      letter-tied (getD t 1 0) 78 _ _ (λ n. read-as (mark-of 85 n) t) unit-tied (λ e0.
-      letter-tied (getD t 1 0) 69 _ _ (λ n. read-as (mark-of 85 n) t) end-of-unit (λ e1.
-      rw (e0, e1) unknown-tied))
-
-  after-c-tied : Tied t known (afterC t) (read-as (mark-of 67 (getD t 1 0)) t)
-  unfolding afterC mark-of is
-  after-c-tied =
-      letter-tied (getD t 1 0) 80 _ _ (λ n. read-as (mark-of 67 n) t) character-tied (λ e0.
-      rw (e0) unknown-tied)
-
-  marks-tied : Tied t known (markedOf t known) (read-as (mark-of (getD t 0 0) (getD t 1 0)) t)
-  unfolding markedOf rareOf mark-of is
-  marks-tied =
-      letter-tied (getD t 0 0) 84 _ _ (λ n. read-as (mark-of n (getD t 1 0)) t) after-t-tied (λ e0.
-      letter-tied (getD t 0 0) 80 _ _ (λ n. read-as (mark-of n (getD t 1 0)) t) after-p-tied (λ e1.
-      letter-tied (getD t 0 0) 83 _ _ (λ n. read-as (mark-of n (getD t 1 0)) t) after-s-tied (λ e2.
-      letter-tied (getD t 0 0) 69 _ _ (λ n. read-as (mark-of n (getD t 1 0)) t) after-e-tied (λ e3.
-      letter-tied (getD t 0 0) 77 _ _ (λ n. read-as (mark-of n (getD t 1 0)) t) after-m-tied (λ e4.
-      letter-tied (getD t 0 0) 73 _ _ (λ n. read-as (mark-of n (getD t 1 0)) t) after-i-tied (λ e5.
-      letter-tied (getD t 0 0) 85 _ _ (λ n. read-as (mark-of n (getD t 1 0)) t) after-u-tied (λ e6.
-      letter-tied (getD t 0 0) 67 _ _ (λ n. read-as (mark-of n (getD t 1 0)) t) after-c-tied (λ e7.
-      rw (e0, e1, e2, e3, e4, e5, e6, e7) unknown-tied))))))))
+  -- the record of a mark is what the specification reads as of that mark
+  mark-tied : (m : Mark) → Tied t known (recordBy m t known) (read-as m t)
+  unfolding recordBy read-as record-bytes
+  mark-tied UN = unit-tied
+  mark-tied UE = tied refl refl
+  mark-tied SG = segment-tied
+  mark-tied IG = ignorable-tied
+  mark-tied TG = target-tied
+  mark-tied TX = text-tied
+  mark-tied CP = character-tied
+  mark-tied PH = standalone-tied
+  mark-tied PO = pair-tied FormP Start
+  mark-tied PC = pair-tied FormP End
+  mark-tied SC = pair-tied FormS Start
+  mark-tied EC = pair-tied FormS End
+  mark-tied IS = isolated-tied Start
+  mark-tied IE = isolated-tied End
+  mark-tied MO = start-tied FormP
+  mark-tied SM = start-tied FormS
+  mark-tied MC = end-tied FormP
+  mark-tied EM = end-tied FormS
+  mark-tied unknown = broken-tied t known false
 
 pub record-tied : (t : List ℕ) (known : Bool) → Tied t known (recordOf t known) (read t)
-unfolding recordOf read mark-at read-as
-record-tied [] known = broken-tied [] known false
-record-tied (a ∷ []) known = broken-tied (a ∷ []) known false
-record-tied (a ∷ b ∷ t) known = rw (le-leb 2 (suc (suc (length t))) (omega arith)) (marks-tied (a ∷ b ∷ t) known)
+unfolding read
+record-tied t known = mark-tied t known (mark-at t)
 
 pub record-is : (t : List ℕ) (r : Read) → r ≡ recordOf t false → (meaning (body t) r ≡ read t) × (width r ≡ length (record-bytes (read t)))
 record-is t r e = by (subst (λ (z : Read). Tied t false z (read t)) (sym e) (record-tied t false))

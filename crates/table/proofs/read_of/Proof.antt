@@ -1,25 +1,20 @@
-use Rattle.table.specs.Records.{recordOf}
-use borrow.Author.Tests.{lt-leb, le-leb}
+use mathlib.Core.Path.{ap, _∙_}
 use borrow.Author.Needs.{needs}
+use Rattle.xliff.specs.Parse.{Mark}
+use Rattle.table.specs.Records.{recordBy}
 use Rattle.table.proofs.read_of.Statement.{statement}
 use Rattle.table.proofs.read_of.Tie as tie
 
--- src/lib.rt:470:9
+-- the record of the mark found
 returns : tie.Need-returns
-unfolding recordOf
-returns c = simp (lt-leb _ _ (c .if1 .taken))
-
--- src/lib.rt:466:1
-returns-2 : tie.Need-returns-2
-unfolding recordOf
-returns-2 c = simp (le-leb _ _ (c .before .if1 .left), c .marked-of .ensures)
+returns c =
+    let args = c .before .before .before .args in
+    c .read-by .ensures ∙ ap (λ (m : Mark). recordBy m (args .t .now) (args .known)) (c .before .mark-of .ensures)
 
 pub read-of-spec : {M : Type 1} → statement M
-unfolding recordOf
 read-of-spec =
     tie.close
     (tie.spec
-    returns
-    -- by search: marked-of-requires 472:5
-    (λ c κs. search needs)
-    returns-2)
+    -- by search: no need of `mark_of` and `read_by`
+    (λ c κs. search needs) (λ c κs. search needs)
+    returns)
