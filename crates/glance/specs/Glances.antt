@@ -1,13 +1,13 @@
 -- A glance at a record, and what it says of the record that the specification reads there.
-use Prim.Native.Nat.{ℕ, _+_}
+use Prim.Native.Nat.{ℕ}
 use mathlib.Core.Path.{_≡_}
 use mathlib.Core.Bool.{Bool, true, false, cond}
 use mathlib.Core.List.{List}
-use lib.ListN.{length, getD}
-use lib.Dec.{eqb, leb}
+use lib.ListN.{length}
+use lib.Dec.{leb}
 use Rattle.xliff.specs.Encode.{record-bytes}
-use Rattle.xliff.specs.Parse.{read}
-use Rattle.table.specs.Number.{numberAt}
+use Rattle.xliff.specs.Bytes.{two-at}
+use Rattle.xliff.specs.Parse.{Mark, UN, UE, SG, IG, TG, TX, CP, PH, PO, PC, SC, EC, IS, IE, MO, SM, MC, EM, unknown, code-size, annotation-start-size, annotation-end-size, size-of, read}
 use Rattle.table.specs.Meaning.{meaning, width, body}
 use Rattle.table.specs.declared.Item.{Item}
 use Rattle.table.specs.declared.Item.the-variants.{Character, Standalone, Isolated, Pair, AnnotationStart, AnnotationEnd}
@@ -19,9 +19,9 @@ use Rattle.glance.specs.declared.Glance.{Glance}
 
 -- 0 for SG and IG, 1 for TG, 2 for all else
 abbrev pub headIn : Record → ℕ
-headIn (UnitStart c) = 2
+headIn (UnitStart f) = 2
 headIn UnitEnd = 2
-headIn (Segment i c s) = 0
+headIn (Segment f) = 0
 headIn (Ignorable i) = 0
 headIn (Target q) = 1
 headIn Text = 2
@@ -36,9 +36,9 @@ isMarker (AnnotationStart w i l) = true
 isMarker (AnnotationEnd w i) = true
 
 abbrev pub markerIn : Record → Bool
-markerIn (UnitStart c) = false
+markerIn (UnitStart f) = false
 markerIn UnitEnd = false
-markerIn (Segment i c s) = false
+markerIn (Segment f) = false
 markerIn (Ignorable i) = false
 markerIn (Target q) = false
 markerIn Text = false
@@ -46,9 +46,9 @@ markerIn (Inline i) = isMarker i
 
 -- the order that a TG sets
 abbrev pub orderNumber : Record → ℕ
-orderNumber (UnitStart c) = 0
+orderNumber (UnitStart f) = 0
 orderNumber UnitEnd = 0
-orderNumber (Segment i c s) = 0
+orderNumber (Segment f) = 0
 orderNumber (Ignorable i) = 0
 orderNumber (Target q) = q
 orderNumber Text = 0
@@ -74,37 +74,34 @@ pub record Glanced (t : List ℕ) (g : Glance) : Type 0 where
 abbrev pub partGlance : ℕ → Glance
 partGlance w = record { head = 0; marker = false; order = 0; width = w }
 
-abbrev pub targetGlance : ℕ → Glance
-targetGlance q = record { head = 1; marker = false; order = q; width = 4 }
-
 abbrev pub itemGlance : Bool → ℕ → Glance
 itemGlance marker w = record { head = 2; marker = marker; order = 0; width = w }
 
-unfoldable pub glanceT : List ℕ → Glance
-glanceT t = cond (leb 4 (length t)) (cond (eqb (getD t 1 0) 88) (itemGlance false (4 + numberAt t 2)) (targetGlance (numberAt t 2))) (itemGlance false 0)
+abbrev pub textGlance : List ℕ → Glance
+textGlance t = itemGlance false (cond (leb 4 (length t)) (size-of TX t) 0)
 
-unfoldable pub glanceS : ℕ → Glance
-glanceS b = cond (eqb b 71) (partGlance 6) (itemGlance true (cond (eqb b 77) 5 12))
-
-unfoldable pub glanceE : ℕ → Glance
-glanceE b = itemGlance true (cond (eqb b 77) 4 12)
-
-unfoldable pub glanceI : ℕ → Glance
-glanceI b = cond (eqb b 71) (partGlance 4) (itemGlance true 12)
-
-unfoldable pub rareGlance : ℕ → ℕ → Glance
-rareGlance a b =
-    cond (eqb a 77) (itemGlance true (cond (eqb b 79) 5 4))
-    (cond (eqb a 73) (glanceI b)
-    (cond (eqb a 85) (itemGlance false (cond (eqb b 78) 3 2))
-    (itemGlance false 6)))
-
-unfoldable pub glanceOf : List ℕ → Glance
-glanceOf t =
-    cond (leb 2 (length t))
-    (cond (eqb (getD t 0 0) 84) (glanceT t)
-    (cond (eqb (getD t 0 0) 80) (itemGlance true 12)
-    (cond (eqb (getD t 0 0) 83) (glanceS (getD t 1 0))
-    (cond (eqb (getD t 0 0) 69) (glanceE (getD t 1 0))
-    (rareGlance (getD t 0 0) (getD t 1 0))))))
+abbrev pub targetGlance : List ℕ → Glance
+targetGlance t =
+    cond (leb (size-of TG t) (length t)) (record { head = 1; marker = false; order = two-at t 2; width = size-of TG t })
     (itemGlance false 0)
+
+unfoldable pub glanceBy : Mark → List ℕ → Glance
+glanceBy UN t = itemGlance false (size-of UN t)
+glanceBy UE t = itemGlance false (size-of UE t)
+glanceBy SG t = partGlance (size-of SG t)
+glanceBy IG t = partGlance (size-of IG t)
+glanceBy TG t = targetGlance t
+glanceBy TX t = textGlance t
+glanceBy CP t = itemGlance false (size-of CP t)
+glanceBy PH t = itemGlance true code-size
+glanceBy PO t = itemGlance true code-size
+glanceBy PC t = itemGlance true code-size
+glanceBy SC t = itemGlance true code-size
+glanceBy EC t = itemGlance true code-size
+glanceBy IS t = itemGlance true code-size
+glanceBy IE t = itemGlance true code-size
+glanceBy MO t = itemGlance true annotation-start-size
+glanceBy SM t = itemGlance true annotation-start-size
+glanceBy MC t = itemGlance true annotation-end-size
+glanceBy EM t = itemGlance true annotation-end-size
+glanceBy unknown t = itemGlance false 0

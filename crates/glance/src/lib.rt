@@ -1,9 +1,9 @@
 // A glance at a record of a table that was read before: what a walk over the records asks of it, by its mark alone.
+use marks::Mark;
 ghost use mathlib.Core.Path.{_≡_};
-ghost use mathlib.Core.Bool.{true, false, cond};
-ghost use Prim.Native.Nat.{_+_, _≤_};
-ghost use lib.ListN.{length, drop};
-ghost use Rattle.glance.specs.Glances.{partGlance, itemGlance, targetGlance, glanceT, glanceS, glanceE, glanceI, rareGlance, Glanced};
+ghost use lib.ListN.{drop};
+ghost use Rattle.marks.specs.Marks.{meaning};
+ghost use Rattle.glance.specs.Glances.{partGlance, itemGlance, textGlance, targetGlance, glanceBy, Glanced};
 
 // 0 for SG and IG, 1 for TG, 2 for all else; whether it is a marker; the order that a TG sets; the width.
 pub struct Glance {
@@ -24,17 +24,6 @@ fn part_glance(width: usize) -> Glance
     }
 }
 
-fn target_glance(order: u16) -> Glance
-    ensures { λ r. ⌜ r ≡ targetGlance order ⌝ }
-{
-    Glance {
-        head: 1,
-        marker: false,
-        order: order,
-        width: 4,
-    }
-}
-
 fn item_glance(marker: bool, width: usize) -> Glance
     ensures { λ r. ⌜ r ≡ itemGlance marker width ⌝ }
 {
@@ -46,92 +35,50 @@ fn item_glance(marker: bool, width: usize) -> Glance
     }
 }
 
-fn width_if(b: bool, x: usize, y: usize) -> usize
-    ensures { λ r. ⌜ r ≡ cond b x y ⌝ }
+fn text_glance(t: &[u8]) -> Glance
+    ensures { λ r. ⌜ r ≡ textGlance (now (t .entry)) ⌝ }
 {
-    if b { x } else { y }
-}
-
-// TX and TG.
-fn glance_t(t: &[u8]) -> Glance
-    requires { ⌜ 2 ≤ length (now t) ⌝ }
-    ensures { λ r. ⌜ r ≡ glanceT (now (t .entry)) ⌝ }
-{
-    if t.len() < 4 {
+    if t.len() < marks::TEXT_WIDTH {
         return item_glance(false, 0);
     }
-    let n = table::number_at(t, 2);
-    if t[1] == b'X' {
-        return item_glance(false, 4 + (n as usize));
-    }
-    target_glance(n)
+    let n = marks::number_at(t, 2);
+    item_glance(false, marks::TEXT_WIDTH + marks::wide_to_usize(n))
 }
 
-// SG, SM and SC.
-fn glance_s(b: u8) -> Glance
-    ensures { λ r. ⌜ r ≡ glanceS b ⌝ }
+fn target_glance(t: &[u8]) -> Glance
+    ensures { λ r. ⌜ r ≡ targetGlance (now (t .entry)) ⌝ }
 {
-    if b == b'G' {
-        return part_glance(6);
+    if t.len() < marks::TARGET_WIDTH {
+        return item_glance(false, 0);
     }
-    item_glance(true, width_if(b == b'M', 5, 12))
+    Glance {
+        head: 1,
+        marker: false,
+        order: marks::number_at(t, 2),
+        width: marks::TARGET_WIDTH,
+    }
 }
 
-// EM and EC.
-fn glance_e(b: u8) -> Glance
-    ensures { λ r. ⌜ r ≡ glanceE b ⌝ }
+// A glance at the record of the mark `m` at the head of `t`.
+fn glance_by(m: Mark, t: &[u8]) -> Glance
+    ensures { λ r. ⌜ r ≡ glanceBy (meaning m) (now (t .entry)) ⌝ }
 {
-    item_glance(true, width_if(b == b'M', 4, 12))
-}
-
-// IG, IS and IE.
-fn glance_i(b: u8) -> Glance
-    ensures { λ r. ⌜ r ≡ glanceI b ⌝ }
-{
-    if b == b'G' {
-        return part_glance(4);
+    match m {
+        Mark::TX => text_glance(t),
+        Mark::TG => target_glance(t),
+        Mark::SG | Mark::IG => part_glance(marks::fixed_width(m)),
+        Mark::UN | Mark::UE | Mark::CP | Mark::Unknown => {
+            item_glance(false, marks::fixed_width(m))
+        }
+        _ => item_glance(true, marks::fixed_width(m)),
     }
-    item_glance(true, 12)
-}
-
-// MO, MC, IG, IS, IE, UN, UE and CP.
-fn rare_glance(a: u8, b: u8) -> Glance
-    ensures { λ r. ⌜ r ≡ rareGlance a b ⌝ }
-{
-    if a == b'M' {
-        return item_glance(true, width_if(b == b'O', 5, 4));
-    }
-    if a == b'I' {
-        return glance_i(b);
-    }
-    if a == b'U' {
-        return item_glance(false, width_if(b == b'N', 3, 2));
-    }
-    item_glance(false, 6)
 }
 
 // A glance at the record at the head of `t`. It says nothing where there is no good record.
 fn glance_of(t: &[u8]) -> Glance
     ensures { λ r. ⌜ Glanced (now (t .entry)) r ⌝ }
 {
-    if t.len() < 2 {
-        return item_glance(false, 0);
-    }
-    let a = t[0];
-    if a == b'T' {
-        return glance_t(t);
-    }
-    let b = t[1];
-    if a == b'P' {
-        return item_glance(true, 12);
-    }
-    if a == b'S' {
-        return glance_s(b);
-    }
-    if a == b'E' {
-        return glance_e(b);
-    }
-    rare_glance(a, b)
+    glance_by(marks::mark_of(t), t)
 }
 
 // A glance at the record at an offset of `s`; beyond the end there is none.
