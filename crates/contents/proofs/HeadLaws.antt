@@ -33,7 +33,7 @@ pub head-in : (cs : List ℕ) (x : Record) → headIn x ≡ head-kind (record-me
 unfolding head-kind
 head-in cs (UnitStart c) = refl
 head-in cs UnitEnd = refl
-head-in cs (Segment i c s) = refl
+head-in cs (Segment f) = refl
 head-in cs (Ignorable i) = refl
 head-in cs (Target q) = refl
 head-in cs Text = refl
@@ -49,7 +49,7 @@ marker-in : (cs : List ℕ) (x : Record) → markerIn x ≡ is-marked (item-in (
 unfolding is-marked item-in class
 marker-in cs (UnitStart c) = refl
 marker-in cs UnitEnd = refl
-marker-in cs (Segment i c s) = refl
+marker-in cs (Segment f) = refl
 marker-in cs (Ignorable i) = refl
 marker-in cs (Target q) = refl
 marker-in cs Text = refl

@@ -19,7 +19,7 @@ fn head_in(x: Record) -> u8
     match x {
         Record::Unit(_) => 2,
         Record::UnitEnd => 2,
-        Record::Segment(_, _, _) => 0,
+        Record::Segment(_) => 0,
         Record::Ignorable(_) => 0,
         Record::Target(_) => 1,
         Record::Text => 2,

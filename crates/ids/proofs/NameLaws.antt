@@ -118,7 +118,7 @@ owner-after : (o : ℕ) (cs : List ℕ) (x : Record)
 unfolding state-after owner
 owner-after o cs (UnitStart c) = refl
 owner-after o cs UnitEnd = refl
-owner-after o cs (Segment i c s) = refl
+owner-after o cs (Segment f) = refl
 owner-after o cs (Ignorable i) = refl
 owner-after o cs (Target k) = refl
 owner-after o cs Text = refl
@@ -136,7 +136,7 @@ part-is : (cs : List ℕ) (x : Record) → is-part (record-meaning cs x) ≡ eqb
 unfolding is-part
 part-is cs (UnitStart c) = refl
 part-is cs UnitEnd = refl
-part-is cs (Segment i c s) = refl
+part-is cs (Segment f) = refl
 part-is cs (Ignorable i) = refl
 part-is cs (Target k) = refl
 part-is cs Text = refl

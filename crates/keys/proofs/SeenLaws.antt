@@ -7,11 +7,10 @@ use native.Mathlib.Omega.{arith}
 use borrow.Author.Tests.{leb-true}
 use lib.ListN.{length, drop, getD}
 use lib.Dec.{eqb, leb}
-use Rattle.text.specs.Utf8.{textOk}
 use Rattle.places.specs.Markers.{item-at}
-use Rattle.table.specs.Number.{numberAt}
-use Rattle.table.specs.Letters.{yesNo, yesNoNone, stateLetter, fieldsOk}
-use Rattle.table.specs.Records.{sized, sizedPart, unitOf, segmentOf, ignorableOf, targetOf, fieldsOf, standaloneOf, isolatedOf, pairOf, annotationStartOf, annotationEndOf, textOf, characterOf, afterT, afterP, afterS, afterE, afterM, afterI, afterU, afterC, rareOf, markedOf, recordOf}
+use Rattle.xliff.specs.Bytes.{two-at}
+use Rattle.xliff.specs.Parse.{Mark, UN, UE, SG, IG, TG, TX, CP, PH, PO, PC, SC, EC, IS, IE, MO, SM, MC, EM, unknown, mark-at}
+use Rattle.table.specs.Records.{sized, unitOf, segmentOf, ignorableOf, targetOf, fieldsOf, standaloneOf, isolatedOf, pairOf, annotationStartOf, annotationEndOf, textOf, characterOf, recordBy, recordOf}
 use Rattle.table.specs.declared.Half.{Half}
 use Rattle.table.specs.declared.Half.the-variants.{Start, End}
 use Rattle.table.specs.declared.Form.{Form}
@@ -30,7 +29,7 @@ use Rattle.keys.proofs.KeyLaws.{key-view}
 pub data Seen (s : List ℕ) : View → Type 0 where
   seen-nothing : Seen s nothing
   seen-code : {c h : ℕ} {p : Bool} → 12 ≤ length s → 1 ≤ c → c ≤ 4 → h ≤ 2 → Seen s (codeView c h p (fieldsOf s))
-  seen-annotation : {h : ℕ} {p : Bool} → 4 ≤ length s → h ≤ 2 → Seen s (annotationView h p (numberAt s 2))
+  seen-annotation : {h : ℕ} {p : Bool} → 4 ≤ length s → h ≤ 2 → Seen s (annotationView h p (two-at s 2))
 
 half-small : (h : Half) → halfNumber h ≤ 2
 half-small Start = omega arith
@@ -44,88 +43,64 @@ module _ (s : List ℕ) where
   either true r q x y = x
   either false r q x y = y
 
-  sized-seen : (n : ℕ) (ok : Bool) (x : Record) → (n ≤ length s → Seen s (recordView x)) → Seeing (sized s n ok x)
+  sized-seen : (part : Bool) (n : ℕ) (ok : Bool) (x : Record) → (n ≤ length s → Seen s (recordView x)) → Seeing (sized part s n ok x)
   unfolding sized
-  sized-seen n ok x f = by (leb n (length s)) refl ok
+  sized-seen part n ok x f = by (leb n (length s)) refl ok
     where
-      by : (a : Bool) → leb n (length s) ≡ a → (b : Bool) → Seeing (cond a (cond b (Good x n) (Broken false)) (Broken false))
+      by : (a : Bool) → leb n (length s) ≡ a → (b : Bool) → Seeing (cond a (cond b (Good x n) (Broken part)) (Broken part))
       by true e true = f (leb-true n (length s) e)
       by true e false = seen-nothing
       by false e b = seen-nothing
 
-  part-seen : (n : ℕ) (ok : Bool) (x : Record) → Seen s (recordView x) → Seeing (sizedPart s n ok x)
-  unfolding sizedPart
-  part-seen n ok x f = by (leb n (length s)) ok
-    where
-      by : (a b : Bool) → Seeing (cond a (cond b (Good x n) (Broken true)) (Broken true))
-      by true true = f
-      by true false = seen-nothing
-      by false b = seen-nothing
-
   pair-seen : (f : Form) (h : Half) → Seeing (pairOf s f h)
   unfolding pairOf
-  pair-seen f h = sized-seen 12 _ _ (λ l. seen-code l (omega arith) (omega arith) (half-small h))
+  pair-seen f h = sized-seen false 12 _ _ (λ l. seen-code l (omega arith) (omega arith) (half-small h))
 
   isolated-seen : (h : Half) → Seeing (isolatedOf s h)
   unfolding isolatedOf
-  isolated-seen Start = sized-seen 12 _ _ (λ l. seen-code l (omega arith) (omega arith) (omega arith))
-  isolated-seen End = sized-seen 12 _ _ (λ l. seen-code l (omega arith) (omega arith) (omega arith))
+  isolated-seen Start = sized-seen false 12 _ _ (λ l. seen-code l (omega arith) (omega arith) (omega arith))
+  isolated-seen End = sized-seen false 12 _ _ (λ l. seen-code l (omega arith) (omega arith) (omega arith))
 
   standalone-seen : Seeing (standaloneOf s)
   unfolding standaloneOf
-  standalone-seen = sized-seen 12 _ _ (λ l. seen-code l (omega arith) (omega arith) (omega arith))
+  standalone-seen = sized-seen false 12 _ _ (λ l. seen-code l (omega arith) (omega arith) (omega arith))
 
   start-seen : (f : Form) → Seeing (annotationStartOf s f)
   unfolding annotationStartOf
-  start-seen f = sized-seen 5 _ _ (λ l. seen-annotation (omega arith) (omega arith))
+  start-seen f = sized-seen false 5 _ _ (λ l. seen-annotation (omega arith) (omega arith))
 
   end-seen : (f : Form) → Seeing (annotationEndOf s f)
   unfolding annotationEndOf
-  end-seen f = sized-seen 4 _ _ (λ l. seen-annotation (omega arith) (omega arith))
+  end-seen f = sized-seen false 4 _ _ (λ l. seen-annotation (omega arith) (omega arith))
 
   text-seen : Seeing (textOf s true)
   unfolding textOf
-  text-seen = either (leb 4 (length s)) _ _ (either (leb (numberAt s 2) (length s - 4)) (Good Text (4 + numberAt s 2)) (Broken false) seen-nothing seen-nothing) seen-nothing
+  text-seen = either (leb 4 (length s)) _ _ (either (leb (two-at s 2) (length s - 4)) (Good Text (4 + two-at s 2)) (Broken false) seen-nothing seen-nothing) seen-nothing
 
-  target-seen : Seeing (targetOf s)
-  unfolding targetOf
-  target-seen = sized-seen 4 _ _ (λ l. seen-nothing)
-
-  unit-seen : Seeing (unitOf s)
-  unfolding unitOf
-  unit-seen = sized-seen 3 _ _ (λ l. seen-nothing)
-
-  segment-seen : Seeing (segmentOf s)
-  unfolding segmentOf
-  segment-seen = part-seen 6 _ _ seen-nothing
-
-  ignorable-seen : Seeing (ignorableOf s)
-  unfolding ignorableOf
-  ignorable-seen = part-seen 4 _ _ seen-nothing
-
-  character-seen : Seeing (characterOf s)
-  unfolding characterOf
-  character-seen = either (leb 6 (length s)) _ _ seen-nothing seen-nothing
-
-  record-seen : Seeing (recordOf s true)
-  unfolding recordOf markedOf afterT afterP afterS afterE rareOf afterM afterI afterU afterC
-  record-seen =
-      either (leb 2 (length s)) _ _
-      (either (eqb (getD s 0 0) 84) _ _ (either (eqb (getD s 1 0) 88) _ _ text-seen (either (eqb (getD s 1 0) 71) _ _ target-seen seen-nothing))
-      (either (eqb (getD s 0 0) 80) _ _
-      (either (eqb (getD s 1 0) 79) _ _ (pair-seen _ _) (either (eqb (getD s 1 0) 67) _ _ (pair-seen _ _) (either (eqb (getD s 1 0) 72) _ _ standalone-seen seen-nothing)))
-      (either (eqb (getD s 0 0) 83) _ _
-      (either (eqb (getD s 1 0) 71) _ _ segment-seen (either (eqb (getD s 1 0) 77) _ _ (start-seen _) (either (eqb (getD s 1 0) 67) _ _ (pair-seen _ _) seen-nothing)))
-      (either (eqb (getD s 0 0) 69) _ _ (either (eqb (getD s 1 0) 77) _ _ (end-seen _) (either (eqb (getD s 1 0) 67) _ _ (pair-seen _ _) seen-nothing))
-      (either (eqb (getD s 0 0) 77) _ _ (either (eqb (getD s 1 0) 79) _ _ (start-seen _) (either (eqb (getD s 1 0) 67) _ _ (end-seen _) seen-nothing))
-      (either (eqb (getD s 0 0) 73) _ _
-      (either (eqb (getD s 1 0) 71) _ _ ignorable-seen (either (eqb (getD s 1 0) 83) _ _ (isolated-seen _) (either (eqb (getD s 1 0) 69) _ _ (isolated-seen _) seen-nothing)))
-      (either (eqb (getD s 0 0) 85) _ _ (either (eqb (getD s 1 0) 78) _ _ unit-seen (either (eqb (getD s 1 0) 69) _ _ seen-nothing seen-nothing))
-      (either (eqb (getD s 0 0) 67) _ _ (either (eqb (getD s 1 0) 80) _ _ character-seen seen-nothing) seen-nothing))))))))
-      seen-nothing
+  mark-seen : (m : Mark) → Seeing (recordBy m s true)
+  unfolding recordBy unitOf segmentOf ignorableOf targetOf characterOf
+  mark-seen UN = sized-seen false 3 _ _ (λ l. seen-nothing)
+  mark-seen UE = seen-nothing
+  mark-seen SG = sized-seen true 6 _ _ (λ l. seen-nothing)
+  mark-seen IG = sized-seen true 4 _ _ (λ l. seen-nothing)
+  mark-seen TG = sized-seen false 4 _ _ (λ l. seen-nothing)
+  mark-seen TX = text-seen
+  mark-seen CP = sized-seen false 6 _ _ (λ l. seen-nothing)
+  mark-seen PH = standalone-seen
+  mark-seen PO = pair-seen _ _
+  mark-seen PC = pair-seen _ _
+  mark-seen SC = pair-seen _ _
+  mark-seen EC = pair-seen _ _
+  mark-seen IS = isolated-seen _
+  mark-seen IE = isolated-seen _
+  mark-seen MO = start-seen _
+  mark-seen SM = start-seen _
+  mark-seen MC = end-seen _
+  mark-seen EM = end-seen _
+  mark-seen unknown = seen-nothing
 
 pub seen-at : (t : List ℕ) (at : ℕ) → Seen (drop at t) (viewOf (item-at t at))
-seen-at t at = subst (Seen (drop at t)) (view-known t at (recordOf (drop at t) true) (known-is (drop at t) (recordOf (drop at t) true) refl)) (record-seen (drop at t))
+seen-at t at = subst (Seen (drop at t)) (view-known t at (recordOf (drop at t) true) (known-is (drop at t) (recordOf (drop at t) true) refl)) (mark-seen (drop at t) (mark-at (drop at t)))
 
 -- the parts of a key
 module _ (k i c h : ℕ) (hs : h ≤ 2) where
@@ -144,7 +119,7 @@ module _ (k i c h : ℕ) (hs : h ≤ 2) where
 -- what view_at says, by the class in the key
 pub record Told (s : List ℕ) (k : ℕ) (v : View) : Type 0 where
   pub none : k % 64 / 8 ≡ 0 → nothing ≡ v
-  pub annotation : k % 64 / 8 ≡ 5 → (4 ≤ length s) × (annotationView (k % 8 / 2) (eqb (k % 2) 1) (numberAt s 2) ≡ v)
+  pub annotation : k % 64 / 8 ≡ 5 → (4 ≤ length s) × (annotationView (k % 8 / 2) (eqb (k % 2) 1) (two-at s 2) ≡ v)
   pub code : (k % 64 / 8 ≡ 0 → ⊥) → (k % 64 / 8 ≡ 5 → ⊥) → (12 ≤ length s) × (codeView (k % 64 / 8) (k % 8 / 2) (eqb (k % 2) 1) (fieldsOf s) ≡ v)
 
 told-by : (s : List ℕ) (k : ℕ) (v : View) → Seen s v → k ≡ keyOf v → Told s k v
@@ -155,17 +130,17 @@ told-by s k _ seen-nothing e =
       code = λ z w. absurd (z (omega (arith, e)));
     }
 told-by s k _ (seen-code {c} {h} {p} l a b hs) e =
-    let m = class-of k (numberAt s 2) c h hs p e (omega arith) in
+    let m = class-of k (two-at s 2) c h hs p e (omega arith) in
     record {
       none = λ z. absurd (omega (arith, m, a));
       annotation = λ z. absurd (omega (arith, m, b));
-      code = λ z w. (l, rw (m, half-of k (numberAt s 2) c h hs p e (omega arith), form-of k (numberAt s 2) c h hs p e (omega arith)));
+      code = λ z w. (l, rw (m, half-of k (two-at s 2) c h hs p e (omega arith), form-of k (two-at s 2) c h hs p e (omega arith)));
     }
 told-by s k _ (seen-annotation {h} {p} l hs) e =
-    let m = class-of k (numberAt s 2) 5 h hs p e (omega arith) in
+    let m = class-of k (two-at s 2) 5 h hs p e (omega arith) in
     record {
       none = λ z. absurd (omega (arith, m));
-      annotation = λ z. (l, rw (half-of k (numberAt s 2) 5 h hs p e (omega arith), form-of k (numberAt s 2) 5 h hs p e (omega arith)));
+      annotation = λ z. (l, rw (half-of k (two-at s 2) 5 h hs p e (omega arith), form-of k (two-at s 2) 5 h hs p e (omega arith)));
       code = λ z w. absurd (w m);
     }
 

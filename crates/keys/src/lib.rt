@@ -1,101 +1,41 @@
 // A marker as one number: what rule 7 asks of it, so that its loops read no table.
+use marks::Mark;
 use views::View;
 ghost use mathlib.Core.Path.{_≡_};
-ghost use mathlib.Core.Bool.{cond};
 ghost use Prim.Native.Nat.{_+_, _*_, _/_, _%_, _<_, _≤_};
 ghost use lib.ListN.{length, take};
+ghost use Rattle.xliff.specs.Parse.{annotation-end-size};
+ghost use Rattle.marks.specs.Marks.{meaning};
 ghost use Rattle.places.specs.Markers.{item-at};
 ghost use Rattle.views.specs.Views.{viewOf};
-ghost use Rattle.keys.specs.Marks.{lowAfterP, lowAfterS, lowAfterE, lowAfterM, lowAfterI, lowOf, codeGood, startGood, endGood, markerGood, markerKey};
-ghost use Rattle.keys.specs.Keys.{key, keysAt, keyOf, alikeKeys, otherKey, halfKey, formKey, classKey};
+ghost use Rattle.keys.specs.Marks.{lowOf, codeGood, startGood, endGood, markerGood, markerKey};
+ghost use Rattle.keys.specs.Keys.{key, keysAt, alikeKeys, otherKey, halfKey, formKey, classKey};
 
-fn bit(b: bool) -> u32
-    ensures { λ r. ⌜ (r ≡ cond b 1 0) × (r ≤ 1) ⌝ }
+// What a mark says of the key: 8 times the class, twice the half, 1 for PO PC MO MC; 0 where it is no marker's.
+fn low_of(m: Mark) -> u32
+    ensures { λ r. ⌜ (r ≡ lowOf (meaning m)) × (r ≤ 45) ⌝ }
 {
-    if b { 1 } else { 0 }
-}
-
-pub fn key_of(v: View) -> u32
-    ensures { λ r. ⌜ r ≡ keyOf v ⌝ }
-{
-    (v.id as u32) * 64 + ((v.class as u32) * 8 + ((v.half as u32) * 2 + bit(v.pform)))
-}
-
-// What a mark says of the key: 8 times the class, twice the half, 1 for PO PC MO MC; 0 where it is no marker's. So by the second letter, after P, S, E, M and I.
-fn low_after_p(b: u8) -> u32
-    ensures { λ r. ⌜ (r ≡ lowAfterP b) × (r ≤ 45) ⌝ }
-{
-    if b == b'O' {
-        return 19;
+    match m {
+        Mark::PO => 19,
+        Mark::PC => 21,
+        Mark::PH => 8,
+        Mark::SC => 18,
+        Mark::EC => 20,
+        Mark::IS => 24,
+        Mark::IE => 32,
+        Mark::MO => 43,
+        Mark::MC => 45,
+        Mark::SM => 42,
+        Mark::EM => 44,
+        _ => 0,
     }
-    if b == b'C' {
-        return 21;
-    }
-    if b == b'H' { 8 } else { 0 }
-}
-
-fn low_after_s(b: u8) -> u32
-    ensures { λ r. ⌜ (r ≡ lowAfterS b) × (r ≤ 45) ⌝ }
-{
-    if b == b'M' {
-        return 42;
-    }
-    if b == b'C' { 18 } else { 0 }
-}
-
-fn low_after_e(b: u8) -> u32
-    ensures { λ r. ⌜ (r ≡ lowAfterE b) × (r ≤ 45) ⌝ }
-{
-    if b == b'M' {
-        return 44;
-    }
-    if b == b'C' { 20 } else { 0 }
-}
-
-fn low_after_m(b: u8) -> u32
-    ensures { λ r. ⌜ (r ≡ lowAfterM b) × (r ≤ 45) ⌝ }
-{
-    if b == b'O' {
-        return 43;
-    }
-    if b == b'C' { 45 } else { 0 }
-}
-
-fn low_after_i(b: u8) -> u32
-    ensures { λ r. ⌜ (r ≡ lowAfterI b) × (r ≤ 45) ⌝ }
-{
-    if b == b'S' {
-        return 24;
-    }
-    if b == b'E' { 32 } else { 0 }
-}
-
-fn low_of(a: u8, b: u8) -> u32
-    ensures { λ r. ⌜ (r ≡ lowOf a b) × (r ≤ 45) ⌝ }
-{
-    if a == b'P' {
-        return low_after_p(b);
-    }
-    if a == b'S' {
-        return low_after_s(b);
-    }
-    if a == b'E' {
-        return low_after_e(b);
-    }
-    if a == b'M' {
-        return low_after_m(b);
-    }
-    if a == b'I' {
-        return low_after_i(b);
-    }
-    0
 }
 
 // Whether the fields of a code are good; so of the start and of the end of an annotation.
 fn code_good(s: &[u8], alone: bool) -> bool
     ensures { λ r. ⌜ r ≡ codeGood (now (s .entry)) alone ⌝ }
 {
-    if s.len() < 12 {
+    if s.len() < marks::CODE_WIDTH {
         return false;
     }
     table::fields_ok(alone, table::read_fields(s))
@@ -104,22 +44,22 @@ fn code_good(s: &[u8], alone: bool) -> bool
 fn start_good(s: &[u8]) -> bool
     ensures { λ r. ⌜ r ≡ startGood (now (s .entry)) ⌝ }
 {
-    if s.len() < 5 {
+    if s.len() < marks::ANNOTATION_START_WIDTH {
         return false;
     }
-    !(table::number_at(s, 2) == 0) & table::yes_no_none(s[4])
+    !(marks::number_at(s, 2) == 0) & table::yes_no_none(s[4])
 }
 
 fn end_good(s: &[u8]) -> bool
-    requires { ⌜ 4 ≤ length (now s) ⌝ }
+    requires { ⌜ annotation-end-size ≤ length (now s) ⌝ }
     ensures { λ r. ⌜ r ≡ endGood (now (s .entry)) ⌝ }
 {
-    !(table::number_at(s, 2) == 0)
+    !(marks::number_at(s, 2) == 0)
 }
 
 // Whether a marker's fields are good, by what its mark says.
 fn marker_good(s: &[u8], low: u32) -> bool
-    requires { ⌜ 4 ≤ length (now s) ⌝ }
+    requires { ⌜ annotation-end-size ≤ length (now s) ⌝ }
     ensures { λ r. ⌜ r ≡ markerGood (now (s .entry)) low ⌝ }
 {
     if low < 40 {
@@ -131,27 +71,21 @@ fn marker_good(s: &[u8], low: u32) -> bool
     end_good(s)
 }
 
-fn wide(x: u16) -> u32
-    ensures { λ r. ⌜ (r ≡ x) × (r < 65536) ⌝ }
-{
-    x as u32
-}
-
 // The key of the item at the head of `s`; where none is, as a text's.
 fn marker_key(s: &[u8]) -> u32
     ensures { λ r. ⌜ r ≡ markerKey (now (s .entry)) ⌝ }
 {
-    if s.len() < 4 {
+    if s.len() < marks::ANNOTATION_END_WIDTH {
         return 0;
     }
-    let low = low_of(s[0], s[1]);
+    let low = low_of(marks::mark_of(s));
     if low == 0 {
         return 0;
     }
     if !marker_good(s, low) {
         return 0;
     }
-    wide(table::number_at(s, 2)) * 64 + low
+    marks::wide_to_u32(marks::number_at(s, 2)) * 64 + low
 }
 
 // The key of the item at an offset; where none is, as a text's.
@@ -175,7 +109,7 @@ pub fn view_at(t: &[u8], at: usize, k: u32) -> View
         return views::nothing();
     }
     if class == 5 {
-        return views::annotation_view(half as u8, k % 2 == 1, table::number_at(&t[at..], 2));
+        return views::annotation_view(half as u8, k % 2 == 1, marks::number_at(&t[at..], 2));
     }
     views::code_view(
         class as u8,
@@ -192,7 +126,7 @@ pub fn keys_at(t: &[u8], os: &[u16], out: &mut [u32]) -> usize
 {
     let mut i: usize = 0;
     while i < os.len() {
-        out[i] = key_at(t, views::wide(os[i]));
+        out[i] = key_at(t, marks::wide_to_usize(os[i]));
         i += 1;
     }
     i

@@ -39,7 +39,7 @@ is-is e = cc
 order-target : (cs : List ℕ) (r : Read) (q : ℕ) → orderOf r ≡ Is q → meaning cs r ≡ target-head q
 order-target cs (Good (UnitStart c) w) q e = is-not e
 order-target cs (Good UnitEnd w) q e = is-not e
-order-target cs (Good (Segment i c s) w) q e = is-not e
+order-target cs (Good (Segment f) w) q e = is-not e
 order-target cs (Good (Ignorable i) w) q e = is-not e
 order-target cs (Good (Target k) w) q e = ap target-head (is-is e)
 order-target cs (Good Text w) q e = is-not e
@@ -52,7 +52,7 @@ order-none : (cs : List ℕ) (r : Read) (at : ℕ) (qs : List encode.Record) →
 unfolding found found-at state-after
 order-none cs (Good (UnitStart c) w) at qs e = refl
 order-none cs (Good UnitEnd w) at qs e = refl
-order-none cs (Good (Segment i c s) w) at qs e = refl
+order-none cs (Good (Segment f) w) at qs e = refl
 order-none cs (Good (Ignorable i) w) at qs e = refl
 order-none cs (Good (Target k) w) at qs e = is-not (sym e)
 order-none cs (Good Text w) at qs e = refl
@@ -63,7 +63,7 @@ order-none cs (Broken b) at qs e = refl
 order-in : (x : Record) → orderIn x ≡ cond (eqb (headIn x) 1) (Is (orderNumber x)) Not
 order-in (UnitStart c) = refl
 order-in UnitEnd = refl
-order-in (Segment i c s) = refl
+order-in (Segment f) = refl
 order-in (Ignorable i) = refl
 order-in (Target q) = refl
 order-in Text = refl

@@ -106,7 +106,7 @@ walked t at rs g a l e = walked-by t at rs g (e .found) a l (e .means, e .wide) 
 head-part : (x : Record) → isHead x ≡ eqb (headIn x) 0
 head-part (UnitStart c) = refl
 head-part UnitEnd = refl
-head-part (Segment i c s) = refl
+head-part (Segment f) = refl
 head-part (Ignorable i) = refl
 head-part (Target q) = refl
 head-part Text = refl

@@ -12,7 +12,7 @@ use Rattle.orders.specs.declared.Order.the-variants.{Is, Not}
 abbrev pub orderIn : Record → Order
 orderIn (UnitStart c) = Not
 orderIn UnitEnd = Not
-orderIn (Segment i c s) = Not
+orderIn (Segment f) = Not
 orderIn (Ignorable i) = Not
 orderIn (Target q) = Is q
 orderIn Text = Not

@@ -25,7 +25,7 @@ pub content-same : (cs : List ℕ) (r : Read) → isContent r ≡ is-content (me
 unfolding is-content
 content-same cs (Good (UnitStart c) w) = refl
 content-same cs (Good UnitEnd w) = refl
-content-same cs (Good (Segment i c s) w) = refl
+content-same cs (Good (Segment f) w) = refl
 content-same cs (Good (Ignorable i) w) = refl
 content-same cs (Good (Target q) w) = refl
 content-same cs (Good Text w) = refl

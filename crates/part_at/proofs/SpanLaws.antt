@@ -39,7 +39,7 @@ order-at (broken b) = Not
 pub order-same : (cs : List ℕ) (r : Read) → orderOf r ≡ order-at (meaning cs r)
 order-same cs (Good (UnitStart c) w) = refl
 order-same cs (Good UnitEnd w) = refl
-order-same cs (Good (Segment i c s) w) = refl
+order-same cs (Good (Segment f) w) = refl
 order-same cs (Good (Ignorable i) w) = refl
 order-same cs (Good (TargetHead q) w) = refl
 order-same cs (Good Text w) = refl

@@ -26,7 +26,7 @@ is-content (broken b) = false
 abbrev pub inContent : Record → Bool
 inContent (UnitStart c) = false
 inContent UnitEnd = false
-inContent (Segment i c s) = false
+inContent (Segment f) = false
 inContent (Ignorable i) = false
 inContent (Target q) = false
 inContent Text = true

@@ -19,7 +19,7 @@ fn in_content(x: Record) -> bool
     match x {
         Record::Unit(_) => false,
         Record::UnitEnd => false,
-        Record::Segment(_, _, _) => false,
+        Record::Segment(_) => false,
         Record::Ignorable(_) => false,
         Record::Target(_) => false,
         Record::Text => true,
@@ -59,7 +59,7 @@ fn order_in(x: Record) -> Order
     match x {
         Record::Unit(_) => Order::Not,
         Record::UnitEnd => Order::Not,
-        Record::Segment(_, _, _) => Order::Not,
+        Record::Segment(_) => Order::Not,
         Record::Ignorable(_) => Order::Not,
         Record::Target(q) => Order::Is(q),
         Record::Text => Order::Not,

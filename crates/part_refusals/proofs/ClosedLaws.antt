@@ -39,7 +39,7 @@ closed-same : (u : ℕ) (cs : List ℕ) (r : Read) → closedBy u r ≡ closed-a
 unfolding resolved
 closed-same u cs (Good (UnitStart c) w) = refl
 closed-same u cs (Good UnitEnd w) = refl
-closed-same u cs (Good (Segment i c s) w) = refl
+closed-same u cs (Good (Segment f) w) = refl
 closed-same u cs (Good (Ignorable i) w) = refl
 closed-same u cs (Good (TargetHead q) w) = refl
 closed-same u cs (Good Text w) = refl

@@ -70,7 +70,7 @@ named-behind : (cs : List ℕ) (x : Record) → isNamed x ≡ true → Behind (r
 unfolding record-bytes head-bytes two head-id
 named-behind cs (UnitStart c) e = absurd (false≢true e)
 named-behind cs UnitEnd e = absurd (false≢true e)
-named-behind cs (Segment i c s) e = (omega arith, λ rest. omega arith)
+named-behind cs (Segment f) e = (omega arith, λ rest. omega arith)
 named-behind cs (Ignorable i) e = (omega arith, λ rest. omega arith)
 named-behind cs (TargetHead q) e = absurd (false≢true e)
 named-behind cs Text e = absurd (false≢true e)
@@ -80,7 +80,7 @@ unnamed : (cs : List ℕ) (x : Record) → isNamed x ≡ false → record-id (re
 unfolding id-of
 unnamed cs (UnitStart c) e = refl
 unnamed cs UnitEnd e = refl
-unnamed cs (Segment i c s) e = absurd (false≢true (sym e))
+unnamed cs (Segment f) e = absurd (false≢true (sym e))
 unnamed cs (Ignorable i) e = absurd (false≢true (sym e))
 unnamed cs (TargetHead q) e = refl
 unnamed cs Text e = refl

@@ -18,7 +18,7 @@ use Rattle.part_at.specs.Stands.{PartStands}
 abbrev pub closedIn : ℕ → Record → Bool
 closedIn u (UnitStart c) = false
 closedIn u UnitEnd = false
-closedIn u (Segment i d s) = eqb (cond (eqb d 45) u d) 78
+closedIn u (Segment f) = eqb (cond (eqb (f .«can_resegment») 45) u (f .«can_resegment»)) 78
 closedIn u (Ignorable i) = eqb u 78
 closedIn u (Target q) = false
 closedIn u Text = false

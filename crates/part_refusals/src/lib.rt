@@ -26,7 +26,7 @@ fn closed_in(unit: u8, x: Record) -> bool
     match x {
         Record::Unit(_) => false,
         Record::UnitEnd => false,
-        Record::Segment(_, d, _) => letter_or(unit, d) == b'N',
+        Record::Segment(f) => letter_or(unit, f.can_resegment) == b'N',
         Record::Ignorable(_) => unit == b'N',
         Record::Target(_) => false,
         Record::Text => false,

@@ -27,7 +27,7 @@ pub inside-is : (source inside : Bool) (cs : List ℕ) (x : Record) → insideOf
 unfolding inside-after
 inside-is source inside cs (UnitStart c) = refl
 inside-is source inside cs UnitEnd = refl
-inside-is source inside cs (Segment i c s) = refl
+inside-is source inside cs (Segment f) = refl
 inside-is source inside cs (Ignorable i) = refl
 inside-is source inside cs (Target q) = refl
 inside-is source inside cs Text = refl

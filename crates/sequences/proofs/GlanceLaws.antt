@@ -40,7 +40,7 @@ record-marked : (inside : Bool) (x : Record) (w : ℕ) → ReadMarked inside (Go
 unfolding found-at
 record-marked inside (UnitStart c) w source q cs at = rw (and-false inside)
 record-marked inside UnitEnd w source q cs at = rw (and-false inside)
-record-marked inside (Segment i c s) w source q cs at = rw (and-false inside)
+record-marked inside (Segment f) w source q cs at = rw (and-false inside)
 record-marked inside (Ignorable i) w source q cs at = rw (and-false inside)
 record-marked inside (TargetRecord k) w source q cs at = rw (and-false inside)
 record-marked inside Text w source q cs at = rw (and-false inside)
@@ -49,7 +49,7 @@ record-marked inside (Inline i) w source q cs at = inline-marked inside (isMarke
 inside-is : (inside : Bool) (x : Record) (w : ℕ) → insideOf true 0 inside (Good x w) ≡ insideSource (headIn x) inside
 inside-is inside (UnitStart c) w = refl
 inside-is inside UnitEnd w = refl
-inside-is inside (Segment i c s) w = refl
+inside-is inside (Segment f) w = refl
 inside-is inside (Ignorable i) w = refl
 inside-is inside (TargetRecord k) w = refl
 inside-is inside Text w = refl
@@ -82,7 +82,7 @@ heads-by : (at : ℕ) (cs : List ℕ) (x : Record) (qs : List encode.Record)
 unfolding heads-from head-here
 heads-by at cs (UnitStart c) qs = refl
 heads-by at cs UnitEnd qs = refl
-heads-by at cs (Segment i c s) qs = refl
+heads-by at cs (Segment f) qs = refl
 heads-by at cs (Ignorable i) qs = refl
 heads-by at cs (TargetRecord k) qs = refl
 heads-by at cs Text qs = refl
@@ -107,7 +107,7 @@ content-by : (at : ℕ) (cs : List ℕ) (x : Record) (qs : List encode.Record)
 unfolding content-marks
 content-by at cs (UnitStart c) qs = refl
 content-by at cs UnitEnd qs = refl
-content-by at cs (Segment i c s) qs = refl
+content-by at cs (Segment f) qs = refl
 content-by at cs (Ignorable i) qs = refl
 content-by at cs (TargetRecord k) qs = refl
 content-by at cs Text qs = refl

@@ -45,7 +45,7 @@ inside-after : (source : Bool) (q : ℕ) (inside : Bool) (cs : List ℕ) (r : Re
 unfolding state-after
 inside-after source q inside cs (Good (UnitStart c) w) = refl
 inside-after source q inside cs (Good UnitEnd w) = refl
-inside-after source q inside cs (Good (Segment i c s) w) = refl
+inside-after source q inside cs (Good (Segment f) w) = refl
 inside-after source q inside cs (Good (Ignorable i) w) = refl
 inside-after source q inside cs (Good (Target k) w) = refl
 inside-after source q inside cs (Good Text w) = refl

@@ -101,7 +101,7 @@ pub record Begun (t : List ℕ) (at : ℕ) (g : Glance) (h : TargetHead) : Type 
 target-number : (cs : List ℕ) (x : Record) (k : ℕ) → record-meaning cs x ≡ target-head k → orderNumber x ≡ k
 target-number cs (UnitStart c) k e = absurd (let z : _≡_ {A = ℕ} 0 1 = cc in omega arith)
 target-number cs UnitEnd k e = absurd (let z : _≡_ {A = ℕ} 0 1 = cc in omega arith)
-target-number cs (Segment i c s) k e = absurd (let z : _≡_ {A = ℕ} 0 1 = cc in omega arith)
+target-number cs (Segment f) k e = absurd (let z : _≡_ {A = ℕ} 0 1 = cc in omega arith)
 target-number cs (Ignorable i) k e = absurd (let z : _≡_ {A = ℕ} 0 1 = cc in omega arith)
 target-number cs (TargetRecord q) k e = cc
 target-number cs Text k e = absurd (let z : _≡_ {A = ℕ} 0 1 = cc in omega arith)

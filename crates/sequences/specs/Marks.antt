@@ -30,7 +30,7 @@ ReadMarked inside r b = (source : Bool) (q : ℕ) (cs : List ℕ) (at : ℕ)
 abbrev pub insideIn : Bool → ℕ → Bool → Record → Bool
 insideIn source q inside (UnitStart c) = inside
 insideIn source q inside UnitEnd = inside
-insideIn source q inside (Segment i c s) = source
+insideIn source q inside (Segment f) = source
 insideIn source q inside (Ignorable i) = source
 insideIn source q inside (Target k) = not source && eqb q k
 insideIn source q inside Text = inside

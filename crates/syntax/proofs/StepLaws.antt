@@ -89,12 +89,12 @@ record-same (InSource a) cs UnitEnd w h = refl
 record-same (InTarget a) cs UnitEnd w h = refl
 record-same Complete cs UnitEnd w h = refl
 record-same (Alone a) cs UnitEnd w h = refl
-record-same UnitDue cs (Segment i c s) w h = refl
-record-same PartDue cs (Segment i c s) w h = refl
-record-same (InSource a) cs (Segment i c s) w h = refl
-record-same (InTarget a) cs (Segment i c s) w h = refl
-record-same Complete cs (Segment i c s) w h = refl
-record-same (Alone a) cs (Segment i c s) w h = refl
+record-same UnitDue cs (Segment f) w h = refl
+record-same PartDue cs (Segment f) w h = refl
+record-same (InSource a) cs (Segment f) w h = refl
+record-same (InTarget a) cs (Segment f) w h = refl
+record-same Complete cs (Segment f) w h = refl
+record-same (Alone a) cs (Segment f) w h = refl
 record-same UnitDue cs (Ignorable i) w h = refl
 record-same PartDue cs (Ignorable i) w h = refl
 record-same (InSource a) cs (Ignorable i) w h = refl
@@ -141,7 +141,7 @@ pub part-same : (cs : List ℕ) (r : Read) → isPart r ≡ is-part (meaning cs 
 unfolding is-part
 part-same cs (Good (UnitStart c) w) = refl
 part-same cs (Good UnitEnd w) = refl
-part-same cs (Good (Segment i c s) w) = refl
+part-same cs (Good (Segment f) w) = refl
 part-same cs (Good (Ignorable i) w) = refl
 part-same cs (Good (Target q) w) = refl
 part-same cs (Good Text w) = refl

@@ -49,7 +49,7 @@ read-view : (cs : List ℕ) (r : Read) → readView r ≡ viewOf (item-in (meani
 unfolding viewOf class half is-form-P id-of fields item-in
 read-view cs (Good (UnitStart c) w) = refl
 read-view cs (Good UnitEnd w) = refl
-read-view cs (Good (Segment i c s) w) = refl
+read-view cs (Good (Segment f) w) = refl
 read-view cs (Good (Ignorable i) w) = refl
 read-view cs (Good (Target q) w) = refl
 read-view cs (Good Text w) = refl

@@ -82,7 +82,7 @@ itemView (AnnotationEnd w i) = annotationView 2 (formFlag w) i
 abbrev pub recordView : Record → View
 recordView (UnitStart c) = nothing
 recordView UnitEnd = nothing
-recordView (Segment i c s) = nothing
+recordView (Segment f) = nothing
 recordView (Ignorable i) = nothing
 recordView (Target q) = nothing
 recordView Text = nothing

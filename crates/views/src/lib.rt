@@ -123,7 +123,7 @@ fn record_view(x: Record) -> View
     match x {
         Record::Unit(_) => nothing(),
         Record::UnitEnd => nothing(),
-        Record::Segment(_, _, _) => nothing(),
+        Record::Segment(_) => nothing(),
         Record::Ignorable(_) => nothing(),
         Record::Target(_) => nothing(),
         Record::Text => nothing(),

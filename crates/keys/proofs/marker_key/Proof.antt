@@ -1,8 +1,5 @@
-use borrow.Author.Tests.{eq-eqb, ne-eqb, not-true, not-false}
+use borrow.Author.Tests.{eq-eqb, ne-eqb, lt-leb, le-leb, not-true, not-false}
 use Rattle.keys.specs.Marks.{markerKey, keyBy}
-use native.Mathlib.Omega.{arith}
-use mathlib.Core.Path.{_∙_, ap, refl}
-use borrow.Author.Tests.{lt-leb, le-leb, lt-ltb, le-ltb}
 use borrow.Author.Needs.{needs}
 use Rattle.keys.proofs.marker_key.Statement.{statement}
 use Rattle.keys.proofs.marker_key.Tie as tie
@@ -16,18 +13,25 @@ returns c = simp (lt-leb _ _ (c .if1 .taken))
 returns-2 : tie.Need-returns-2
 unfolding markerKey keyBy
 returns-2 c =
-    let if1 = c .before .before .before .before .if1 in
-    simp (le-leb _ _ (if1 .left), ← c .before .low-of .ensures .0, eq-eqb _ _ (c .if2 .taken))
+    let if1 = c .before .before .before .if1 in
+    simp (
+      le-leb _ _ (if1 .left),
+      ← c .before .before .mark-of .ensures,
+      ← c .before .low-of .ensures .0,
+      eq-eqb _ _ (c .if2 .taken),
+    )
 
 -- src/lib.rt:152:9
 returns-3 : tie.Need-returns-3
 unfolding markerKey keyBy
 returns-3 c =
-    let if1 = c .before .before .before .before .before .before .if1 in
+    let if1 = c .before .before .before .before .before .if1 in
+    let mark-of = c .before .before .before .before .mark-of in
     let low-of = c .before .before .before .low-of in
     let marker-good = c .before .marker-good in
     simp (
       le-leb _ _ (if1 .left),
+      ← mark-of .ensures,
       ← low-of .ensures .0,
       ne-eqb _ _ (c .before .before .if2 .left),
       ← marker-good .ensures,
@@ -39,17 +43,19 @@ returns-4 : tie.Need-returns-4
 unfolding markerKey keyBy
 returns-4 c =
     let after-low-of = c .before .before .before .before .before in
-    let if1 = after-low-of .before .before .before .if1 in
+    let if1 = after-low-of .before .before .if1 in
+    let mark-of = after-low-of .before .mark-of in
     let low-of = after-low-of .low-of in
     let if2 = c .before .before .before .before .if2 in
     let marker-good = c .before .before .before .marker-good in
     simp (
       le-leb _ _ (if1 .left),
+      ← mark-of .ensures,
       ← low-of .ensures .0,
       ne-eqb _ _ (if2 .left),
       ← marker-good .ensures,
       not-false (marker-good .result) (c .before .before .if3 .left),
-      c .wide .ensures .0,
+      c .wide-to-u32 .ensures .0,
       c .before .number-at .ensures,
     )
 
@@ -59,8 +65,8 @@ marker-key-spec =
     tie.close
     (tie.spec
     returns
-    -- by search: shared-slice-read-low-of 147:22, shared-slice-read-low-of-2 147:28, low-of-requires 147:9
-    (λ c. search needs) (λ c. search needs) (λ c κs. search needs)
+    -- by search: no need of `mark_of` and `low_of`
+    (λ c κs. search needs) (λ c κs. search needs)
     returns-2
     -- by search: marker-good-requires 151:9
     (λ c κs. search needs)
