@@ -17,19 +17,17 @@ use Rattle.places.specs.Found.{found, found-at, state-after, marker}
 use Rattle.places.specs.Markers.{item-in, is-marked}
 use Rattle.places.specs.Offsets.{At}
 use Rattle.places.proofs.Places.{at-end}
-use Rattle.table.specs.Meaning.{record-meaning, meaning, body}
+use Rattle.table.specs.Meaning.{record-meaning, body}
 use Rattle.table.specs.declared.Record.{Record}
 use Rattle.table.specs.declared.Record.the-variants.{Unit as UnitStart, UnitEnd, Segment, Ignorable, Target, Text, Inline}
-use Rattle.table.specs.declared.Read.{Read}
-use Rattle.table.specs.declared.Read.the-variants.{Good, Ill, Broken}
 use Rattle.glance.specs.declared.Glance.{Glance}
 use Rattle.glance.specs.Glances.{headIn, markerIn}
 use Rattle.orders.proofs.WalkLaws.{Walked}
 use Rattle.sequences.proofs.GlanceLaws.{item-marked}
 use Rattle.contents.specs.Contents.{marker-offset, no-offset, barred-found, barred}
-use Rattle.contents.specs.Heads.{head-kind, headOf, insideAfter, isFound}
+use Rattle.contents.specs.Heads.{head-kind, insideAfter, isFound}
 
-pub head-in : (cs : List ℕ) (x : Record) → headIn x ≡ head-kind (record-meaning cs x)
+head-in : (cs : List ℕ) (x : Record) → headIn x ≡ head-kind (record-meaning cs x)
 unfolding head-kind
 head-in cs (UnitStart c) = refl
 head-in cs UnitEnd = refl
@@ -38,12 +36,6 @@ head-in cs (Ignorable i) = refl
 head-in cs (Target q) = refl
 head-in cs Text = refl
 head-in cs (Inline i) = refl
-
-pub head-same : (cs : List ℕ) (r : Read) → headOf r ≡ head-kind (meaning cs r)
-unfolding head-kind
-head-same cs (Good x w) = head-in cs x
-head-same cs Ill = refl
-head-same cs (Broken b) = refl
 
 marker-in : (cs : List ℕ) (x : Record) → markerIn x ≡ is-marked (item-in (record-meaning cs x))
 unfolding is-marked item-in class

@@ -4,9 +4,6 @@ use mathlib.Core.Bool.{Bool, not, _&&_, _||_}
 use lib.Dec.{eqb}
 use Rattle.xliff.specs.Encode as encode
 use Rattle.xliff.specs.Encode.{opening, closing, part-head, target-head, text-run, inline, ill-text, broken}
-use Rattle.table.specs.declared.Read.{Read}
-use Rattle.table.specs.declared.Read.the-variants.{Good, Ill, Broken}
-use Rattle.glance.specs.Glances.{headIn}
 
 unfoldable pub head-kind : encode.Record → ℕ
 head-kind (opening c) = 2
@@ -17,12 +14,6 @@ head-kind (text-run cs) = 2
 head-kind (inline x) = 2
 head-kind ill-text = 2
 head-kind (broken b) = 2
-
--- the code's cases; HeadLaws has that they are head-kind
-abbrev pub headOf : Read → ℕ
-headOf (Good x w) = headIn x
-headOf Ill = 2
-headOf (Broken b) = 2
 
 -- what follows is of a content that is asked for: of a source, where `targets` of a target too
 abbrev pub insideAfter : Bool → ℕ → Bool → Bool

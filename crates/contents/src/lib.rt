@@ -1,42 +1,13 @@
 // The contents of a table, each by itself: the offsets of heads and markers in table order, and their keys.
-use table::Read;
-use table::Record;
 ghost use mathlib.Core.Path.{_≡_};
-ghost use mathlib.Core.Bool.{false, cond};
 ghost use mathlib.Core.List.{[]};
 ghost use Prim.Native.Nat.{_+_, _-_, _<_, _≤_};
 ghost use lib.ListN.{length, take, drop};
 ghost use lib.Dec.{eqb};
 ghost use Rattle.xliff.specs.Parse.{read};
 ghost use Rattle.places.specs.Passes.{Passes};
-ghost use Rattle.glance.specs.Glances.{headIn};
-ghost use Rattle.contents.specs.Heads.{headOf, insideAfter, isFound};
+ghost use Rattle.contents.specs.Heads.{head-kind, insideAfter, isFound};
 ghost use Rattle.contents.specs.Contents.{barred, bar-key, barKeys};
-
-fn head_in(x: Record) -> u8
-    ensures { λ r. ⌜ r ≡ headIn x ⌝ }
-{
-    match x {
-        Record::Unit(_) => 2,
-        Record::UnitEnd => 2,
-        Record::Segment(_) => 0,
-        Record::Ignorable(_) => 0,
-        Record::Target(_) => 1,
-        Record::Text => 2,
-        Record::Inline(_) => 2,
-    }
-}
-
-// 0 for SG and IG, 1 for TG, 2 for all else.
-fn head_of(r: Read) -> u8
-    ensures { λ x. ⌜ x ≡ headOf r ⌝ }
-{
-    match r {
-        Read::Good(x, _) => head_in(x),
-        Read::Ill => 2,
-        Read::Broken(_) => 2,
-    }
-}
 
 // Whether what follows a record is of a content that is asked for.
 fn inside_after(targets: bool, head: u8, inside: bool) -> bool
@@ -69,33 +40,25 @@ pub fn contents(t: &[u8], targets: bool, out: &mut [u16]) -> usize
     m
 }
 
-// The key of a head or marker; 1 for TG.
-fn key_by(head: u8, key: u32) -> u32
-    ensures { λ r. ⌜ r ≡ cond (eqb head 1) 1 key ⌝ }
+// Whether TG stands at the head of `s`, and is not cut: no field of it can be bad.
+fn is_target(s: &[u8]) -> bool
+    ensures { λ r. ⌜ r ≡ eqb (head-kind (read (now (s .entry)))) 1 ⌝ }
 {
-    if head == 1 { 1 } else { key }
+    if s.len() < marks::TARGET_WIDTH {
+        return false;
+    }
+    marks::marked_by(s, b"TG")
 }
 
 // The key of the record at an offset: 1 for TG, 0 for all but TG and markers, also where no record is.
-fn read_key(t: &[u8], at: usize) -> u32
+fn bar_key(t: &[u8], at: usize) -> u32
     ensures { λ r. ⌜ r ≡ bar-key (read (drop at (now (t .entry)))) ⌝ }
 {
     if t.len() < at {
         return 0;
     }
-    let r = walker::known_at(t, at);
-    key_by(head_of(r), keys::key_of(views::read_view(r)))
-}
-
-// The same. Only a record whose mark begins as that of TG is read whole.
-fn bar_key(t: &[u8], at: usize) -> u32
-    ensures { λ r. ⌜ r ≡ bar-key (read (drop at (now (t .entry)))) ⌝ }
-{
-    if t.len() <= at {
-        return 0;
-    }
-    if t[at] == b'T' {
-        return read_key(t, at);
+    if is_target(&t[at..]) {
+        return 1;
     }
     keys::key_at(t, at)
 }
@@ -107,7 +70,7 @@ pub fn bar_keys(t: &[u8], os: &[u16], out: &mut [u32])
 {
     let mut i: usize = 0;
     while i < os.len() {
-        out[i] = bar_key(t, views::wide(os[i]));
+        out[i] = bar_key(t, marks::wide_to_usize(os[i]));
         i += 1;
     }
 }
