@@ -51,7 +51,7 @@ target-letters : (a b c d : ℕ) (s : List ℕ) → a ≡ 84 → b ≡ 71 → eq
 unfolding head-kind read mark-at mark-of is read-as whole enough
 target-letters a b c d s e f = rw (e, f)
 
-pub target-there : (s : List ℕ) → 4 ≤ length s → marked s (84 ∷ 71 ∷ []) ≡ true → true ≡ eqb (head-kind (read s)) 1
+target-there : (s : List ℕ) → 4 ≤ length s → marked s (84 ∷ 71 ∷ []) ≡ true → true ≡ eqb (head-kind (read s)) 1
 target-there [] l m = absurd (omega arith)
 target-there (a ∷ []) l m = absurd (omega arith)
 target-there (a ∷ b ∷ []) l m = absurd (omega arith)
@@ -77,3 +77,7 @@ no-target s h f = by (read s) refl
     by (inline x) e = refl
     by ill-text e = refl
     by (broken b) e = refl
+
+pub target-is : (s : List ℕ) → Bytes s → 4 ≤ length s → (b : Bool) → b ≡ marked s (84 ∷ 71 ∷ []) → b ≡ eqb (head-kind (read s)) 1
+target-is s h l true m = target-there s l (sym m)
+target-is s h l false m = no-target s h (λ k. sym m)
