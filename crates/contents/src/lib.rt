@@ -70,7 +70,7 @@ pub fn bar_keys(t: &[u8], os: &[u16], out: &mut [u32])
 {
     let mut i: usize = 0;
     while i < os.len() {
-        out[i] = bar_key(t, marks::wide_to_usize(os[i]));
+        out[i] = bar_key(t, marks::wide(os[i]));
         i += 1;
     }
 }

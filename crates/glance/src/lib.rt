@@ -42,7 +42,7 @@ fn text_glance(t: &[u8]) -> Glance
         return item_glance(false, 0);
     }
     let n = marks::number_at(t, 2);
-    item_glance(false, marks::TEXT_WIDTH + marks::wide_to_usize(n))
+    item_glance(false, marks::TEXT_WIDTH + marks::wide(n))
 }
 
 fn target_glance(t: &[u8]) -> Glance

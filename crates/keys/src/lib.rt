@@ -126,7 +126,7 @@ pub fn keys_at(t: &[u8], os: &[u16], out: &mut [u32]) -> usize
 {
     let mut i: usize = 0;
     while i < os.len() {
-        out[i] = key_at(t, marks::wide_to_usize(os[i]));
+        out[i] = key_at(t, marks::wide(os[i]));
         i += 1;
     }
     i

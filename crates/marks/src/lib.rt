@@ -164,23 +164,32 @@ pub fn fixed_width(m: Mark) -> usize
     }
 }
 
-// The same number in more bits: of a byte, and of a number of two bytes.
-pub fn wide(x: u8) -> u16
+fn wide_byte(x: u8) -> u16
     ensures { λ r. ⌜ (r ≡ x) × (r < 256) ⌝ }
 {
     x as u16
 }
 
+// A number of two bytes as one that counts or places bytes.
+pub fn wide(x: u16) -> usize
+    ensures { λ r. ⌜ (r ≡ x) × (r < 65536) ⌝ }
+{
+    x as usize
+}
+
+// The same back.
+pub fn narrow(x: usize) -> u16
+    requires { ⌜ x < 65536 ⌝ }
+    ensures { λ r. ⌜ r ≡ x ⌝ }
+{
+    x as u16
+}
+
+// A number of two bytes as a part of a larger one.
 pub fn wide_to_u32(x: u16) -> u32
     ensures { λ r. ⌜ (r ≡ x) × (r < 65536) ⌝ }
 {
     x as u32
-}
-
-pub fn wide_to_usize(x: u16) -> usize
-    ensures { λ r. ⌜ (r ≡ x) × (r < 65536) ⌝ }
-{
-    x as usize
 }
 
 // The two-byte number at `at`, high byte first.
@@ -188,7 +197,7 @@ pub fn number_at(s: &[u8], at: usize) -> u16
     requires { ⌜ at + 2 ≤ length (now s) ⌝ }
     ensures { λ r. ⌜ r ≡ two-at (now (s .entry)) at ⌝ }
 {
-    wide(s[at]) * 256 + wide(s[at + 1])
+    wide_byte(s[at]) * 256 + wide_byte(s[at + 1])
 }
 
 // How many bytes the record of the mark `m` at the head of `t` takes.
@@ -197,7 +206,7 @@ fn width_by(m: Mark, t: &[u8]) -> usize
     ensures { λ r. ⌜ r ≡ size-of (meaning m) (now (t .entry)) ⌝ }
 {
     match m {
-        Mark::TX => TEXT_WIDTH + wide_to_usize(number_at(t, 2)),
+        Mark::TX => TEXT_WIDTH + wide(number_at(t, 2)),
         _ => fixed_width(m),
     }
 }

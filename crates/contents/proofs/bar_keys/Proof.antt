@@ -34,7 +34,7 @@ loop-again c =
       omega arith,
       simp length-set (loop .inv .1),
       ap (λ (k : ℕ). take (i + 1) (set (loop .out) i k))
-          (c .bar-key .ensures ∙ ap (λ (o : ℕ). bar-key (read (drop o t))) (c .before .wide-to-usize .ensures .0))
+          (c .bar-key .ensures ∙ ap (λ (o : ℕ). bar-key (read (drop o t))) (c .before .wide .ensures .0))
           ∙ filled-next (λ (o : ℕ). bar-key (read (drop o t))) (args .os .now) (loop .out) i (omega arith)
           (omega arith) (loop .inv .2),
     )

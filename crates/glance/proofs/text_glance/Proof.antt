@@ -13,7 +13,7 @@ returns-2 c =
     let if1 = c .before .before .before .if1 in
     simp (
       c .item-glance2 .ensures,
-      c .before .wide-to-usize .ensures .0,
+      c .before .wide .ensures .0,
       c .before .before .number-at .ensures,
       le-leb _ _ (if1 .left),
     )

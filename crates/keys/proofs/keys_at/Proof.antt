@@ -32,7 +32,7 @@ loop-again c =
       omega arith,
       simp length-set (loop .inv .1),
       ap (λ (k : ℕ). take (i + 1) (set (loop .out) i k))
-          (c .key-at .ensures ∙ ap (λ (k : ℕ). key (item-at t k)) (c .before .wide-to-usize .ensures .0))
+          (c .key-at .ensures ∙ ap (λ (k : ℕ). key (item-at t k)) (c .before .wide .ensures .0))
           ∙ filled-next (λ (o : ℕ). key (item-at t o)) (args .os .now) (loop .out) i (omega arith) (omega arith)
           (loop .inv .2),
     )

@@ -15,7 +15,7 @@ returns c =
     let s = args .s .now in
     let at = args .at in
     let next : at + 1 ≡ suc at = omega arith in
-    ap₂ (λ (x y : ℕ). x * 256 + y) (c .before .before .wide .ensures .0) (c .wide2 .ensures .0)
+    ap₂ (λ (x y : ℕ). x * 256 + y) (c .before .before .wide-byte .ensures .0) (c .wide-byte2 .ensures .0)
     ∙ ap (λ (k : ℕ). getD s at 0 * 256 + getD s k 0) next
 
 pub number-at-spec : {M : Type 1} → statement M

@@ -12,7 +12,7 @@ use Rattle.marks.proofs.width_by.Tie as tie
 returns : tie.Need-returns
 returns c =
     let t = c .before .before .before .before .before .args .t .now in
-    ap (λ (n : ℕ). 4 + n) (c .wide-to-usize .ensures .0 ∙ c .before .number-at .ensures)
+    ap (λ (n : ℕ). 4 + n) (c .wide .ensures .0 ∙ c .before .number-at .ensures)
     ∙ sym (ap (λ (m : Mark). size-of (meaning m) t) (c .before .before .enum-told .given .1))
 
 -- every other mark
