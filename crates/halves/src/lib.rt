@@ -63,12 +63,12 @@ fn follow_before(keys: &[u32], links: &[u16], i: usize) -> usize
     ensures { λ r. ⌜ (r ≡ half-before (now (keys .entry)) i) × (r ≤ i) ⌝ }
 {
     let key = keys[i];
-    let mut j = views::wide(links[i]);
+    let mut j = marks::wide(links[i]);
     while 0 < j {
         if keys::is_other(key, keys[j - 1]) {
             return j;
         }
-        j = views::wide(links[j - 1]);
+        j = marks::wide(links[j - 1]);
     }
     0
 }
@@ -79,12 +79,12 @@ fn follow_after(keys: &[u32], links: &[u16], i: usize) -> usize
     ensures { λ r. ⌜ (r ≡ half-after (now (keys .entry)) i) × (i < r) × (r ≤ length (now (keys .entry))) ⌝ }
 {
     let key = keys[i];
-    let mut j = keys.len() - views::wide(links[i]);
+    let mut j = keys.len() - marks::wide(links[i]);
     while j < keys.len() {
         if keys::is_other(key, keys[j]) {
             return j;
         }
-        j = keys.len() - views::wide(links[j]);
+        j = keys.len() - marks::wide(links[j]);
     }
     j
 }

@@ -5,13 +5,6 @@ ghost use Prim.Native.Nat.{_+_, _-_, _<_, _≤_};
 ghost use lib.ListN.{length, getD, set};
 ghost use Rattle.id_links.specs.Links.{group, Linked, Headed, LinkedAfter};
 
-// An index that an array holds.
-pub fn wide(x: u16) -> usize
-    ensures { λ r. ⌜ r ≡ x ⌝ }
-{
-    x as usize
-}
-
 // The group of a key: the last eight bits of its id.
 pub fn group_of(k: u32) -> usize
     ensures { λ r. ⌜ (r ≡ group k) × (r < 256) ⌝ }

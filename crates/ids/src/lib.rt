@@ -18,17 +18,11 @@ ghost use Rattle.places.specs.Passes.{Passes};
 ghost use Rattle.ids.specs.Keys.{Keyed, PairKeyed, ItemKeyed, HeadKeyed, RecordKeyed, ReadKeyed, clashTest, nameBy, ownerBy, NameAt};
 ghost use Rattle.ids.specs.KeyLinks.{Links, LinkedIf};
 
-fn wide(x: u16) -> u32
-    ensures { λ r. ⌜ (r ≡ x) × (r < 65536) ⌝ }
-{
-    x as u32
-}
-
 fn key(o: u32, id: u16) -> u32
     requires { ⌜ o ≤ 3 ⌝ }
     ensures { λ r. ⌜ Keyed o id r ⌝ }
 {
-    wide(id) * 64 + o
+    marks::wide_to_u32(id) * 64 + o
 }
 
 fn pair_key(o: u32, h: Half, f: Fields) -> u32
@@ -68,7 +62,7 @@ fn record_key(o: u32, x: Record) -> u32
     match x {
         Record::Unit(_) => 0,
         Record::UnitEnd => 0,
-        Record::Segment(id, _, _) => head_key(id),
+        Record::Segment(f) => head_key(f.id),
         Record::Ignorable(id) => head_key(id),
         Record::Target(_) => 0,
         Record::Text => 0,
@@ -135,12 +129,12 @@ fn clash(keys: &[u32], links: &[u16], heads: &[u16], k: u32) -> bool
     requires { ⌜ Links (now keys) (now links) (now heads) × (length (now keys) ≤ 1024) ⌝ }
     ensures { λ r. ⌜ r ≡ any (clashTest k) (now (keys .entry)) ⌝ }
 {
-    let mut j = id_links::wide(heads[id_links::group_of(k)]);
+    let mut j = marks::wide(heads[id_links::group_of(k)]);
     while 0 < j {
         if clash_with(k, keys[j - 1]) {
             return true;
         }
-        j = id_links::wide(links[j - 1]);
+        j = marks::wide(links[j - 1]);
     }
     false
 }

@@ -79,15 +79,9 @@ fn join_checked(table: &[u8], a: Answer, n: usize, out: &mut [u8]) -> Answer
     }
 }
 
-fn wide(x: u16) -> usize
-    ensures { λ r. ⌜ (r ≡ x) × (r < 65536) ⌝ }
-{
-    x as usize
-}
-
 // Accepted: the output's first bytes are the joined table, the rest is unchanged. Refused: the whole output is unchanged.
 pub fn join(table: &[u8], part: u16, out: &mut [u8]) -> Answer
     ensures { λ r. ⌜ Answers (join (now (table .entry)) part (length (now (out .entry)))) r (now (out .entry)) (now (out .exit)) ⌝ }
 {
-    join_checked(table, table_check::check(table), wide(part), out)
+    join_checked(table, table_check::check(table), marks::wide(part), out)
 }

@@ -68,7 +68,7 @@ fn ill_ended(t: &[u8], os: &[u16], keys: &[u32], i: usize, x: View) -> bool
         return false;
     }
     ill_matched(
-        keys::view_at(t, views::wide(os[start - 1]), keys[start - 1]),
+        keys::view_at(t, marks::wide(os[start - 1]), keys[start - 1]),
         x,
     )
 }
@@ -83,7 +83,7 @@ fn eight_in(t: &[u8], source: bool, os: &[u16], keys: &[u32], start: Place) -> P
     let mut led = false;
     let mut i = 0;
     while i < os.len() {
-        let at = views::wide(os[i]);
+        let at = marks::wide(os[i]);
         let x = keys::view_at(t, at, keys[i]);
         let bad = ill_ended(t, os, keys, i, x) | bad_alone(source, led, x);
         best = answers::lower_if(bad, best, at);

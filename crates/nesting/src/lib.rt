@@ -112,7 +112,7 @@ pub fn first_lone(t: &[u8], os: &[u16], keys: &[u32]) -> Place
     let mut i: usize = 0;
     while i < os.len() {
         let lone = is_lone(keys, i, &mut stack);
-        best = answers::lower_if(lone, best, views::wide(os[i]));
+        best = answers::lower_if(lone, best, marks::wide(os[i]));
         i += 1;
     }
     best

@@ -80,8 +80,8 @@ fn first_stray(keys: &[u32], starts: &[u16], ends: &[u16], first: usize, end: us
             keys[j],
             first,
             end,
-            views::wide(starts[j]),
-            views::wide(ends[j]),
+            marks::wide(starts[j]),
+            marks::wide(ends[j]),
         ) {
             return j;
         }
@@ -120,10 +120,10 @@ fn encloses_stray(
     if !is_pair_start(keys[i]) {
         return false;
     }
-    if !is_closed_start(keys::view_at(t, views::wide(os[i]), keys[i])) {
+    if !is_closed_start(keys::view_at(t, marks::wide(os[i]), keys[i])) {
         return false;
     }
-    let end = views::wide(ends[i]);
+    let end = marks::wide(ends[i]);
     if os.len() <= end {
         return false;
     }
@@ -147,7 +147,7 @@ fn overlapping(
     let mut i = 0;
     while i < os.len() {
         let bad = encloses_stray(t, os, keys, starts, ends, i);
-        best = answers::lower_if(bad, best, views::wide(os[i]));
+        best = answers::lower_if(bad, best, marks::wide(os[i]));
         i += 1;
     }
     best
@@ -161,7 +161,7 @@ fn is_closed(t: &[u8], os: &[u16], keys: &[u32], i: usize) -> bool
     if !is_pair_start(keys[i]) {
         return false;
     }
-    is_closed_start(keys::view_at(t, views::wide(os[i]), keys[i]))
+    is_closed_start(keys::view_at(t, marks::wide(os[i]), keys[i]))
 }
 
 // Whether no marker is the start of a pair with canOverlap N. Linear.

@@ -17,7 +17,7 @@ use Rattle.xliff.specs.Encode.{opening, closing, part-head, target-head, text-r
 use Rattle.xliff.specs.Parse.{unit}
 use Rattle.xliff.specs.Split.{has-id, part-has-id, id-taken}
 use Rattle.xliff.proofs.lists.Tests.{any-append}
-use Rattle.table.specs.Number.{numberAt}
+use Rattle.xliff.specs.Bytes.{two-at}
 use Rattle.table.specs.Meaning.{item, record-meaning, body}
 use Rattle.table.specs.declared.Item as read
 use Rattle.table.specs.declared.Item.the-variants.{Character, Standalone, Isolated, Pair, AnnotationStart, AnnotationEnd}
@@ -45,7 +45,7 @@ has-record-id i r = eqb (record-id r) i
 
 -- the bytes of a record whose id stands behind the mark
 abbrev Behind : encode.Record → Type 0
-Behind r = (4 ≤ length (record-bytes r)) × ((rest : List ℕ) → numberAt (record-bytes r ++ rest) 2 ≡ record-id r)
+Behind r = (4 ≤ length (record-bytes r)) × ((rest : List ℕ) → two-at (record-bytes r ++ rest) 2 ≡ record-id r)
 
 marker-behind : (x : read.Item) → isMarker x ≡ true → Behind (inline (item x))
 unfolding record-bytes field-bytes code-bytes two mark id-of
@@ -102,19 +102,19 @@ module _ (t : List ℕ) (at : ℕ) (rs : List encode.Record) (g : Glance) (a : A
   first-behind : eqb (g .head) 0 || g .marker ≡ true → Behind (v .step .first)
   first-behind e = subst Behind (v .step .means) (named-behind (body (drop at t)) (v .the) (named-is ∙ e))
 
-  number-there : numberAt t (at + 2) ≡ numberAt (record-bytes (v .step .first) ++ spell (v .step .others)) 2
+  number-there : two-at t (at + 2) ≡ two-at (record-bytes (v .step .first) ++ spell (v .step .others)) 2
   unfolding spell gather
   number-there =
       sym (ap₂ (λ (x y : ℕ). x * 256 + y) (getD-drop at t 2 0) (getD-drop at t 3 0 ∙ ap (λ (k : ℕ). getD t k 0) (let z : at + 3 ≡ at + 2 + 1 = omega arith in z)))
-      ∙ ap (λ (s : List ℕ). numberAt s 2) (sym (a .rest) ∙ ap spell (v .step .split))
+      ∙ ap (λ (s : List ℕ). two-at s 2) (sym (a .rest) ∙ ap spell (v .step .split))
 
   pub id-fits : eqb (g .head) 0 || g .marker ≡ true → at + 4 ≤ length t
   id-fits e = omega (arith, first-behind e .0, v .step .wide, v .step .fits)
 
-  pub has-walked : (i : ℕ) → (i ≡ 0 → ⊥) → (eqb (g .head) 0 || g .marker) && eqb (numberAt t (at + 2)) i ≡ has-record-id i (v .step .first)
+  pub has-walked : (i : ℕ) → (i ≡ 0 → ⊥) → (eqb (g .head) 0 || g .marker) && eqb (two-at t (at + 2)) i ≡ has-record-id i (v .step .first)
   has-walked i n = by (eqb (g .head) 0 || g .marker) refl
     where
-      by : (b : Bool) → eqb (g .head) 0 || g .marker ≡ b → b && eqb (numberAt t (at + 2)) i ≡ has-record-id i (v .step .first)
+      by : (b : Bool) → eqb (g .head) 0 || g .marker ≡ b → b && eqb (two-at t (at + 2)) i ≡ has-record-id i (v .step .first)
       by true e = ap (λ (k : ℕ). eqb k i) (number-there ∙ first-behind e .1 (spell (v .step .others)))
       by false e = sym (ap (has-record-id i) (sym (v .step .means)) ∙ ap (λ (k : ℕ). eqb k i) (unnamed (body (drop at t)) (v .the) (named-is ∙ e)) ∙ zero-not i n)
 

@@ -10,7 +10,7 @@ ghost use lib.Dec.{eqb};
 ghost use Rattle.xliff.specs.Parse.{unit};
 ghost use Rattle.xliff.specs.Split.{id-taken};
 ghost use Rattle.places.specs.Passes.{Passes};
-ghost use Rattle.table.specs.Number.{numberAt};
+ghost use Rattle.xliff.specs.Bytes.{two-at};
 ghost use Rattle.part_at.specs.Stands.{Standing};
 ghost use Rattle.part_refusals.specs.Refusals.{closedIn, closedBy, ClosedIs, BadOrdersAre};
 
@@ -56,10 +56,10 @@ pub fn is_closed(t: &[u8], place: PartPlace) -> bool
 // Whether the record at an offset has the id. `named`: it is that of a part or a marker, whose id stands behind the mark.
 fn has_id(t: &[u8], at: usize, named: bool, id: u16) -> bool
     requires { ⌜ (named ≡ true → at + 4 ≤ length (now t)) ⌝ }
-    ensures { λ r. ⌜ r ≡ (named && eqb (numberAt (now (t .entry)) (at + 2)) id) ⌝ }
+    ensures { λ r. ⌜ r ≡ (named && eqb (two-at (now (t .entry)) (at + 2)) id) ⌝ }
 {
     if named {
-        return table::number_at(t, at + 2) == id;
+        return marks::number_at(t, at + 2) == id;
     }
     false
 }
@@ -83,17 +83,11 @@ pub fn is_taken(t: &[u8], id: u16) -> bool
     false
 }
 
-fn wide(x: u16) -> u32
-    ensures { λ r. ⌜ (r ≡ x) × (r < 65536) ⌝ }
-{
-    x as u32
-}
-
 // 16: whether both parts have targets and the second order is not the first plus 1.
 pub fn bad_orders(x: PartPlace, y: PartPlace) -> bool
     ensures { λ r. ⌜ BadOrdersAre x y r ⌝ }
 {
-    let first = wide(x.order) + 1;
-    let second = wide(y.order);
+    let first = marks::wide_to_u32(x.order) + 1;
+    let second = marks::wide_to_u32(y.order);
     x.has_target & (y.has_target & !(second == first))
 }

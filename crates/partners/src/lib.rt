@@ -110,7 +110,7 @@ fn lone_in_source(os: &[u16], ks: &[u32], start: Place) -> Place
     let mut best = start;
     let mut i = 0;
     while i < os.len() {
-        best = answers::lower_if(lone_s(ks, i), best, views::wide(os[i]));
+        best = answers::lower_if(lone_s(ks, i), best, marks::wide(os[i]));
         i += 1;
     }
     best
@@ -174,7 +174,7 @@ fn lone_in_target(os: &[u16], ks: &[u32], bars: &[u32], start: Place) -> Place
         best = answers::lower_if(
             stays_lone(ks, i, bars, &mut stack),
             best,
-            views::wide(os[i]),
+            marks::wide(os[i]),
         );
         i += 1;
     }

@@ -10,7 +10,7 @@ use Rattle.xliff.specs.Bytes.{two-at, enough}
 use Rattle.xliff.specs.Parse.{is}
 use Rattle.xliff.specs.Calls.{Call, SP, JN, ST, RT, RW}
 use Rattle.xliff.specs.Desk.{Request, lent, asked, request}
-use Rattle.table.specs.Number.{marked}
+use Rattle.marks.specs.Marks.{marked}
 
 pub enough-yes : (n : ℕ) (s : List ℕ) → n ≤ length s → enough n s ≡ true
 unfolding enough

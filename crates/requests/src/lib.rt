@@ -31,16 +31,10 @@ pub fn size_of(r: Request) -> usize
     match r {
         Request::Split(_, _, _, _) => 10,
         Request::Join(_) => 4,
-        Request::SetTarget(_, _, n) => 7 + wide(n),
+        Request::SetTarget(_, _, n) => 7 + marks::wide(n),
         Request::RemoveTarget(_) => 4,
         Request::Rewrite(_, _, _) => 6,
     }
-}
-
-fn wide(n: u16) -> usize
-    ensures { λ r. ⌜ (r ≡ n) × (r < 65536) ⌝ }
-{
-    n as usize
 }
 
 // SP part, cut, cut, id
@@ -50,10 +44,10 @@ fn split_of(s: &[u8]) -> Asked
     if s.len() < 10 {
         return Asked::Unreadable;
     }
-    let part = table::number_at(s, 2);
-    let source = table::number_at(s, 4);
-    let target = table::number_at(s, 6);
-    let id = table::number_at(s, 8);
+    let part = marks::number_at(s, 2);
+    let source = marks::number_at(s, 4);
+    let target = marks::number_at(s, 6);
+    let id = marks::number_at(s, 8);
     Asked::Readable(Request::Split(part, source, target, id))
 }
 
@@ -64,7 +58,7 @@ fn join_of(s: &[u8]) -> Asked
     if s.len() < 4 {
         return Asked::Unreadable;
     }
-    Asked::Readable(Request::Join(table::number_at(s, 2)))
+    Asked::Readable(Request::Join(marks::number_at(s, 2)))
 }
 
 // ST part, state, length, content
@@ -74,11 +68,11 @@ fn set_of(s: &[u8]) -> Asked
     if s.len() < 7 {
         return Asked::Unreadable;
     }
-    let n = table::number_at(s, 5);
-    if s.len() < 7 + wide(n) {
+    let n = marks::number_at(s, 5);
+    if s.len() < 7 + marks::wide(n) {
         return Asked::Unreadable;
     }
-    Asked::Readable(Request::SetTarget(table::number_at(s, 2), s[4], n))
+    Asked::Readable(Request::SetTarget(marks::number_at(s, 2), s[4], n))
 }
 
 // RT part
@@ -88,7 +82,7 @@ fn remove_of(s: &[u8]) -> Asked
     if s.len() < 4 {
         return Asked::Unreadable;
     }
-    Asked::Readable(Request::RemoveTarget(table::number_at(s, 2)))
+    Asked::Readable(Request::RemoveTarget(marks::number_at(s, 2)))
 }
 
 // RW side, id, form
@@ -98,7 +92,7 @@ fn rewrite_of(s: &[u8]) -> Asked
     if s.len() < 6 {
         return Asked::Unreadable;
     }
-    Asked::Readable(Request::Rewrite(s[2], table::number_at(s, 3), s[5]))
+    Asked::Readable(Request::Rewrite(s[2], marks::number_at(s, 3), s[5]))
 }
 
 // The request at the head of `s`.
@@ -108,19 +102,19 @@ pub fn request_of(s: &[u8]) -> Asked
     if s.len() < 2 {
         return Asked::Unreadable;
     }
-    if table::marked_by(s, b"SP") {
+    if marks::marked_by(s, b"SP") {
         return split_of(s);
     }
-    if table::marked_by(s, b"JN") {
+    if marks::marked_by(s, b"JN") {
         return join_of(s);
     }
-    if table::marked_by(s, b"ST") {
+    if marks::marked_by(s, b"ST") {
         return set_of(s);
     }
-    if table::marked_by(s, b"RT") {
+    if marks::marked_by(s, b"RT") {
         return remove_of(s);
     }
-    if table::marked_by(s, b"RW") {
+    if marks::marked_by(s, b"RW") {
         return rewrite_of(s);
     }
     Asked::Unreadable

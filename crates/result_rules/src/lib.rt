@@ -39,18 +39,11 @@ fn by_markers(t: &[u8], src: &[u16], skeys: &[u32], tgt: &[u16], tkeys: &[u32], 
     0
 }
 
-fn narrow(n: usize) -> u16
-    requires { ⌜ n ≤ 64 ⌝ }
-    ensures { λ r. ⌜ r ≡ n ⌝ }
-{
-    n as u16
-}
-
 fn first_broken(t: &[u8], also_9: bool) -> u8
     requires { ⌜ Passes (now t) × (length (now t) ≤ 8192) ⌝ }
     ensures { λ r. ⌜ broken r ≡ of-result (fault-7 (unit (now (t .entry)) .parts) then cond «also_9» (fault-9 (unit (now (t .entry)) .parts)) none) ⌝ }
 {
-    let parts = narrow(orders::count_parts(t));
+    let parts = marks::narrow(orders::count_parts(t));
     let mut src = [0u16; 1024];
     let mut tgt = [0u16; 1024];
     let mut skeys = [0u32; 1024];

@@ -60,18 +60,12 @@ fn target_heads(t: &[u8], heads: &mut [u16]) -> usize
     m
 }
 
-fn wide(x: u16) -> usize
-    ensures { λ r. ⌜ (r ≡ x) × (r < 65536) ⌝ }
-{
-    x as usize
-}
-
 // The markers of the target whose TG is number `i` of the heads, if its order is `q`, behind the first `n`: those up to the next head.
 fn target_markers(t: &[u8], heads: &[u16], i: usize, q: u16, out: &mut [u16], n: usize) -> usize
     requires { ⌜ Passes (now t) × (length (now t) ≤ 8192) × (now heads ≡ head-offsets (now t)) × (i < length (now heads)) × (length (of-order q (head-number (now t) i)) + n ≤ length (now out)) × (length (now out) ≤ 1024) ⌝ }
     ensures { λ r. ⌜ (take r (now (out .exit)) ≡ take n (now (out .entry)) ++ of-order q (head-number (now (t .entry)) i)) × (r ≡ length (of-order q (head-number (now (t .entry)) i)) + n) × (length (now (out .exit)) ≡ length (now (out .entry))) ⌝ }
 {
-    let head = wide(heads[i]);
+    let head = marks::wide(heads[i]);
     let first = walker::glance_at(t, head);
     if q != first.order {
         return n;
@@ -96,7 +90,7 @@ fn head_orders(t: &[u8], heads: &[u16], out: &mut [u16])
 {
     let mut i: usize = 0;
     while i < heads.len() {
-        let g = walker::glance_at(t, wide(heads[i]));
+        let g = walker::glance_at(t, marks::wide(heads[i]));
         out[i] = g.order;
         i += 1;
     }

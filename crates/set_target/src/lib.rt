@@ -160,19 +160,13 @@ fn set_found(
     }
 }
 
-fn wide(x: u16) -> usize
-    ensures { λ r. ⌜ r ≡ x ⌝ }
-{
-    x as usize
-}
-
 fn set_checked(table: &[u8], a: Answer, n: u16, state: u8, content: &[u8], out: &mut [u8]) -> Answer
     requires { ⌜ answer-meaning a ≡ check (now table) ⌝ }
     ensures { λ r. ⌜ Answers (set-target (now (table .entry)) n state (now (content .entry)) (length (now (out .entry)))) r (now (out .entry)) (now (out .exit)) ⌝ }
 {
     match a {
         Answer::Accepted(_) => {
-            let found = part_at::part_at(table, wide(n));
+            let found = part_at::part_at(table, marks::wide(n));
             set_found(table, n, found, state, content, out)
         }
         Answer::Refused(k, at) => Answer::Refused(k, at),

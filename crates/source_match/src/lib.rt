@@ -92,12 +92,12 @@ fn matches_by(
         agrees: false,
         copies: false,
     };
-    let g = views::wide(id) % 256;
-    let mut j = views::wide(heads[g]);
+    let g = marks::wide(id) % 256;
+    let mut j = marks::wide(heads[g]);
     while 0 < j {
         let i = j - 1;
-        found = one_more(t, views::wide(os[i]), keys[i], id, x, found);
-        j = views::wide(links[i]);
+        found = one_more(t, marks::wide(os[i]), keys[i], id, x, found);
+        j = marks::wide(links[i]);
     }
     found
 }
@@ -140,7 +140,7 @@ fn ten_source(t: &[u8], os: &[u16], keys: &[u32]) -> Place
     let mut best = Place::Nowhere;
     let mut i = 0;
     while i < os.len() {
-        let at = views::wide(os[i]);
+        let at = marks::wide(os[i]);
         best = answers::lower_if(bad_copy_in_source(keys::view_at(t, at, keys[i])), best, at);
         i += 1;
     }
@@ -165,7 +165,7 @@ fn ten_target(
     let mut best = start;
     let mut i = 0;
     while i < os.len() {
-        let at = views::wide(os[i]);
+        let at = marks::wide(os[i]);
         best = answers::lower_if(
             bad_in_target(t, src, skeys, links, heads, keys::view_at(t, at, keys[i])),
             best,

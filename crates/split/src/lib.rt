@@ -86,12 +86,6 @@ fn split_checked(
     }
 }
 
-fn wide(x: u16) -> usize
-    ensures { λ r. ⌜ r ≡ x ⌝ }
-{
-    x as usize
-}
-
 // Accepted: the output's first bytes are the split table, the rest is unchanged. Refused: the whole output is unchanged.
 pub fn split(
     table: &[u8],
@@ -106,9 +100,9 @@ pub fn split(
     split_checked(
         table,
         table_check::check(table),
-        wide(part),
-        wide(source_cut),
-        wide(target_cut),
+        marks::wide(part),
+        marks::wide(source_cut),
+        marks::wide(target_cut),
         new_id,
         out,
     )

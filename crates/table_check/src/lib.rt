@@ -126,20 +126,13 @@ fn by_sequences(t: &[u8], parts: u16, len: usize) -> Answer
     by_markers(t, len, &src[..k], &skeys[..k], &tgt[..m], &tkeys[..m])
 }
 
-fn narrow(n: usize) -> u16
-    requires { ⌜ n ≤ 64 ⌝ }
-    ensures { λ r. ⌜ r ≡ n ⌝ }
-{
-    n as u16
-}
-
 fn from_6(t: &[u8], parts: usize, len: usize, six: Place) -> Answer
     requires { ⌜ Passes (now t) × (length (now t) ≤ 8192) × (parts ≡ length (unit (now t) .parts)) × (len ≡ length (now t)) × (refusal-at 6 six ≡ fault-6 (unit (now t) .parts)) ⌝ }
     ensures { λ r. ⌜ answer-meaning r ≡ answer (unless (fault-6-to-10 (unit (now (t .entry)) .parts)) (now (t .entry))) ⌝ }
 {
     match six {
         Place::At(at) => Answer::Refused(6, at),
-        Place::Nowhere => by_sequences(t, narrow(parts), len),
+        Place::Nowhere => by_sequences(t, marks::narrow(parts), len),
     }
 }
 

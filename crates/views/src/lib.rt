@@ -148,13 +148,6 @@ pub fn view_at(t: &[u8], at: usize) -> View
     read_view(walker::known_at(t, at))
 }
 
-// An offset that an array holds.
-pub fn wide(x: u16) -> usize
-    ensures { λ r. ⌜ (r ≡ x) × (r < 65536) ⌝ }
-{
-    x as usize
-}
-
 // "a code or half of a pair"
 pub fn is_code(x: View) -> bool
     ensures { λ r. ⌜ r ≡ isCode x ⌝ }

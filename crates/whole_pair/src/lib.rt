@@ -20,19 +20,6 @@ pub enum FoundPair {
     Missing,
 }
 
-fn wide(x: u16) -> u32
-    ensures { λ r. ⌜ r ≡ x ⌝ }
-{
-    x as u32
-}
-
-fn narrow(n: usize) -> u16
-    requires { ⌜ n ≤ 64 ⌝ }
-    ensures { λ r. ⌜ r ≡ n ⌝ }
-{
-    n as u16
-}
-
 // The index of the first start half of the id; the number of markers where there is none.
 fn find_start(ks: &[u32], id: u32) -> usize
     ensures { λ r. ⌜ (r ≡ next (startsAt (now (ks .entry)) id) 0 (length (now (ks .entry)))) × (r ≤ length (now (ks .entry))) ⌝ }
@@ -63,7 +50,7 @@ fn pair_of(t: &[u8], os: &[u16], ks: &[u32], id: u16) -> FoundPair
     requires { ⌜ now ks ≡ keysAt (now t) (now os) ⌝ }
     ensures { λ r. ⌜ r ≡ pairOf (find-whole id (itemsAt (now (t .entry)) (now (os .entry)))) ⌝ }
 {
-    let i = find_start(ks, wide(id));
+    let i = find_start(ks, marks::wide_to_u32(id));
     if ks.len() <= i {
         return FoundPair::Missing;
     }
@@ -71,8 +58,8 @@ fn pair_of(t: &[u8], os: &[u16], ks: &[u32], id: u16) -> FoundPair
     if ks.len() <= j {
         return FoundPair::Missing;
     }
-    let start = views::view_at(t, views::wide(os[i]));
-    let end = views::view_at(t, views::wide(os[j]));
+    let start = views::view_at(t, marks::wide(os[i]));
+    let end = views::view_at(t, marks::wide(os[j]));
     FoundPair::Complete(start.pform, is_unfit(start.reorder, end.reorder))
 }
 
@@ -106,5 +93,5 @@ pub fn find(t: &[u8], side: u8, id: u16) -> FoundPair
     if side == b'S' {
         return in_source(t, id);
     }
-    in_target(t, narrow(orders::count_parts(t)), id)
+    in_target(t, marks::narrow(orders::count_parts(t)), id)
 }

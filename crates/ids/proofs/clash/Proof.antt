@@ -25,7 +25,7 @@ loop-holds c =
     let keys = args .keys .now in
     let heads = args .heads .now in
     subst (Searched (clashTest k) keys (group k))
-    (sym (c .wide .ensures ∙ ap (λ (g : ℕ). getD heads g 0) (c .before .before .group-of .ensures .0)))
+    (sym (c .wide .ensures .0 ∙ ap (λ (g : ℕ). getD heads g 0) (c .before .before .group-of .ensures .0)))
     (search-start (clashTest k) keys (group k) heads (clash-grouped k (group k) keys refl) (start .pre .0 .3)
     (omega arith))
 
@@ -49,7 +49,7 @@ loop-less c =
     let keys = args .keys .now in
     let loop = after-loop-test .before .loop in
     let loop-test = after-loop-test .loop-test in
-    subst (λ (x : ℕ). x < loop .j) (sym (c .wide2 .ensures))
+    subst (λ (x : ℕ). x < loop .j) (sym (c .wide2 .ensures .0))
     (search-less (clashTest k) keys (group k) (args .links .now) (loop .j) (clash-grouped k (group k) keys refl)
     (start .pre .0 .2) (loop .inv) (loop-test .taken))
 
@@ -64,7 +64,7 @@ loop-again c =
     let loop = after-loop-test .before .loop in
     let loop-test = after-loop-test .loop-test in
     let clash-with = c .before .before .before .clash-with in
-    subst (Searched (clashTest k) keys (group k)) (sym (c .wide2 .ensures))
+    subst (Searched (clashTest k) keys (group k)) (sym (c .wide2 .ensures .0))
     (search-on (clashTest k) keys (group k) (args .links .now) (loop .j) (clash-grouped k (group k) keys refl)
     (start .pre .0 .2) (loop .inv) (loop-test .taken) (sym (clash-with .ensures) ∙ c .before .before .if1 .left))
 

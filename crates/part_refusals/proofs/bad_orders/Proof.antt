@@ -7,14 +7,14 @@ use Rattle.part_refusals.proofs.bad_orders.Tie as tie
 returns : tie.Need-returns
 returns c =
     let args = c .before .before .before .before .args in
-    let wide = c .before .before .before .wide in
-    let wide2 = c .before .before .wide2 in
-    bad-orders-are (args .x) (args .y) (wide .result) (wide2 .result) (wide .ensures .0) (wide2 .ensures .0)
+    let first = c .before .before .before .wide-to-u32 in
+    let second = c .before .before .wide-to-u322 in
+    bad-orders-are (args .x) (args .y) (first .result) (second .result) (first .ensures .0) (second .ensures .0)
 
 pub bad-orders-spec : {M : Type 1} → statement M
 bad-orders-spec =
     tie.close
     (tie.spec
-    -- by search: wide-requires 96:17, add-first 96:17, wide-requires-2 97:9
+    -- by search: no need of `wide_to_u32`, and the sum fits
     (λ c κs. search needs) (λ c. search needs) (λ c κs. search needs)
     returns)

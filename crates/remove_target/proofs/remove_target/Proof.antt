@@ -6,7 +6,7 @@ use Rattle.remove_target.proofs.remove_target.Tie as tie
 returns : tie.Need-returns
 returns c =
     let wide = c .before .before .before .before .wide in
-    simp (wide .ensures) at (c .before .before .remove-checked .ensures)
+    simp (wide .ensures .0) at (c .before .before .remove-checked .ensures)
 
 pub remove-target-spec : {M : Type 1} → statement M
 remove-target-spec =

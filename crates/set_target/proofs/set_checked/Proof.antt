@@ -22,7 +22,7 @@ set-found-requires c κs =
     let start = c .before .before .before .before .before .before .before .before in
     let enum-told-call = c .before .before .before .enum-told in (
       accepted-none (start .args .table .now) _ (rw (enum-told-call .given .1) at (start .pre)),
-      simp (c .before .before .wide .ensures) at (c .before .part-at .ensures),
+      simp (c .before .before .wide .ensures .0) at (c .before .part-at .ensures),
     )
 
 -- src/lib.rt:169:1

@@ -9,7 +9,7 @@ returns c =
     let wide = after-wide2 .before .wide in
     let wide2 = after-wide2 .wide2 in
     let wide3 = c .before .before .before .before .wide3 in
-    simp (wide .ensures, wide2 .ensures, wide3 .ensures) at (c .before .before .split-checked .ensures)
+    simp (wide .ensures .0, wide2 .ensures .0, wide3 .ensures .0) at (c .before .before .split-checked .ensures)
 
 pub split-spec : {M : Type 1} → statement M
 split-spec =

@@ -9,7 +9,6 @@ use Rattle.whole_pair.proofs.SearchLaws.{none-started, none-ended, comp
 use borrow.Author.Needs.{needs}
 use Rattle.whole_pair.proofs.pair_of.Statement.{statement}
 use Rattle.whole_pair.proofs.pair_of.Tie as tie
-use Rattle.whole_pair.proofs.wide.Reads as wide-reads′
 
 -- src/lib.rt:68:9
 returns : tie.Need-returns
@@ -18,7 +17,7 @@ returns c =
     let args = start .args in
     let pre = start .pre in
     let find-start = c .before .find-start in
-    let f = rw (pre, c .before .before .wide .ensures) at (find-start .ensures .0) in
+    let f = rw (pre, c .before .before .wide-to-u32 .ensures .0) at (find-start .ensures .0) in
     let n = ap length pre in
     none-started (args .t .now) (args .os .now) (args .id) (find-start .result) f (omega (arith, n, c .if1 .taken))
 
@@ -28,10 +27,10 @@ returns-2 c =
     let start = c .before .before .before .before .before .before .before .before in
     let args = start .args in
     let pre = start .pre in
-    let wide = c .before .before .before .before .wide in
+    let wide = c .before .before .before .before .wide-to-u32 in
     let find-start = c .before .before .before .find-start in
     let half-after = c .before .half-after in
-    let f = rw (pre, wide .ensures) at (find-start .ensures .0) in
+    let f = rw (pre, wide .ensures .0) at (find-start .ensures .0) in
     let n = ap length pre in
     let g = rw pre at (half-after .ensures .0) in
     none-ended (args .t .now) (args .os .now) (args .id) (find-start .result) f
@@ -62,21 +61,21 @@ returns-3 c =
     let args = start .args in
     let t = args .t .now in
     let pre = start .pre in
-    let wide = after-find-start .before .wide in
+    let wide = after-find-start .before .wide-to-u32 in
     let find-start = after-find-start .find-start in
     let if1 = after-wide2 .before .before .before .before .if1 in
     let half-after = after-wide2 .before .before .before .half-after in
     let if2 = after-wide2 .before .before .if2 in
-    let wide2 = after-wide2 .wide2 in
+    let wide2 = after-wide2 .wide in
     let view-at = c .before .before .before .before .view-at in
     let view-at2 = c .before .view-at2 in
-    let f = rw (pre, wide .ensures) at (find-start .ensures .0) in
+    let f = rw (pre, wide .ensures .0) at (find-start .ensures .0) in
     let n = ap length pre in
     let g = rw pre at (half-after .ensures .0) in
     complete t (args .os .now) (args .id) (find-start .result) f (omega (arith, n, if1 .left)) (half-after .result)
     g (omega (arith, n, if2 .left)) (view-at .result) (view-at2 .result)
     (view-at .ensures ∙ ap (λ (o : ℕ). viewOf (item-at t o)) (wide2 .ensures .0))
-    (view-at2 .ensures ∙ ap (λ (o : ℕ). viewOf (item-at t o)) (c .before .before .wide3 .ensures .0))
+    (view-at2 .ensures ∙ ap (λ (o : ℕ). viewOf (item-at t o)) (c .before .before .wide2 .ensures .0))
     (c .is-unfit .result) (c .is-unfit .ensures)
 
 pub pair-of-spec : {M : Type 1} → statement M
