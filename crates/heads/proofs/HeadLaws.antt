@@ -4,7 +4,7 @@ use mathlib.Core.Path.{_≡_, refl, sym, ap, ap₂, _∙_, subst}
 use mathlib.Core.Bool.{Bool, true, false}
 use mathlib.Core.List.{List, [], _∷_, _++_}
 use native.Mathlib.Omega.{arith}
-use lib.ListN.{length, getD}
+use lib.ListN.{length, getD, length-append}
 use Rattle.xliff.specs.Bytes.{two, two-at}
 use Rattle.xliff.specs.Unit as unit
 use Rattle.xliff.specs.Unit.{Opening, Head, segment, ignorable, with-id, with-state}
@@ -13,6 +13,7 @@ use Rattle.xliff.proofs.lists.Tests.{two-value}
 use Rattle.marks.specs.Marks.{marked}
 use Rattle.writer.specs.Pieces.{lead, overlay, numberBytes, Written}
 use Rattle.writer.proofs.PieceLaws.{over-lead}
+use Rattle.writer.proofs.RunLaws.{Pieces, pair}
 use Rattle.heads.specs.declared.Segment.{Segment}
 use Rattle.heads.specs.Heads.{fields, is-segment, SomeSegment, ResegmentIs, SegmentIs, FieldsAre, OrderIs, WroteId}
 
@@ -112,3 +113,10 @@ segment-wrote f o a b c d m n k m2 ea n2 eb k1 ec ed =
 pub target-wrote : (q : ℕ) (o a b : List ℕ) (m : ℕ) → m ≡ 2 → a ≡ overlay o 0 (84 ∷ 71 ∷ []) → b ≡ overlay a m (numberBytes q) → b ≡ lead (record-bytes (target-head q)) o
 unfolding record-bytes two
 target-wrote q o a b m m2 ea eb = eb ∙ over-lead o (84 ∷ 71 ∷ []) (numberBytes q) a m ea m2
+
+-- a target: its head, then its content
+abbrev pub target-pieces : (q : ℕ) (c : List ℕ) → Pieces (record-bytes (target-head q) ++ c)
+target-pieces q c = pair (record-bytes (target-head q)) c refl
+
+pub target-room : (q : ℕ) (c o : List ℕ) → 4 + length c ≤ length o → length (record-bytes (target-head q) ++ c) ≤ length o
+target-room q c o h = omega (arith, length-append (record-bytes (target-head q)) c, target-long q)

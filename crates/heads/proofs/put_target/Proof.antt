@@ -1,72 +1,82 @@
-use mathlib.Core.List.{_++_}
-use mathlib.Core.Path.{refl}
-use lib.ListN.{length}
-use Rattle.xliff.specs.Encode.{target-head, record-bytes}
-use Rattle.writer.proofs.RunLaws.{at-head, behind, within, room-behind, all-wrote}
+use Rattle.heads.proofs.HeadLaws.{target-long, target-pieces, target-room}
+use Rattle.writer.proofs.RunLaws.{second-start, second-room, two-fit, both-wrote}
 use native.Mathlib.Omega.{arith}
-use Rattle.heads.proofs.HeadLaws.{target-long}
+use mathlib.Core.Path.{refl}
 use borrow.Author.Needs.{needs}
 use Rattle.heads.proofs.put_target.Statement.{statement}
 use Rattle.heads.proofs.put_target.Tie as tie
 
--- src/lib.rt:118:9
-put-target-head-requires : tie.Need-put-target-head-requires
-put-target-head-requires c κs = search needs
-
--- src/lib.rt:119:25
+-- src/lib.rt:123:25
 sub-put : tie.Need-sub-put
 sub-put c =
-    let args = c .before .before .before .before .before .before .args in
-    let put-target-head = c .before .before .put-target-head in
-    within (at-head (record-bytes (target-head (args .order))) (args .out .now) (put-target-head .ensures)) (omega (arith, target-long (args .order)))
+    let start = c .before .before .before .before .before .before in
+    let args = start .args in
+    let order = args .order in
+    let content = args .content .now in
+    let out = args .out .now in
+    second-start (target-pieces order content) out (target-room order content out (start .pre))
+    (c .before .before .put-target-head .ensures)
 
--- src/lib.rt:119:25
+-- src/lib.rt:123:25
 part-put-start : tie.Need-part-put-start
 part-put-start c =
-    let args = c .before .before .before .before .before .before .args in
-    let put-target-head = c .before .before .put-target-head in
-    within (at-head (record-bytes (target-head (args .order))) (args .out .now) (put-target-head .ensures)) (omega (arith, target-long (args .order)))
+    let start = c .before .before .before .before .before .before in
+    let args = start .args in
+    let order = args .order in
+    let content = args .content .now in
+    let out = args .out .now in
+    second-start (target-pieces order content) out (target-room order content out (start .pre))
+    (c .before .before .put-target-head .ensures)
 
--- src/lib.rt:119:25
-part-put-end : tie.Need-part-put-end
-part-put-end c = search needs
-
--- src/lib.rt:119:9
+-- src/lib.rt:123:9
 put-requires : tie.Need-put-requires
 put-requires c κs =
-    let args = c .before .before .before .before .before .before .before .args in
+    let start = c .before .before .before .before .before .before .before in
+    let args = start .args in
+    let order = args .order in
+    let content = args .content .now in
+    let out = args .out .now in
     let put-target-head = c .before .before .before .put-target-head in
-    room-behind (at-head (record-bytes (target-head (args .order))) (args .out .now) (put-target-head .ensures)) (length (args .content .now)) (omega (arith, target-long (args .order)))
+    second-room (target-pieces order content) out (target-room order content out (start .pre))
+    (put-target-head .ensures)
 
--- src/lib.rt:120:5
+-- src/lib.rt:124:5
 add-result : tie.Need-add-result
 add-result c =
-    let args = c .before .before .before .before .before .before .before .before .before .before .args in
-    let put-target-head = c .before .before .before .before .before .before .put-target-head in
-    let put = c .before .before .put in
-    let z = behind (at-head (record-bytes (target-head (args .order))) (args .out .now) (put-target-head .ensures)) (args .content .now) (put .ensures) in omega (arith, put .ensures .0, put-target-head .ensures .0, target-long (args .order))
+    let after-put-target-head = c .before .before .before .before .before .before in
+    let start = after-put-target-head .before .before .before .before in
+    let args = start .args in
+    let order = args .order in
+    let content = args .content .now in
+    let out = args .out .now in
+    let put-target-head = after-put-target-head .put-target-head in
+    omega (
+      arith,
+      two-fit (target-pieces order content) out (target-room order content out (start .pre))
+          (put-target-head .ensures) (c .before .before .put .ensures),
+    )
 
--- src/lib.rt:114:1
-same-length : tie.Need-same-length
-same-length c = search needs
-
--- src/lib.rt:114:1
+-- src/lib.rt:118:1
 returns : tie.Need-returns
 returns c =
-    let args = c .before .before .before .before .before .before .before .before .before .before .args in
-    let put-target-head = c .before .before .before .before .before .before .put-target-head in
-    let put = c .before .before .put in
-    all-wrote (behind (at-head (record-bytes (target-head (args .order))) (args .out .now) (put-target-head .ensures)) (args .content .now) (put .ensures)) (record-bytes (target-head (args .order)) ++ args .content .now) refl
+    let after-put-target-head = c .before .before .before .before .before .before in
+    let args = after-put-target-head .before .before .before .before .args in
+    let put-target-head = after-put-target-head .put-target-head in
+    both-wrote (target-pieces (args .order) (args .content .now)) (args .out .now) (put-target-head .ensures)
+    (c .before .before .put .ensures) refl
 
 pub put-target-spec : {M : Type 1} → statement M
 put-target-spec =
     tie.close
     (tie.spec
-    put-target-head-requires
+    -- by search: put-target-head-requires 122:9
+    (λ c κs. search needs)
     sub-put
     part-put-start
-    part-put-end
+    -- by search: part-put-end 123:25
+    (λ c. search needs)
     put-requires
     add-result
-    same-length
+    -- by search: same-length 118:1
+    (λ c. search needs)
     returns)
