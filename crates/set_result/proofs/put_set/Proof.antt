@@ -7,23 +7,192 @@ use borrow.Author.Needs.{needs}
 use Rattle.set_result.proofs.put_set.Statement.{statement}
 use Rattle.set_result.proofs.put_set.Tie as tie
 
+-- src/lib.rt:24:31
+sub-put-target : tie.Need-sub-put-target
+sub-put-target c =
+    let start = c .before .before .before .before .before .before .before in
+    let args = start .args in
+    let t = args .t .now in
+    let place = args .place in
+    let state = args .state in
+    let order = args .order in
+    let content = args .content .now in
+    let out = args .out .now in
+    let (st, room) = start .pre in
+    let (b, p, a, s) = st in
+    second-start (pieces-by t b p a place s state order content refl) out
+    (set-room t b p a place s state order content out room) (c .before .before .put-to-source .ensures b p a s)
+
+-- src/lib.rt:24:31
+part-put-target-start : tie.Need-part-put-target-start
+part-put-target-start c =
+    let start = c .before .before .before .before .before .before .before in
+    let args = start .args in
+    let t = args .t .now in
+    let place = args .place in
+    let state = args .state in
+    let order = args .order in
+    let content = args .content .now in
+    let out = args .out .now in
+    let (st, room) = start .pre in
+    let (b, p, a, s) = st in
+    second-start (pieces-by t b p a place s state order content refl) out
+    (set-room t b p a place s state order content out room) (c .before .before .put-to-source .ensures b p a s)
+
+-- src/lib.rt:24:9
+put-target-requires : tie.Need-put-target-requires
+put-target-requires c κs =
+    let start = c .before .before .before .before .before .before .before .before in
+    let args = start .args in
+    let t = args .t .now in
+    let place = args .place in
+    let state = args .state in
+    let order = args .order in
+    let content = args .content .now in
+    let out = args .out .now in
+    let put-to-source = c .before .before .before .put-to-source in
+    let (st, room) = start .pre in
+    let (b, p, a, s) = st in
+    target-room t b p a place s state order content (rest (put-to-source .result) (put-to-source .last .0))
+    (second-room (pieces-by t b p a place s state order content refl) out
+    (set-room t b p a place s state order content out room) (put-to-source .ensures b p a s))
+
+-- src/lib.rt:25:13
+add-k : tie.Need-add-k
+add-k c =
+    let after-put-to-source = c .before .before .before .before .before .before in
+    let start = after-put-to-source .before .before .before .before .before in
+    let args = start .args in
+    let t = args .t .now in
+    let place = args .place in
+    let state = args .state in
+    let order = args .order in
+    let content = args .content .now in
+    let out = args .out .now in
+    let put-to-source = after-put-to-source .put-to-source in
+    let (st, room) = start .pre in
+    let (b, p, a, s) = st in
+    omega (
+      arith,
+      two-fit (pieces-by t b p a place s state order content refl) out
+          (set-room t b p a place s state order content out room) (put-to-source .ensures b p a s)
+          (c .before .before .put-target .ensures),
+    )
+
+-- src/lib.rt:26:25
+sub-put : tie.Need-sub-put
+sub-put c =
+    let after-put-to-source = c .before .before .before .before .before .before in
+    let start = after-put-to-source .before .before .before .before .before in
+    let args = start .args in
+    let t = args .t .now in
+    let place = args .place in
+    let state = args .state in
+    let order = args .order in
+    let content = args .content .now in
+    let out = args .out .now in
+    let put-to-source = after-put-to-source .put-to-source in
+    let (st, room) = start .pre in
+    let (b, p, a, s) = st in
+    third-start (pieces-by t b p a place s state order content refl) out
+    (set-room t b p a place s state order content out room) (put-to-source .ensures b p a s)
+    (c .before .before .put-target .ensures)
+
+-- src/lib.rt:26:25
+part-put-start : tie.Need-part-put-start
+part-put-start c =
+    let after-put-to-source = c .before .before .before .before .before .before in
+    let start = after-put-to-source .before .before .before .before .before in
+    let args = start .args in
+    let t = args .t .now in
+    let place = args .place in
+    let state = args .state in
+    let order = args .order in
+    let content = args .content .now in
+    let out = args .out .now in
+    let put-to-source = after-put-to-source .put-to-source in
+    let (st, room) = start .pre in
+    let (b, p, a, s) = st in
+    third-start (pieces-by t b p a place s state order content refl) out
+    (set-room t b p a place s state order content out room) (put-to-source .ensures b p a s)
+    (c .before .before .put-target .ensures)
+
+-- src/lib.rt:26:9
+put-requires : tie.Need-put-requires
+put-requires c κs =
+    let after-put-to-source = c .before .before .before .before .before .before .before .before in
+    let start = after-put-to-source .before .before .before .before .before in
+    let args = start .args in
+    let t = args .t .now in
+    let place = args .place in
+    let state = args .state in
+    let order = args .order in
+    let content = args .content .now in
+    let out = args .out .now in
+    let put-to-source = after-put-to-source .put-to-source in
+    let put-target = c .before .before .before .before .put-target in
+    let (st, room) = start .pre in
+    let (b, p, a, s) = st in
+    third-room (pieces-by t b p a place s state order content refl) out
+    (set-room t b p a place s state order content out room) (put-to-source .ensures b p a s) (put-target .ensures)
+
+-- src/lib.rt:27:5
+add-result : tie.Need-add-result
+add-result c =
+    let after-put-target = c .before .before .before .before .before .before .before in
+    let start = after-put-target .before .before .before .before .before .before .before .before .before in
+    let args = start .args in
+    let t = args .t .now in
+    let place = args .place in
+    let state = args .state in
+    let order = args .order in
+    let content = args .content .now in
+    let out = args .out .now in
+    let put-to-source = after-put-target .before .before .before .before .put-to-source in
+    let put-target = after-put-target .put-target in
+    let (st, room) = start .pre in
+    let (b, p, a, s) = st in
+    omega (
+      arith,
+      three-fit (pieces-by t b p a place s state order content refl) out
+          (set-room t b p a place s state order content out room) (put-to-source .ensures b p a s)
+          (put-target .ensures) (c .before .before .put .ensures .0),
+    )
+
+-- src/lib.rt:11:1
+returns : tie.Need-returns
+returns c =
+    let after-put-target = c .before .before .before .before .before .before .before in
+    let args = after-put-target .before .before .before .before .before .before .before .before .before .args in
+    let t = args .t .now in
+    let place = args .place in
+    let state = args .state in
+    let order = args .order in
+    let content = args .content .now in
+    let put-to-source = after-put-target .before .before .before .before .put-to-source in
+    let put-target = after-put-target .put-target in
+    λ b p a s xs is.
+    all-wrote (pieces-by t b p a place s state order content (set-all t b p a place s state order content xs is))
+    (args .out .now) (put-to-source .ensures b p a s) (put-target .ensures) (c .before .before .put .ensures)
+
 pub put-set-spec : {M : Type 1} → statement M
 put-set-spec =
     tie.close
     (tie.spec
+    -- by search: put-to-source-requires 23:9
     (λ c κs. search needs)
-    (λ c. let (st, room) = (c .before .before .before .before .before .before .before .pre) in let (b, p, a, s) = st in second-start (pieces-by (c .before .before .before .before .before .before .before .args .t .now) b p a (c .before .before .before .before .before .before .before .args .place) s (c .before .before .before .before .before .before .before .args .state) (c .before .before .before .before .before .before .before .args .order) (c .before .before .before .before .before .before .before .args .content .now) refl) (c .before .before .before .before .before .before .before .args .out .now) (set-room (c .before .before .before .before .before .before .before .args .t .now) b p a (c .before .before .before .before .before .before .before .args .place) s (c .before .before .before .before .before .before .before .args .state) (c .before .before .before .before .before .before .before .args .order) (c .before .before .before .before .before .before .before .args .content .now) (c .before .before .before .before .before .before .before .args .out .now) room) (c .before .before .put-to-source .ensures b p a s))
-    (λ c. let (st, room) = (c .before .before .before .before .before .before .before .pre) in let (b, p, a, s) = st in second-start (pieces-by (c .before .before .before .before .before .before .before .args .t .now) b p a (c .before .before .before .before .before .before .before .args .place) s (c .before .before .before .before .before .before .before .args .state) (c .before .before .before .before .before .before .before .args .order) (c .before .before .before .before .before .before .before .args .content .now) refl) (c .before .before .before .before .before .before .before .args .out .now) (set-room (c .before .before .before .before .before .before .before .args .t .now) b p a (c .before .before .before .before .before .before .before .args .place) s (c .before .before .before .before .before .before .before .args .state) (c .before .before .before .before .before .before .before .args .order) (c .before .before .before .before .before .before .before .args .content .now) (c .before .before .before .before .before .before .before .args .out .now) room) (c .before .before .put-to-source .ensures b p a s))
+    sub-put-target
+    part-put-target-start
+    -- by search: part-put-target-end 24:31
     (λ c. search needs)
-    (λ c κs. let (st, room) = (c .before .before .before .before .before .before .before .before .pre) in let (b, p, a, s) = st in target-room (c .before .before .before .before .before .before .before .before .args .t .now) b p a (c .before .before .before .before .before .before .before .before .args .place) s (c .before .before .before .before .before .before .before .before .args .state) (c .before .before .before .before .before .before .before .before .args .order) (c .before .before .before .before .before .before .before .before .args .content .now) (rest (c .before .before .before .put-to-source .result) (c .before .before .before .put-to-source .last .0)) (second-room (pieces-by (c .before .before .before .before .before .before .before .before .args .t .now) b p a (c .before .before .before .before .before .before .before .before .args .place) s (c .before .before .before .before .before .before .before .before .args .state) (c .before .before .before .before .before .before .before .before .args .order) (c .before .before .before .before .before .before .before .before .args .content .now) refl) (c .before .before .before .before .before .before .before .before .args .out .now) (set-room (c .before .before .before .before .before .before .before .before .args .t .now) b p a (c .before .before .before .before .before .before .before .before .args .place) s (c .before .before .before .before .before .before .before .before .args .state) (c .before .before .before .before .before .before .before .before .args .order) (c .before .before .before .before .before .before .before .before .args .content .now) (c .before .before .before .before .before .before .before .before .args .out .now) room) (c .before .before .before .put-to-source .ensures b p a s)))
-    (λ c. let (st, room) = (c .before .before .before .before .before .before .before .before .before .before .before .pre) in let (b, p, a, s) = st in omega (arith, two-fit (pieces-by (c .before .before .before .before .before .before .before .before .before .before .before .args .t .now) b p a (c .before .before .before .before .before .before .before .before .before .before .before .args .place) s (c .before .before .before .before .before .before .before .before .before .before .before .args .state) (c .before .before .before .before .before .before .before .before .before .before .before .args .order) (c .before .before .before .before .before .before .before .before .before .before .before .args .content .now) refl) (c .before .before .before .before .before .before .before .before .before .before .before .args .out .now) (set-room (c .before .before .before .before .before .before .before .before .before .before .before .args .t .now) b p a (c .before .before .before .before .before .before .before .before .before .before .before .args .place) s (c .before .before .before .before .before .before .before .before .before .before .before .args .state) (c .before .before .before .before .before .before .before .before .before .before .before .args .order) (c .before .before .before .before .before .before .before .before .before .before .before .args .content .now) (c .before .before .before .before .before .before .before .before .before .before .before .args .out .now) room) (c .before .before .before .before .before .before .put-to-source .ensures b p a s) (c .before .before .put-target .ensures)))
-    (λ c. let (st, room) = (c .before .before .before .before .before .before .before .before .before .before .before .pre) in let (b, p, a, s) = st in third-start (pieces-by (c .before .before .before .before .before .before .before .before .before .before .before .args .t .now) b p a (c .before .before .before .before .before .before .before .before .before .before .before .args .place) s (c .before .before .before .before .before .before .before .before .before .before .before .args .state) (c .before .before .before .before .before .before .before .before .before .before .before .args .order) (c .before .before .before .before .before .before .before .before .before .before .before .args .content .now) refl) (c .before .before .before .before .before .before .before .before .before .before .before .args .out .now) (set-room (c .before .before .before .before .before .before .before .before .before .before .before .args .t .now) b p a (c .before .before .before .before .before .before .before .before .before .before .before .args .place) s (c .before .before .before .before .before .before .before .before .before .before .before .args .state) (c .before .before .before .before .before .before .before .before .before .before .before .args .order) (c .before .before .before .before .before .before .before .before .before .before .before .args .content .now) (c .before .before .before .before .before .before .before .before .before .before .before .args .out .now) room) (c .before .before .before .before .before .before .put-to-source .ensures b p a s) (c .before .before .put-target .ensures))
-    (λ c. let (st, room) = (c .before .before .before .before .before .before .before .before .before .before .before .pre) in let (b, p, a, s) = st in third-start (pieces-by (c .before .before .before .before .before .before .before .before .before .before .before .args .t .now) b p a (c .before .before .before .before .before .before .before .before .before .before .before .args .place) s (c .before .before .before .before .before .before .before .before .before .before .before .args .state) (c .before .before .before .before .before .before .before .before .before .before .before .args .order) (c .before .before .before .before .before .before .before .before .before .before .before .args .content .now) refl) (c .before .before .before .before .before .before .before .before .before .before .before .args .out .now) (set-room (c .before .before .before .before .before .before .before .before .before .before .before .args .t .now) b p a (c .before .before .before .before .before .before .before .before .before .before .before .args .place) s (c .before .before .before .before .before .before .before .before .before .before .before .args .state) (c .before .before .before .before .before .before .before .before .before .before .before .args .order) (c .before .before .before .before .before .before .before .before .before .before .before .args .content .now) (c .before .before .before .before .before .before .before .before .before .before .before .args .out .now) room) (c .before .before .before .before .before .before .put-to-source .ensures b p a s) (c .before .before .put-target .ensures))
+    put-target-requires
+    add-k
+    sub-put
+    part-put-start
+    -- by search: part-put-end 26:25, sub-put-2 26:40, part-put-start-2 26:40, part-put-end-2 26:40
+    (λ c. search needs) (λ c. search needs) (λ c. search needs) (λ c. search needs)
+    put-requires
+    add-result
+    -- by search: same-length 11:1
     (λ c. search needs)
-    (λ c. search needs)
-    (λ c. search needs)
-    (λ c. search needs)
-    (λ c κs. let (st, room) = (c .before .before .before .before .before .before .before .before .before .before .before .before .before .pre) in let (b, p, a, s) = st in third-room (pieces-by (c .before .before .before .before .before .before .before .before .before .before .before .before .before .args .t .now) b p a (c .before .before .before .before .before .before .before .before .before .before .before .before .before .args .place) s (c .before .before .before .before .before .before .before .before .before .before .before .before .before .args .state) (c .before .before .before .before .before .before .before .before .before .before .before .before .before .args .order) (c .before .before .before .before .before .before .before .before .before .before .before .before .before .args .content .now) refl) (c .before .before .before .before .before .before .before .before .before .before .before .before .before .args .out .now) (set-room (c .before .before .before .before .before .before .before .before .before .before .before .before .before .args .t .now) b p a (c .before .before .before .before .before .before .before .before .before .before .before .before .before .args .place) s (c .before .before .before .before .before .before .before .before .before .before .before .before .before .args .state) (c .before .before .before .before .before .before .before .before .before .before .before .before .before .args .order) (c .before .before .before .before .before .before .before .before .before .before .before .before .before .args .content .now) (c .before .before .before .before .before .before .before .before .before .before .before .before .before .args .out .now) room) (c .before .before .before .before .before .before .before .before .put-to-source .ensures b p a s) (c .before .before .before .before .put-target .ensures))
-    (λ c. let (st, room) = (c .before .before .before .before .before .before .before .before .before .before .before .before .before .before .before .before .pre) in let (b, p, a, s) = st in omega (arith, three-fit (pieces-by (c .before .before .before .before .before .before .before .before .before .before .before .before .before .before .before .before .args .t .now) b p a (c .before .before .before .before .before .before .before .before .before .before .before .before .before .before .before .before .args .place) s (c .before .before .before .before .before .before .before .before .before .before .before .before .before .before .before .before .args .state) (c .before .before .before .before .before .before .before .before .before .before .before .before .before .before .before .before .args .order) (c .before .before .before .before .before .before .before .before .before .before .before .before .before .before .before .before .args .content .now) refl) (c .before .before .before .before .before .before .before .before .before .before .before .before .before .before .before .before .args .out .now) (set-room (c .before .before .before .before .before .before .before .before .before .before .before .before .before .before .before .before .args .t .now) b p a (c .before .before .before .before .before .before .before .before .before .before .before .before .before .before .before .before .args .place) s (c .before .before .before .before .before .before .before .before .before .before .before .before .before .before .before .before .args .state) (c .before .before .before .before .before .before .before .before .before .before .before .before .before .before .before .before .args .order) (c .before .before .before .before .before .before .before .before .before .before .before .before .before .before .before .before .args .content .now) (c .before .before .before .before .before .before .before .before .before .before .before .before .before .before .before .before .args .out .now) room) (c .before .before .before .before .before .before .before .before .before .before .before .put-to-source .ensures b p a s) (c .before .before .before .before .before .before .before .put-target .ensures) (c .before .before .put .ensures .0)))
-    (λ c. search needs)
-    (λ c. λ b p a s xs is. all-wrote (pieces-by (c .before .before .before .before .before .before .before .before .before .before .before .before .before .before .before .before .args .t .now) b p a (c .before .before .before .before .before .before .before .before .before .before .before .before .before .before .before .before .args .place) s (c .before .before .before .before .before .before .before .before .before .before .before .before .before .before .before .before .args .state) (c .before .before .before .before .before .before .before .before .before .before .before .before .before .before .before .before .args .order) (c .before .before .before .before .before .before .before .before .before .before .before .before .before .before .before .before .args .content .now) (set-all (c .before .before .before .before .before .before .before .before .before .before .before .before .before .before .before .before .args .t .now) b p a (c .before .before .before .before .before .before .before .before .before .before .before .before .before .before .before .before .args .place) s (c .before .before .before .before .before .before .before .before .before .before .before .before .before .before .before .before .args .state) (c .before .before .before .before .before .before .before .before .before .before .before .before .before .before .before .before .args .order) (c .before .before .before .before .before .before .before .before .before .before .before .before .before .before .before .before .args .content .now) xs is)) (c .before .before .before .before .before .before .before .before .before .before .before .before .before .before .before .before .args .out .now) (c .before .before .before .before .before .before .before .before .before .before .before .put-to-source .ensures b p a s) (c .before .before .before .before .before .before .before .put-target .ensures) (c .before .before .put .ensures)))
+    returns)
