@@ -5,20 +5,144 @@ use borrow.Author.Needs.{needs}
 use Rattle.halves_of_part.proofs.put_first_half.Statement.{statement}
 use Rattle.halves_of_part.proofs.put_first_half.Tie as tie
 
+-- src/lib.rt:24:9
+put-requires : tie.Need-put-requires
+put-requires c κs =
+    let start = c .before .before .before .before .before in
+    let args = start .args in
+    let (p, is, rises, room) = start .pre in
+    first-room (first-pieces (args .k) (args .j) p (args .h .now) (args .s .now) (args .t .now) is) (args .out .now)
+    room
+
+-- src/lib.rt:25:28
+sub-put-first : tie.Need-sub-put-first
+sub-put-first c =
+    let start = c .before .before .before .before .before .before .before .before in
+    let args = start .args in
+    let (p, is, rises, room) = start .pre in
+    second-start (first-pieces (args .k) (args .j) p (args .h .now) (args .s .now) (args .t .now) is)
+    (args .out .now) room (c .before .before .put .ensures)
+
+-- src/lib.rt:25:28
+part-put-first-start : tie.Need-part-put-first-start
+part-put-first-start c =
+    let start = c .before .before .before .before .before .before .before .before in
+    let args = start .args in
+    let (p, is, rises, room) = start .pre in
+    second-start (first-pieces (args .k) (args .j) p (args .h .now) (args .s .now) (args .t .now) is)
+    (args .out .now) room (c .before .before .put .ensures)
+
+-- src/lib.rt:25:9
+put-first-requires : tie.Need-put-first-requires
+put-first-requires c κs =
+    let start = c .before .before .before .before .before .before .before .before .before in
+    let args = start .args in
+    let put = c .before .before .before .put in
+    let (p, is, rises, room) = start .pre in (
+      p .source,
+      is .1,
+      second-room (first-pieces (args .k) (args .j) p (args .h .now) (args .s .now) (args .t .now) is)
+          (args .out .now) room (put .ensures),
+    )
+
+-- src/lib.rt:26:13
+add-e : tie.Need-add-e
+add-e c =
+    let after-put = c .before .before .before .before .before .before in
+    let start = after-put .before .before .before .before .before .before in
+    let args = start .args in
+    let put = after-put .put in
+    let (p, is, rises, room) = start .pre in
+    omega (
+      arith,
+      two-fit (first-pieces (args .k) (args .j) p (args .h .now) (args .s .now) (args .t .now) is) (args .out .now)
+          room (put .ensures) (c .before .before .put-first .ensures (p .source) (is .1)),
+    )
+
+-- src/lib.rt:27:30
+sub-put-target-first : tie.Need-sub-put-target-first
+sub-put-target-first c =
+    let after-put = c .before .before .before .before .before .before in
+    let start = after-put .before .before .before .before .before .before in
+    let args = start .args in
+    let put = after-put .put in
+    let (p, is, rises, room) = start .pre in
+    third-start (first-pieces (args .k) (args .j) p (args .h .now) (args .s .now) (args .t .now) is)
+    (args .out .now) room (put .ensures) (c .before .before .put-first .ensures (p .source) (is .1))
+
+-- src/lib.rt:27:30
+part-put-target-first-start : tie.Need-part-put-target-first-start
+part-put-target-first-start c =
+    let after-put = c .before .before .before .before .before .before in
+    let start = after-put .before .before .before .before .before .before in
+    let args = start .args in
+    let put = after-put .put in
+    let (p, is, rises, room) = start .pre in
+    third-start (first-pieces (args .k) (args .j) p (args .h .now) (args .s .now) (args .t .now) is)
+    (args .out .now) room (put .ensures) (c .before .before .put-first .ensures (p .source) (is .1))
+
+-- src/lib.rt:27:9
+put-target-first-requires : tie.Need-put-target-first-requires
+put-target-first-requires c κs =
+    let after-put = c .before .before .before .before .before .before .before in
+    let start = after-put .before .before .before .before .before .before in
+    let args = start .args in
+    let put = after-put .put in
+    let put-first = c .before .before .before .put-first in
+    let (p, is, rises, room) = start .pre in (
+      p .target,
+      is .2,
+      rises,
+      third-room (first-pieces (args .k) (args .j) p (args .h .now) (args .s .now) (args .t .now) is)
+          (args .out .now) room (put .ensures) (put-first .ensures (p .source) (is .1)),
+    )
+
+-- src/lib.rt:28:5
+add-result : tie.Need-add-result
+add-result c =
+    let after-put-first = c .before .before .before .before .before .before in
+    let start = after-put-first .before .before .before .before .before .before .before .before .before .before in
+    let args = start .args in
+    let put = after-put-first .before .before .before .before .put in
+    let put-first = after-put-first .put-first in
+    let (p, is, rises, room) = start .pre in
+    omega (
+      arith,
+      three-fit (first-pieces (args .k) (args .j) p (args .h .now) (args .s .now) (args .t .now) is)
+          (args .out .now) room (put .ensures) (put-first .ensures (p .source) (is .1))
+          ((c .before .before .put-target-first .ensures (p .target) (is .2)) .0),
+    )
+
+-- src/lib.rt:20:1
+returns : tie.Need-returns
+returns c =
+    let after-put-first = c .before .before .before .before .before .before in
+    let args = after-put-first .before .before .before .before .before .before .before .before .before .before
+    .args in
+    let put = after-put-first .before .before .before .before .put in
+    let put-first = after-put-first .put-first in
+    λ p is.
+    all-wrote (first-pieces (args .k) (args .j) p (args .h .now) (args .s .now) (args .t .now) is) (args .out .now)
+    (put .ensures) (put-first .ensures (p .source) (is .1))
+    (c .before .before .put-target-first .ensures (p .target) (is .2))
+
 pub put-first-half-spec : {M : Type 1} → statement M
 put-first-half-spec =
     tie.close
     (tie.spec
-    (λ c κs. let (p, is, rises, room) = (c .before .before .before .before .before .pre) in first-room (first-pieces (c .before .before .before .before .before .args .k) (c .before .before .before .before .before .args .j) p (c .before .before .before .before .before .args .h .now) (c .before .before .before .before .before .args .s .now) (c .before .before .before .before .before .args .t .now) is) (c .before .before .before .before .before .args .out .now) room)
-    (λ c. let (p, is, rises, room) = (c .before .before .before .before .before .before .before .before .pre) in second-start (first-pieces (c .before .before .before .before .before .before .before .before .args .k) (c .before .before .before .before .before .before .before .before .args .j) p (c .before .before .before .before .before .before .before .before .args .h .now) (c .before .before .before .before .before .before .before .before .args .s .now) (c .before .before .before .before .before .before .before .before .args .t .now) is) (c .before .before .before .before .before .before .before .before .args .out .now) room (c .before .before .put .ensures))
-    (λ c. let (p, is, rises, room) = (c .before .before .before .before .before .before .before .before .pre) in second-start (first-pieces (c .before .before .before .before .before .before .before .before .args .k) (c .before .before .before .before .before .before .before .before .args .j) p (c .before .before .before .before .before .before .before .before .args .h .now) (c .before .before .before .before .before .before .before .before .args .s .now) (c .before .before .before .before .before .before .before .before .args .t .now) is) (c .before .before .before .before .before .before .before .before .args .out .now) room (c .before .before .put .ensures))
+    put-requires
+    sub-put-first
+    part-put-first-start
+    -- by search: part-put-first-end 25:28
     (λ c. search needs)
-    (λ c κs. let (p, is, rises, room) = (c .before .before .before .before .before .before .before .before .before .pre) in (p .source, is .1, second-room (first-pieces (c .before .before .before .before .before .before .before .before .before .args .k) (c .before .before .before .before .before .before .before .before .before .args .j) p (c .before .before .before .before .before .before .before .before .before .args .h .now) (c .before .before .before .before .before .before .before .before .before .args .s .now) (c .before .before .before .before .before .before .before .before .before .args .t .now) is) (c .before .before .before .before .before .before .before .before .before .args .out .now) room (c .before .before .before .put .ensures)))
-    (λ c. let (p, is, rises, room) = (c .before .before .before .before .before .before .before .before .before .before .before .before .pre) in omega (arith, two-fit (first-pieces (c .before .before .before .before .before .before .before .before .before .before .before .before .args .k) (c .before .before .before .before .before .before .before .before .before .before .before .before .args .j) p (c .before .before .before .before .before .before .before .before .before .before .before .before .args .h .now) (c .before .before .before .before .before .before .before .before .before .before .before .before .args .s .now) (c .before .before .before .before .before .before .before .before .before .before .before .before .args .t .now) is) (c .before .before .before .before .before .before .before .before .before .before .before .before .args .out .now) room (c .before .before .before .before .before .before .put .ensures) (c .before .before .put-first .ensures (p .source) (is .1))))
-    (λ c. let (p, is, rises, room) = (c .before .before .before .before .before .before .before .before .before .before .before .before .pre) in third-start (first-pieces (c .before .before .before .before .before .before .before .before .before .before .before .before .args .k) (c .before .before .before .before .before .before .before .before .before .before .before .before .args .j) p (c .before .before .before .before .before .before .before .before .before .before .before .before .args .h .now) (c .before .before .before .before .before .before .before .before .before .before .before .before .args .s .now) (c .before .before .before .before .before .before .before .before .before .before .before .before .args .t .now) is) (c .before .before .before .before .before .before .before .before .before .before .before .before .args .out .now) room (c .before .before .before .before .before .before .put .ensures) (c .before .before .put-first .ensures (p .source) (is .1)))
-    (λ c. let (p, is, rises, room) = (c .before .before .before .before .before .before .before .before .before .before .before .before .pre) in third-start (first-pieces (c .before .before .before .before .before .before .before .before .before .before .before .before .args .k) (c .before .before .before .before .before .before .before .before .before .before .before .before .args .j) p (c .before .before .before .before .before .before .before .before .before .before .before .before .args .h .now) (c .before .before .before .before .before .before .before .before .before .before .before .before .args .s .now) (c .before .before .before .before .before .before .before .before .before .before .before .before .args .t .now) is) (c .before .before .before .before .before .before .before .before .before .before .before .before .args .out .now) room (c .before .before .before .before .before .before .put .ensures) (c .before .before .put-first .ensures (p .source) (is .1)))
+    put-first-requires
+    add-e
+    sub-put-target-first
+    part-put-target-first-start
+    -- by search: part-put-target-first-end 27:30
     (λ c. search needs)
-    (λ c κs. let (p, is, rises, room) = (c .before .before .before .before .before .before .before .before .before .before .before .before .before .pre) in (p .target, is .2, rises, third-room (first-pieces (c .before .before .before .before .before .before .before .before .before .before .before .before .before .args .k) (c .before .before .before .before .before .before .before .before .before .before .before .before .before .args .j) p (c .before .before .before .before .before .before .before .before .before .before .before .before .before .args .h .now) (c .before .before .before .before .before .before .before .before .before .before .before .before .before .args .s .now) (c .before .before .before .before .before .before .before .before .before .before .before .before .before .args .t .now) is) (c .before .before .before .before .before .before .before .before .before .before .before .before .before .args .out .now) room (c .before .before .before .before .before .before .before .put .ensures) (c .before .before .before .put-first .ensures (p .source) (is .1))))
-    (λ c. let (p, is, rises, room) = (c .before .before .before .before .before .before .before .before .before .before .before .before .before .before .before .before .pre) in omega (arith, three-fit (first-pieces (c .before .before .before .before .before .before .before .before .before .before .before .before .before .before .before .before .args .k) (c .before .before .before .before .before .before .before .before .before .before .before .before .before .before .before .before .args .j) p (c .before .before .before .before .before .before .before .before .before .before .before .before .before .before .before .before .args .h .now) (c .before .before .before .before .before .before .before .before .before .before .before .before .before .before .before .before .args .s .now) (c .before .before .before .before .before .before .before .before .before .before .before .before .before .before .before .before .args .t .now) is) (c .before .before .before .before .before .before .before .before .before .before .before .before .before .before .before .before .args .out .now) room (c .before .before .before .before .before .before .before .before .before .before .put .ensures) (c .before .before .before .before .before .before .put-first .ensures (p .source) (is .1)) ((c .before .before .put-target-first .ensures (p .target) (is .2)) .0)))
+    put-target-first-requires
+    add-result
+    -- by search: same-length 20:1
     (λ c. search needs)
-    (λ c. λ p is. all-wrote (first-pieces (c .before .before .before .before .before .before .before .before .before .before .before .before .before .before .before .before .args .k) (c .before .before .before .before .before .before .before .before .before .before .before .before .before .before .before .before .args .j) p (c .before .before .before .before .before .before .before .before .before .before .before .before .before .before .before .before .args .h .now) (c .before .before .before .before .before .before .before .before .before .before .before .before .before .before .before .before .args .s .now) (c .before .before .before .before .before .before .before .before .before .before .before .before .before .before .before .before .args .t .now) is) (c .before .before .before .before .before .before .before .before .before .before .before .before .before .before .before .before .args .out .now) (c .before .before .before .before .before .before .before .before .before .before .put .ensures) (c .before .before .before .before .before .before .put-first .ensures (p .source) (is .1)) (c .before .before .put-target-first .ensures (p .target) (is .2))))
+    returns)

@@ -6,15 +6,81 @@ use borrow.Author.Needs.{needs}
 use Rattle.halves_of_part.proofs.put_halves.Statement.{statement}
 use Rattle.halves_of_part.proofs.put_halves.Tie as tie
 
+-- src/lib.rt:77:9
+put-first-half-requires : tie.Need-put-first-half-requires
+put-first-half-requires c κs =
+    let start = c .before .before .before .before .before in
+    let args = start .args in
+    let (p, is, rises, room) = start .pre in
+    (p, is, rises, first-room (halves-pieces (args .k) (args .j) p (args .id)) (args .out .now) room)
+
+-- src/lib.rt:78:29
+sub-put-second-half : tie.Need-sub-put-second-half
+sub-put-second-half c =
+    let start = c .before .before .before .before .before .before .before .before in
+    let args = start .args in
+    let (p, is, rises, room) = start .pre in
+    second-start (halves-pieces (args .k) (args .j) p (args .id)) (args .out .now) room
+    (c .before .before .put-first-half .ensures p is)
+
+-- src/lib.rt:78:29
+part-put-second-half-start : tie.Need-part-put-second-half-start
+part-put-second-half-start c =
+    let start = c .before .before .before .before .before .before .before .before in
+    let args = start .args in
+    let (p, is, rises, room) = start .pre in
+    second-start (halves-pieces (args .k) (args .j) p (args .id)) (args .out .now) room
+    (c .before .before .put-first-half .ensures p is)
+
+-- src/lib.rt:78:9
+put-second-half-requires : tie.Need-put-second-half-requires
+put-second-half-requires c κs =
+    let start = c .before .before .before .before .before .before .before .before .before in
+    let args = start .args in
+    let put-first-half = c .before .before .before .put-first-half in
+    let (p, is, rises, room) = start .pre in (
+      p,
+      is,
+      rises,
+      second-room (halves-pieces (args .k) (args .j) p (args .id)) (args .out .now) room
+          (put-first-half .ensures p is),
+    )
+
+-- src/lib.rt:79:5
+add-result : tie.Need-add-result
+add-result c =
+    let after-put-first-half = c .before .before .before .before .before .before in
+    let start = after-put-first-half .before .before .before .before .before .before in
+    let args = start .args in
+    let put-first-half = after-put-first-half .put-first-half in
+    let (p, is, rises, room) = start .pre in
+    omega (
+      arith,
+      two-fit (halves-pieces (args .k) (args .j) p (args .id)) (args .out .now) room (put-first-half .ensures p is)
+          (c .before .before .put-second-half .ensures p is),
+    )
+
+-- src/lib.rt:65:1
+returns : tie.Need-returns
+returns c =
+    let after-put-first-half = c .before .before .before .before .before .before in
+    let args = after-put-first-half .before .before .before .before .before .before .args in
+    let put-first-half = after-put-first-half .put-first-half in
+    λ p is.
+    both-wrote (halves-pieces (args .k) (args .j) p (args .id)) (args .out .now) (put-first-half .ensures p is)
+    (c .before .before .put-second-half .ensures p is) refl
+
 pub put-halves-spec : {M : Type 1} → statement M
 put-halves-spec =
     tie.close
     (tie.spec
-    (λ c κs. let (p, is, rises, room) = (c .before .before .before .before .before .pre) in (p, is, rises, first-room (halves-pieces (c .before .before .before .before .before .args .k) (c .before .before .before .before .before .args .j) p (c .before .before .before .before .before .args .id)) (c .before .before .before .before .before .args .out .now) room))
-    (λ c. let (p, is, rises, room) = (c .before .before .before .before .before .before .before .before .pre) in second-start (halves-pieces (c .before .before .before .before .before .before .before .before .args .k) (c .before .before .before .before .before .before .before .before .args .j) p (c .before .before .before .before .before .before .before .before .args .id)) (c .before .before .before .before .before .before .before .before .args .out .now) room (c .before .before .put-first-half .ensures p is))
-    (λ c. let (p, is, rises, room) = (c .before .before .before .before .before .before .before .before .pre) in second-start (halves-pieces (c .before .before .before .before .before .before .before .before .args .k) (c .before .before .before .before .before .before .before .before .args .j) p (c .before .before .before .before .before .before .before .before .args .id)) (c .before .before .before .before .before .before .before .before .args .out .now) room (c .before .before .put-first-half .ensures p is))
+    put-first-half-requires
+    sub-put-second-half
+    part-put-second-half-start
+    -- by search: part-put-second-half-end 78:29
     (λ c. search needs)
-    (λ c κs. let (p, is, rises, room) = (c .before .before .before .before .before .before .before .before .before .pre) in (p, is, rises, second-room (halves-pieces (c .before .before .before .before .before .before .before .before .before .args .k) (c .before .before .before .before .before .before .before .before .before .args .j) p (c .before .before .before .before .before .before .before .before .before .args .id)) (c .before .before .before .before .before .before .before .before .before .args .out .now) room (c .before .before .before .put-first-half .ensures p is)))
-    (λ c. let (p, is, rises, room) = (c .before .before .before .before .before .before .before .before .before .before .before .before .pre) in omega (arith, two-fit (halves-pieces (c .before .before .before .before .before .before .before .before .before .before .before .before .args .k) (c .before .before .before .before .before .before .before .before .before .before .before .before .args .j) p (c .before .before .before .before .before .before .before .before .before .before .before .before .args .id)) (c .before .before .before .before .before .before .before .before .before .before .before .before .args .out .now) room (c .before .before .before .before .before .before .put-first-half .ensures p is) (c .before .before .put-second-half .ensures p is)))
+    put-second-half-requires
+    add-result
+    -- by search: same-length 65:1
     (λ c. search needs)
-    (λ c. λ p is. both-wrote (halves-pieces (c .before .before .before .before .before .before .before .before .before .before .before .before .args .k) (c .before .before .before .before .before .before .before .before .before .before .before .before .args .j) p (c .before .before .before .before .before .before .before .before .before .before .before .before .args .id)) (c .before .before .before .before .before .before .before .before .before .before .before .before .args .out .now) (c .before .before .before .before .before .before .put-first-half .ensures p is) (c .before .before .put-second-half .ensures p is) refl))
+    returns)

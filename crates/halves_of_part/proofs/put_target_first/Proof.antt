@@ -7,20 +7,147 @@ use borrow.Author.Needs.{needs}
 use Rattle.halves_of_part.proofs.put_target_first.Statement.{statement}
 use Rattle.halves_of_part.proofs.put_target_first.Tie as tie
 
+-- src/lib.rt:12:9
+returns : tie.Need-returns
+returns c =
+    let args = c .before .before .before .args in
+    λ g is. no-first (args .t .now) (args .k) (args .out .now) g (c .if1 .taken) is
+
+-- src/lib.rt:14:41
+order-of-requires : tie.Need-order-of-requires
+order-of-requires c κs =
+    let start = c .before .before .before .before in
+    let (g, is, rises, room) = start .pre in
+    let p = present (start .args .t .now) g (c .before .if1 .left) is in
+    p .least
+
+-- src/lib.rt:14:9
+put-target-head-requires : tie.Need-put-target-head-requires
+put-target-head-requires c κs =
+    let start = c .before .before .before .before .before in
+    let args = start .args in
+    let t = args .t .now in
+    let out = args .out .now in
+    let (g, is, rises, room) = start .pre in
+    let p = present t g (c .before .before .if1 .left) is in
+    room-of-head (c .order-of .result) out
+    (first-room (target-first t g p (args .k) (c .order-of .result) (c .order-of .ensures)) out room)
+
+-- src/lib.rt:15:28
+sub-put-first : tie.Need-sub-put-first
+sub-put-first c =
+    let after-if1 = c .before .before .before .before .before in
+    let start = after-if1 .before .before .before in
+    let args = start .args in
+    let t = args .t .now in
+    let if1 = after-if1 .if1 in
+    let order-of = c .before .before .before .order-of in
+    let (g, is, rises, room) = start .pre in
+    let p = present t g (if1 .left) is in
+    second-start (target-first t g p (args .k) (order-of .result) (order-of .ensures)) (args .out .now) room
+    (c .before .before .put-target-head .ensures)
+
+-- src/lib.rt:15:28
+part-put-first-start : tie.Need-part-put-first-start
+part-put-first-start c =
+    let after-if1 = c .before .before .before .before .before in
+    let start = after-if1 .before .before .before in
+    let args = start .args in
+    let t = args .t .now in
+    let if1 = after-if1 .if1 in
+    let order-of = c .before .before .before .order-of in
+    let (g, is, rises, room) = start .pre in
+    let p = present t g (if1 .left) is in
+    second-start (target-first t g p (args .k) (order-of .result) (order-of .ensures)) (args .out .now) room
+    (c .before .before .put-target-head .ensures)
+
+-- src/lib.rt:15:43
+sub-put-first-2 : tie.Need-sub-put-first-2
+sub-put-first-2 c =
+    let after-if1 = c .before .before .before .before .before .before in
+    let start = after-if1 .before .before .before in
+    let if1 = after-if1 .if1 in
+    let (g, is, rises, room) = start .pre in
+    let p = present (start .args .t .now) g (if1 .left) is in
+    p .least
+
+-- src/lib.rt:15:43
+part-put-first-start-2 : tie.Need-part-put-first-start-2
+part-put-first-start-2 c =
+    let after-if1 = c .before .before .before .before .before .before in
+    let start = after-if1 .before .before .before in
+    let if1 = after-if1 .if1 in
+    let (g, is, rises, room) = start .pre in
+    let p = present (start .args .t .now) g (if1 .left) is in
+    omega (arith, p .least)
+
+-- src/lib.rt:15:9
+put-first-requires : tie.Need-put-first-requires
+put-first-requires c κs =
+    let after-order-of = c .before .before .before .before .before in
+    let start = after-order-of .before .before .before .before .before in
+    let args = start .args in
+    let t = args .t .now in
+    let if1 = after-order-of .before .before .if1 in
+    let order-of = after-order-of .order-of in
+    let put-target-head = c .before .before .before .before .put-target-head in
+    let (g, is, rises, room) = start .pre in
+    let p = present t g (if1 .left) is in (
+      p .items,
+      p .holds,
+      second-room (target-first t g p (args .k) (order-of .result) (order-of .ensures)) (args .out .now) room
+          (put-target-head .ensures),
+    )
+
+-- src/lib.rt:16:5
+add-result : tie.Need-add-result
+add-result c =
+    let after-put-target-head = c .before .before .before .before .before .before .before in
+    let start = after-put-target-head .before .before .before .before .before .before in
+    let args = start .args in
+    let t = args .t .now in
+    let if1 = after-put-target-head .before .before .before .if1 in
+    let order-of = after-put-target-head .before .order-of in
+    let put-target-head = after-put-target-head .put-target-head in
+    let (g, is, rises, room) = start .pre in
+    let p = present t g (if1 .left) is in
+    omega (
+      arith,
+      two-fit (target-first t g p (args .k) (order-of .result) (order-of .ensures)) (args .out .now) room
+          (put-target-head .ensures) (c .before .before .put-first .ensures (p .items) (p .holds)),
+    )
+
+-- src/lib.rt:7:1
+returns-2 : tie.Need-returns-2
+returns-2 c =
+    let after-put-target-head = c .before .before .before .before .before .before .before in
+    let args = after-put-target-head .before .before .before .before .before .before .args in
+    let t = args .t .now in
+    let if1 = after-put-target-head .before .before .before .if1 in
+    let order-of = after-put-target-head .before .order-of in
+    let put-target-head = after-put-target-head .put-target-head in
+    λ g is.
+    let p = present t g (if1 .left) is in
+    both-wrote (target-first t g p (args .k) (order-of .result) (order-of .ensures)) (args .out .now)
+    (put-target-head .ensures) (c .before .before .put-first .ensures (p .items) (p .holds)) refl
+
 pub put-target-first-spec : {M : Type 1} → statement M
 put-target-first-spec =
     tie.close
     (tie.spec
-    (λ c. λ g is. no-first (c .before .before .before .args .t .now) (c .before .before .before .args .k) (c .before .before .before .args .out .now) g (c .if1 .taken) is)
-    (λ c κs. let (g, is, rises, room) = (c .before .before .before .before .pre) in let p = (present (c .before .before .before .before .args .t .now) g (c .before .if1 .left) is) in p .least)
-    (λ c κs. let (g, is, rises, room) = (c .before .before .before .before .before .pre) in let p = (present (c .before .before .before .before .before .args .t .now) g (c .before .before .if1 .left) is) in room-of-head (c .order-of .result) (c .before .before .before .before .before .args .out .now) (first-room (target-first (c .before .before .before .before .before .args .t .now) g p (c .before .before .before .before .before .args .k) (c .order-of .result) (c .order-of .ensures)) (c .before .before .before .before .before .args .out .now) room))
-    (λ c. let (g, is, rises, room) = (c .before .before .before .before .before .before .before .before .pre) in let p = (present (c .before .before .before .before .before .before .before .before .args .t .now) g (c .before .before .before .before .before .if1 .left) is) in second-start (target-first (c .before .before .before .before .before .before .before .before .args .t .now) g p (c .before .before .before .before .before .before .before .before .args .k) (c .before .before .before .order-of .result) (c .before .before .before .order-of .ensures)) (c .before .before .before .before .before .before .before .before .args .out .now) room (c .before .before .put-target-head .ensures))
-    (λ c. let (g, is, rises, room) = (c .before .before .before .before .before .before .before .before .pre) in let p = (present (c .before .before .before .before .before .before .before .before .args .t .now) g (c .before .before .before .before .before .if1 .left) is) in second-start (target-first (c .before .before .before .before .before .before .before .before .args .t .now) g p (c .before .before .before .before .before .before .before .before .args .k) (c .before .before .before .order-of .result) (c .before .before .before .order-of .ensures)) (c .before .before .before .before .before .before .before .before .args .out .now) room (c .before .before .put-target-head .ensures))
+    returns
+    order-of-requires
+    put-target-head-requires
+    sub-put-first
+    part-put-first-start
+    -- by search: part-put-first-end 15:28
     (λ c. search needs)
-    (λ c. let (g, is, rises, room) = (c .before .before .before .before .before .before .before .before .before .pre) in let p = (present (c .before .before .before .before .before .before .before .before .before .args .t .now) g (c .before .before .before .before .before .before .if1 .left) is) in p .least)
-    (λ c. let (g, is, rises, room) = (c .before .before .before .before .before .before .before .before .before .pre) in let p = (present (c .before .before .before .before .before .before .before .before .before .args .t .now) g (c .before .before .before .before .before .before .if1 .left) is) in omega (arith, p .least))
+    sub-put-first-2
+    part-put-first-start-2
+    -- by search: part-put-first-end-2 15:43
     (λ c. search needs)
-    (λ c κs. let (g, is, rises, room) = (c .before .before .before .before .before .before .before .before .before .before .pre) in let p = (present (c .before .before .before .before .before .before .before .before .before .before .args .t .now) g (c .before .before .before .before .before .before .before .if1 .left) is) in (p .items, p .holds, second-room (target-first (c .before .before .before .before .before .before .before .before .before .before .args .t .now) g p (c .before .before .before .before .before .before .before .before .before .before .args .k) (c .before .before .before .before .before .order-of .result) (c .before .before .before .before .before .order-of .ensures)) (c .before .before .before .before .before .before .before .before .before .before .args .out .now) room (c .before .before .before .before .put-target-head .ensures)))
-    (λ c. let (g, is, rises, room) = (c .before .before .before .before .before .before .before .before .before .before .before .before .before .pre) in let p = (present (c .before .before .before .before .before .before .before .before .before .before .before .before .before .args .t .now) g (c .before .before .before .before .before .before .before .before .before .before .if1 .left) is) in omega (arith, two-fit (target-first (c .before .before .before .before .before .before .before .before .before .before .before .before .before .args .t .now) g p (c .before .before .before .before .before .before .before .before .before .before .before .before .before .args .k) (c .before .before .before .before .before .before .before .before .order-of .result) (c .before .before .before .before .before .before .before .before .order-of .ensures)) (c .before .before .before .before .before .before .before .before .before .before .before .before .before .args .out .now) room (c .before .before .before .before .before .before .before .put-target-head .ensures) (c .before .before .put-first .ensures (p .items) (p .holds))))
+    put-first-requires
+    add-result
+    -- by search: same-length 7:1
     (λ c. search needs)
-    (λ c. λ g is. let p = (present (c .before .before .before .before .before .before .before .before .before .before .before .before .before .args .t .now) g (c .before .before .before .before .before .before .before .before .before .before .if1 .left) is) in both-wrote (target-first (c .before .before .before .before .before .before .before .before .before .before .before .before .before .args .t .now) g p (c .before .before .before .before .before .before .before .before .before .before .before .before .before .args .k) (c .before .before .before .before .before .before .before .before .order-of .result) (c .before .before .before .before .before .before .before .before .order-of .ensures)) (c .before .before .before .before .before .before .before .before .before .before .before .before .before .args .out .now) (c .before .before .before .before .before .before .before .put-target-head .ensures) (c .before .before .put-first .ensures (p .items) (p .holds)) refl))
+    returns-2)

@@ -8,21 +8,158 @@ use borrow.Author.Needs.{needs}
 use Rattle.halves_of_part.proofs.put_target_second.Statement.{statement}
 use Rattle.halves_of_part.proofs.put_target_second.Tie as tie
 
+-- src/lib.rt:37:9
+returns : tie.Need-returns
+returns c =
+    let args = c .before .before .before .args in
+    λ g is. no-second (args .t .now) (args .k) (args .out .now) g (c .if1 .taken) is
+
+-- src/lib.rt:39:41
+order-of-requires : tie.Need-order-of-requires
+order-of-requires c κs =
+    let start = c .before .before .before .before in
+    let (g, is, rises, room) = start .pre in
+    let p = present (start .args .t .now) g (c .before .if1 .left) is in
+    p .least
+
+-- src/lib.rt:39:41
+add-put-target-head : tie.Need-add-put-target-head
+add-put-target-head c =
+    let start = c .before .before .before .before .before in
+    let args = start .args in
+    let t = args .t .now in
+    let (g, is, rises, room) = start .pre in
+    let p = present t g (c .before .before .if1 .left) is in
+    omega (arith, order-rises t g p (args .k) (c .order-of .result) (c .order-of .ensures) rises)
+
+-- src/lib.rt:39:9
+put-target-head-requires : tie.Need-put-target-head-requires
+put-target-head-requires c κs =
+    let start = c .before .before .before .before .before in
+    let args = start .args in
+    let t = args .t .now in
+    let out = args .out .now in
+    let (g, is, rises, room) = start .pre in
+    let p = present t g (c .before .before .if1 .left) is in
+    room-of-head (c .order-of .result + 1) out
+    (first-room (target-second t g p (args .k) (c .order-of .result) (c .order-of .ensures)) out room)
+
+-- src/lib.rt:40:29
+sub-put-second : tie.Need-sub-put-second
+sub-put-second c =
+    let after-if1 = c .before .before .before .before .before in
+    let start = after-if1 .before .before .before in
+    let args = start .args in
+    let t = args .t .now in
+    let if1 = after-if1 .if1 in
+    let order-of = c .before .before .before .order-of in
+    let (g, is, rises, room) = start .pre in
+    let p = present t g (if1 .left) is in
+    second-start (target-second t g p (args .k) (order-of .result) (order-of .ensures)) (args .out .now) room
+    (c .before .before .put-target-head .ensures)
+
+-- src/lib.rt:40:29
+part-put-second-start : tie.Need-part-put-second-start
+part-put-second-start c =
+    let after-if1 = c .before .before .before .before .before in
+    let start = after-if1 .before .before .before in
+    let args = start .args in
+    let t = args .t .now in
+    let if1 = after-if1 .if1 in
+    let order-of = c .before .before .before .order-of in
+    let (g, is, rises, room) = start .pre in
+    let p = present t g (if1 .left) is in
+    second-start (target-second t g p (args .k) (order-of .result) (order-of .ensures)) (args .out .now) room
+    (c .before .before .put-target-head .ensures)
+
+-- src/lib.rt:40:44
+sub-put-second-2 : tie.Need-sub-put-second-2
+sub-put-second-2 c =
+    let after-if1 = c .before .before .before .before .before .before in
+    let start = after-if1 .before .before .before in
+    let if1 = after-if1 .if1 in
+    let (g, is, rises, room) = start .pre in
+    let p = present (start .args .t .now) g (if1 .left) is in
+    p .least
+
+-- src/lib.rt:40:44
+part-put-second-start-2 : tie.Need-part-put-second-start-2
+part-put-second-start-2 c =
+    let after-if1 = c .before .before .before .before .before .before in
+    let start = after-if1 .before .before .before in
+    let if1 = after-if1 .if1 in
+    let (g, is, rises, room) = start .pre in
+    let p = present (start .args .t .now) g (if1 .left) is in
+    omega (arith, p .least)
+
+-- src/lib.rt:40:9
+put-second-requires : tie.Need-put-second-requires
+put-second-requires c κs =
+    let after-order-of = c .before .before .before .before .before in
+    let start = after-order-of .before .before .before .before .before in
+    let args = start .args in
+    let t = args .t .now in
+    let if1 = after-order-of .before .before .if1 in
+    let order-of = after-order-of .order-of in
+    let put-target-head = c .before .before .before .before .put-target-head in
+    let (g, is, rises, room) = start .pre in
+    let p = present t g (if1 .left) is in (
+      p .items,
+      p .holds,
+      second-room (target-second t g p (args .k) (order-of .result) (order-of .ensures)) (args .out .now) room
+          (put-target-head .ensures),
+    )
+
+-- src/lib.rt:41:5
+add-result : tie.Need-add-result
+add-result c =
+    let after-put-target-head = c .before .before .before .before .before .before .before in
+    let start = after-put-target-head .before .before .before .before .before .before in
+    let args = start .args in
+    let t = args .t .now in
+    let if1 = after-put-target-head .before .before .before .if1 in
+    let order-of = after-put-target-head .before .order-of in
+    let put-target-head = after-put-target-head .put-target-head in
+    let (g, is, rises, room) = start .pre in
+    let p = present t g (if1 .left) is in
+    omega (
+      arith,
+      two-fit (target-second t g p (args .k) (order-of .result) (order-of .ensures)) (args .out .now) room
+          (put-target-head .ensures) (c .before .before .put-second .ensures (p .items) (p .holds)),
+    )
+
+-- src/lib.rt:32:1
+returns-2 : tie.Need-returns-2
+returns-2 c =
+    let after-put-target-head = c .before .before .before .before .before .before .before in
+    let args = after-put-target-head .before .before .before .before .before .before .args in
+    let t = args .t .now in
+    let if1 = after-put-target-head .before .before .before .if1 in
+    let order-of = after-put-target-head .before .order-of in
+    let put-target-head = after-put-target-head .put-target-head in
+    λ g is.
+    let p = present t g (if1 .left) is in
+    both-wrote (target-second t g p (args .k) (order-of .result) (order-of .ensures)) (args .out .now)
+    (put-target-head .ensures) (c .before .before .put-second .ensures (p .items) (p .holds)) refl
+
 pub put-target-second-spec : {M : Type 1} → statement M
 put-target-second-spec =
     tie.close
     (tie.spec
-    (λ c. λ g is. no-second (c .before .before .before .args .t .now) (c .before .before .before .args .k) (c .before .before .before .args .out .now) g (c .if1 .taken) is)
-    (λ c κs. let (g, is, rises, room) = (c .before .before .before .before .pre) in let p = (present (c .before .before .before .before .args .t .now) g (c .before .if1 .left) is) in p .least)
-    (λ c. let (g, is, rises, room) = (c .before .before .before .before .before .pre) in let p = (present (c .before .before .before .before .before .args .t .now) g (c .before .before .if1 .left) is) in omega (arith, order-rises (c .before .before .before .before .before .args .t .now) g p (c .before .before .before .before .before .args .k) (c .order-of .result) (c .order-of .ensures) rises))
-    (λ c κs. let (g, is, rises, room) = (c .before .before .before .before .before .pre) in let p = (present (c .before .before .before .before .before .args .t .now) g (c .before .before .if1 .left) is) in room-of-head (c .order-of .result + 1) (c .before .before .before .before .before .args .out .now) (first-room (target-second (c .before .before .before .before .before .args .t .now) g p (c .before .before .before .before .before .args .k) (c .order-of .result) (c .order-of .ensures)) (c .before .before .before .before .before .args .out .now) room))
-    (λ c. let (g, is, rises, room) = (c .before .before .before .before .before .before .before .before .pre) in let p = (present (c .before .before .before .before .before .before .before .before .args .t .now) g (c .before .before .before .before .before .if1 .left) is) in second-start (target-second (c .before .before .before .before .before .before .before .before .args .t .now) g p (c .before .before .before .before .before .before .before .before .args .k) (c .before .before .before .order-of .result) (c .before .before .before .order-of .ensures)) (c .before .before .before .before .before .before .before .before .args .out .now) room (c .before .before .put-target-head .ensures))
-    (λ c. let (g, is, rises, room) = (c .before .before .before .before .before .before .before .before .pre) in let p = (present (c .before .before .before .before .before .before .before .before .args .t .now) g (c .before .before .before .before .before .if1 .left) is) in second-start (target-second (c .before .before .before .before .before .before .before .before .args .t .now) g p (c .before .before .before .before .before .before .before .before .args .k) (c .before .before .before .order-of .result) (c .before .before .before .order-of .ensures)) (c .before .before .before .before .before .before .before .before .args .out .now) room (c .before .before .put-target-head .ensures))
+    returns
+    order-of-requires
+    add-put-target-head
+    put-target-head-requires
+    sub-put-second
+    part-put-second-start
+    -- by search: part-put-second-end 40:29
     (λ c. search needs)
-    (λ c. let (g, is, rises, room) = (c .before .before .before .before .before .before .before .before .before .pre) in let p = (present (c .before .before .before .before .before .before .before .before .before .args .t .now) g (c .before .before .before .before .before .before .if1 .left) is) in p .least)
-    (λ c. let (g, is, rises, room) = (c .before .before .before .before .before .before .before .before .before .pre) in let p = (present (c .before .before .before .before .before .before .before .before .before .args .t .now) g (c .before .before .before .before .before .before .if1 .left) is) in omega (arith, p .least))
+    sub-put-second-2
+    part-put-second-start-2
+    -- by search: part-put-second-end-2 40:44
     (λ c. search needs)
-    (λ c κs. let (g, is, rises, room) = (c .before .before .before .before .before .before .before .before .before .before .pre) in let p = (present (c .before .before .before .before .before .before .before .before .before .before .args .t .now) g (c .before .before .before .before .before .before .before .if1 .left) is) in (p .items, p .holds, second-room (target-second (c .before .before .before .before .before .before .before .before .before .before .args .t .now) g p (c .before .before .before .before .before .before .before .before .before .before .args .k) (c .before .before .before .before .before .order-of .result) (c .before .before .before .before .before .order-of .ensures)) (c .before .before .before .before .before .before .before .before .before .before .args .out .now) room (c .before .before .before .before .put-target-head .ensures)))
-    (λ c. let (g, is, rises, room) = (c .before .before .before .before .before .before .before .before .before .before .before .before .before .pre) in let p = (present (c .before .before .before .before .before .before .before .before .before .before .before .before .before .args .t .now) g (c .before .before .before .before .before .before .before .before .before .before .if1 .left) is) in omega (arith, two-fit (target-second (c .before .before .before .before .before .before .before .before .before .before .before .before .before .args .t .now) g p (c .before .before .before .before .before .before .before .before .before .before .before .before .before .args .k) (c .before .before .before .before .before .before .before .before .order-of .result) (c .before .before .before .before .before .before .before .before .order-of .ensures)) (c .before .before .before .before .before .before .before .before .before .before .before .before .before .args .out .now) room (c .before .before .before .before .before .before .before .put-target-head .ensures) (c .before .before .put-second .ensures (p .items) (p .holds))))
+    put-second-requires
+    add-result
+    -- by search: same-length 32:1
     (λ c. search needs)
-    (λ c. λ g is. let p = (present (c .before .before .before .before .before .before .before .before .before .before .before .before .before .args .t .now) g (c .before .before .before .before .before .before .before .before .before .before .if1 .left) is) in both-wrote (target-second (c .before .before .before .before .before .before .before .before .before .before .before .before .before .args .t .now) g p (c .before .before .before .before .before .before .before .before .before .before .before .before .before .args .k) (c .before .before .before .before .before .before .before .before .order-of .result) (c .before .before .before .before .before .before .before .before .order-of .ensures)) (c .before .before .before .before .before .before .before .before .before .before .before .before .before .args .out .now) (c .before .before .before .before .before .before .before .put-target-head .ensures) (c .before .before .put-second .ensures (p .items) (p .holds)) refl))
+    returns-2)
