@@ -13,38 +13,334 @@ use borrow.Author.Needs.{needs}
 use Rattle.joined_part.proofs.put_joined_part.Statement.{statement}
 use Rattle.joined_part.proofs.put_joined_part.Tie as tie
 
+-- src/lib.rt:105:9
+put-joined-head-requires : tie.Need-put-joined-head-requires
+put-joined-head-requires c κs =
+    let start = c .before .before .before .before .before in
+    let args = start .args in
+    let t = args .t .now in
+    let out = args .out .now in
+    let known = c .before .before .before .shared-slice-known .given in
+    let v = start .pre in
+    heads-asked t (bytes-known t known) (v .before) (v .first) (v .after) (args .x) (v .there) (v .before′)
+    (v .second) (v .after′) (args .y) (v .there′) out
+    (first-room (joined-pieces (args .order) (v .first) (v .second)) out (v .room))
+
+-- src/lib.rt:106:40
+sub-put-joined : tie.Need-sub-put-joined
+sub-put-joined c =
+    let after-shared-slice-known = c .before .before .before .before .before .before in
+    let start = after-shared-slice-known .before .before in
+    let args = start .args in
+    let out = args .out .now in
+    let t = args .t .now in
+    let known = after-shared-slice-known .shared-slice-known .given in
+    let put-joined-head = c .before .before .put-joined-head in
+    let v = start .pre in
+    second-start (joined-pieces (args .order) (v .first) (v .second)) out (v .room)
+    (heads-wrote t (bytes-known t known) (v .before) (v .first) (v .after) (args .x) (v .there) (v .before′)
+    (v .second) (v .after′) (args .y) (v .there′) out (put-joined-head .result) (put-joined-head .last .0)
+    (put-joined-head .ensures))
+
+-- src/lib.rt:106:40
+part-put-joined-start : tie.Need-part-put-joined-start
+part-put-joined-start c =
+    let after-shared-slice-known = c .before .before .before .before .before .before in
+    let start = after-shared-slice-known .before .before in
+    let args = start .args in
+    let out = args .out .now in
+    let t = args .t .now in
+    let known = after-shared-slice-known .shared-slice-known .given in
+    let put-joined-head = c .before .before .put-joined-head in
+    let v = start .pre in
+    second-start (joined-pieces (args .order) (v .first) (v .second)) out (v .room)
+    (heads-wrote t (bytes-known t known) (v .before) (v .first) (v .after) (args .x) (v .there) (v .before′)
+    (v .second) (v .after′) (args .y) (v .there′) out (put-joined-head .result) (put-joined-head .last .0)
+    (put-joined-head .ensures))
+
+-- src/lib.rt:106:9
+put-joined-requires : tie.Need-put-joined-requires
+put-joined-requires c κs =
+    let after-put-joined-head = c .before .before .before .before .before in
+    let start = after-put-joined-head .before .before .before .before .before .before in
+    let args = start .args in
+    let t = args .t .now in
+    let x = args .x in
+    let y = args .y in
+    let out = args .out .now in
+    let known = after-put-joined-head .before .before .before .before .shared-slice-known .given in
+    let put-joined-head = after-put-joined-head .put-joined-head in
+    let v = start .pre in
+    sources-asked t (bytes-known t known) (v .before) (v .first) (v .after) x (v .there) (v .before′) (v .second)
+    (v .after′) y (v .there′) (rest (put-joined-head .result) (put-joined-head .last .0)) (v .small)
+    (second-room (joined-pieces (args .order) (v .first) (v .second)) out (v .room)
+    (heads-wrote t (bytes-known t known) (v .before) (v .first) (v .after) x (v .there) (v .before′) (v .second)
+    (v .after′) y (v .there′) out (put-joined-head .result) (put-joined-head .last .0) (put-joined-head .ensures)))
+
+-- src/lib.rt:107:13
+add-w : tie.Need-add-w
+add-w c =
+    let after-put-joined-head = c .before .before .before .before .before .before .before .before in
+    let start = after-put-joined-head .before .before .before .before .before .before in
+    let args = start .args in
+    let out = args .out .now in
+    let t = args .t .now in
+    let x = args .x in
+    let y = args .y in
+    let known = after-put-joined-head .before .before .before .before .shared-slice-known .given in
+    let put-joined-head = after-put-joined-head .put-joined-head in
+    let put-joined = c .before .before .put-joined in
+    let v = start .pre in
+    omega (
+      arith,
+      two-fit (joined-pieces (args .order) (v .first) (v .second)) out (v .room)
+          (heads-wrote t (bytes-known t known) (v .before) (v .first) (v .after) x (v .there) (v .before′)
+          (v .second) (v .after′) y (v .there′) out (put-joined-head .result) (put-joined-head .last .0)
+          (put-joined-head .ensures))
+          (sources-wrote t (bytes-known t known) (v .before) (v .first) (v .after) x (v .there) (v .before′)
+          (v .second) (v .after′) y (v .there′) (rest (put-joined-head .result) (put-joined-head .last .0))
+          (put-joined .result) (put-joined .last .0) (put-joined .ensures)),
+    )
+
+-- src/lib.rt:108:31
+sub-put-joined-target : tie.Need-sub-put-joined-target
+sub-put-joined-target c =
+    let after-put-joined-head = c .before .before .before .before .before .before .before .before in
+    let start = after-put-joined-head .before .before .before .before .before .before in
+    let args = start .args in
+    let out = args .out .now in
+    let t = args .t .now in
+    let x = args .x in
+    let y = args .y in
+    let known = after-put-joined-head .before .before .before .before .shared-slice-known .given in
+    let put-joined-head = after-put-joined-head .put-joined-head in
+    let put-joined = c .before .before .put-joined in
+    let v = start .pre in
+    third-start (joined-pieces (args .order) (v .first) (v .second)) out (v .room)
+    (heads-wrote t (bytes-known t known) (v .before) (v .first) (v .after) x (v .there) (v .before′) (v .second)
+    (v .after′) y (v .there′) out (put-joined-head .result) (put-joined-head .last .0) (put-joined-head .ensures))
+    (sources-wrote t (bytes-known t known) (v .before) (v .first) (v .after) x (v .there) (v .before′) (v .second)
+    (v .after′) y (v .there′) (rest (put-joined-head .result) (put-joined-head .last .0)) (put-joined .result)
+    (put-joined .last .0) (put-joined .ensures))
+
+-- src/lib.rt:108:31
+part-put-joined-target-start : tie.Need-part-put-joined-target-start
+part-put-joined-target-start c =
+    let after-put-joined-head = c .before .before .before .before .before .before .before .before in
+    let start = after-put-joined-head .before .before .before .before .before .before in
+    let args = start .args in
+    let out = args .out .now in
+    let t = args .t .now in
+    let x = args .x in
+    let y = args .y in
+    let known = after-put-joined-head .before .before .before .before .shared-slice-known .given in
+    let put-joined-head = after-put-joined-head .put-joined-head in
+    let put-joined = c .before .before .put-joined in
+    let v = start .pre in
+    third-start (joined-pieces (args .order) (v .first) (v .second)) out (v .room)
+    (heads-wrote t (bytes-known t known) (v .before) (v .first) (v .after) x (v .there) (v .before′) (v .second)
+    (v .after′) y (v .there′) out (put-joined-head .result) (put-joined-head .last .0) (put-joined-head .ensures))
+    (sources-wrote t (bytes-known t known) (v .before) (v .first) (v .after) x (v .there) (v .before′) (v .second)
+    (v .after′) y (v .there′) (rest (put-joined-head .result) (put-joined-head .last .0)) (put-joined .result)
+    (put-joined .last .0) (put-joined .ensures))
+
+-- src/lib.rt:108:46
+sub-put-joined-target-2 : tie.Need-sub-put-joined-target-2
+sub-put-joined-target-2 c =
+    let after-shared-slice-known = c .before .before .before .before .before .before .before .before .before .before
+    .before .before .before in
+    let start = after-shared-slice-known .before .before in
+    let args = start .args in
+    let t = args .t .now in
+    let known = after-shared-slice-known .shared-slice-known .given in
+    let v = start .pre in
+    target-ends t (bytes-known t known) (v .before) (v .first) (v .after) (args .x) (v .there) .0
+
+-- src/lib.rt:108:46
+part-put-joined-target-start-2 : tie.Need-part-put-joined-target-start-2
+part-put-joined-target-start-2 c =
+    let after-shared-slice-known = c .before .before .before .before .before .before .before .before .before .before
+    .before .before .before in
+    let start = after-shared-slice-known .before .before in
+    let args = start .args in
+    let t = args .t .now in
+    let known = after-shared-slice-known .shared-slice-known .given in
+    let v = start .pre in
+    let e = target-ends t (bytes-known t known) (v .before) (v .first) (v .after) (args .x) (v .there) in
+    omega (arith, e .0, e .1)
+
+-- src/lib.rt:108:56
+sub-put-joined-target-3 : tie.Need-sub-put-joined-target-3
+sub-put-joined-target-3 c =
+    let after-shared-slice-known = c .before .before .before .before .before .before .before .before .before .before
+    .before .before .before .before in
+    let start = after-shared-slice-known .before .before in
+    let args = start .args in
+    let t = args .t .now in
+    let known = after-shared-slice-known .shared-slice-known .given in
+    let v = start .pre in
+    target-ends t (bytes-known t known) (v .before′) (v .second) (v .after′) (args .y) (v .there′) .0
+
+-- src/lib.rt:108:56
+part-put-joined-target-start-3 : tie.Need-part-put-joined-target-start-3
+part-put-joined-target-start-3 c =
+    let after-shared-slice-known = c .before .before .before .before .before .before .before .before .before .before
+    .before .before .before .before in
+    let start = after-shared-slice-known .before .before in
+    let args = start .args in
+    let t = args .t .now in
+    let known = after-shared-slice-known .shared-slice-known .given in
+    let v = start .pre in
+    let e = target-ends t (bytes-known t known) (v .before′) (v .second) (v .after′) (args .y) (v .there′) in
+    omega (arith, e .0, e .1)
+
+-- src/lib.rt:108:9
+put-joined-target-requires : tie.Need-put-joined-target-requires
+put-joined-target-requires c κs =
+    let after-put-joined = c .before .before .before .before .before in
+    let after-put-joined-head = after-put-joined .before .before .before .before .before .before in
+    let start = after-put-joined-head .before .before .before .before .before .before in
+    let args = start .args in
+    let t = args .t .now in
+    let x = args .x in
+    let y = args .y in
+    let order = args .order in
+    let out = args .out .now in
+    let known = after-put-joined-head .before .before .before .before .shared-slice-known .given in
+    let put-joined-head = after-put-joined-head .put-joined-head in
+    let put-joined = after-put-joined .put-joined in
+    let v = start .pre in
+    targets-asked t (bytes-known t known) (v .before) (v .first) (v .after) x (v .there) (v .before′) (v .second)
+    (v .after′) y (v .there′) order
+    (rest (put-joined-head .result + put-joined .result)
+    (back (put-joined-head .result) (put-joined-head .last .0) (put-joined .last .0))) (v .small)
+    (third-room (joined-pieces order (v .first) (v .second)) out (v .room)
+    (heads-wrote t (bytes-known t known) (v .before) (v .first) (v .after) x (v .there) (v .before′) (v .second)
+    (v .after′) y (v .there′) out (put-joined-head .result) (put-joined-head .last .0) (put-joined-head .ensures))
+    (sources-wrote t (bytes-known t known) (v .before) (v .first) (v .after) x (v .there) (v .before′) (v .second)
+    (v .after′) y (v .there′) (rest (put-joined-head .result) (put-joined-head .last .0)) (put-joined .result)
+    (put-joined .last .0) (put-joined .ensures)))
+
+-- src/lib.rt:109:5
+add-result : tie.Need-add-result
+add-result c =
+    let after-put-joined = c .before .before .before .before .before .before .before .before in
+    let after-put-joined-head = after-put-joined .before .before .before .before .before .before in
+    let start = after-put-joined-head .before .before .before .before .before .before in
+    let args = start .args in
+    let order = args .order in
+    let out = args .out .now in
+    let t = args .t .now in
+    let x = args .x in
+    let y = args .y in
+    let known = after-put-joined-head .before .before .before .before .shared-slice-known .given in
+    let put-joined-head = after-put-joined-head .put-joined-head in
+    let put-joined = after-put-joined .put-joined in
+    let put-joined-target = c .before .before .put-joined-target in
+    let v = start .pre in
+    omega (
+      arith,
+      three-fit (joined-pieces order (v .first) (v .second)) out (v .room)
+          (heads-wrote t (bytes-known t known) (v .before) (v .first) (v .after) x (v .there) (v .before′)
+          (v .second) (v .after′) y (v .there′) out (put-joined-head .result) (put-joined-head .last .0)
+          (put-joined-head .ensures))
+          (sources-wrote t (bytes-known t known) (v .before) (v .first) (v .after) x (v .there) (v .before′)
+          (v .second) (v .after′) y (v .there′) (rest (put-joined-head .result) (put-joined-head .last .0))
+          (put-joined .result) (put-joined .last .0) (put-joined .ensures))
+          ((targets-wrote t (bytes-known t known) (v .before) (v .first) (v .after) x (v .there) (v .before′)
+          (v .second) (v .after′) y (v .there′) order
+          (rest (put-joined-head .result + put-joined .result)
+          (back (put-joined-head .result) (put-joined-head .last .0) (put-joined .last .0)))
+          (put-joined-target .result) (put-joined-target .last .0) (put-joined-target .ensures)) .0),
+    )
+
+-- src/lib.rt:93:1
+same-length : tie.Need-same-length
+same-length c =
+    let after-put-joined = c .before .before .before .before .before .before .before .before in
+    let after-put-joined-head = after-put-joined .before .before .before .before .before .before in
+    let start = after-put-joined-head .before .before .before .before .before .before in
+    let args = start .args in
+    let order = args .order in
+    let out = args .out .now in
+    let t = args .t .now in
+    let x = args .x in
+    let y = args .y in
+    let known = after-put-joined-head .before .before .before .before .shared-slice-known .given in
+    let put-joined-head = after-put-joined-head .put-joined-head in
+    let put-joined = after-put-joined .put-joined in
+    let put-joined-target = c .before .before .put-joined-target in
+    let v = start .pre in
+    ap length (all-wrote (joined-pieces order (v .first) (v .second)) out
+    (heads-wrote t (bytes-known t known) (v .before) (v .first) (v .after) x (v .there) (v .before′) (v .second)
+    (v .after′) y (v .there′) out (put-joined-head .result) (put-joined-head .last .0) (put-joined-head .ensures))
+    (sources-wrote t (bytes-known t known) (v .before) (v .first) (v .after) x (v .there) (v .before′) (v .second)
+    (v .after′) y (v .there′) (rest (put-joined-head .result) (put-joined-head .last .0)) (put-joined .result)
+    (put-joined .last .0) (put-joined .ensures))
+    (targets-wrote t (bytes-known t known) (v .before) (v .first) (v .after) x (v .there) (v .before′) (v .second)
+    (v .after′) y (v .there′) order
+    (rest (put-joined-head .result + put-joined .result)
+    (back (put-joined-head .result) (put-joined-head .last .0) (put-joined .last .0))) (put-joined-target .result)
+    (put-joined-target .last .0) (put-joined-target .ensures)) .1)
+    ∙ lead-length (part-bytes order (v .first) (v .second)) out (v .room)
+
+-- src/lib.rt:93:1
+returns : tie.Need-returns
+returns c =
+    let after-put-joined = c .before .before .before .before .before .before .before .before in
+    let after-put-joined-head = after-put-joined .before .before .before .before .before .before in
+    let args = after-put-joined-head .before .before .before .before .before .before .args in
+    let order = args .order in
+    let out = args .out .now in
+    let t = args .t .now in
+    let x = args .x in
+    let y = args .y in
+    let known = after-put-joined-head .before .before .before .before .shared-slice-known .given in
+    let put-joined-head = after-put-joined-head .put-joined-head in
+    let put-joined = after-put-joined .put-joined in
+    let put-joined-target = c .before .before .put-joined-target in
+    λ b p a e q d s u.
+    all-wrote (joined-pieces order p q) out
+    (heads-wrote t (bytes-known t known) b p a x s e q d y u out (put-joined-head .result)
+    (put-joined-head .last .0) (put-joined-head .ensures))
+    (sources-wrote t (bytes-known t known) b p a x s e q d y u
+    (rest (put-joined-head .result) (put-joined-head .last .0)) (put-joined .result) (put-joined .last .0)
+    (put-joined .ensures)) (targets-wrote t (bytes-known t known) b p a x s e q d y u order
+    (rest (put-joined-head .result + put-joined .result)
+    (back (put-joined-head .result) (put-joined-head .last .0) (put-joined .last .0))) (put-joined-target .result)
+    (put-joined-target .last .0) (put-joined-target .ensures))
+
 pub put-joined-part-spec : {M : Type 1} → statement M
 put-joined-part-spec =
     tie.close
     (tie.spec
+    -- by search: sub-put-joined-head 105:34, part-put-joined-head-start 105:34, part-put-joined-head-end 105:34,
+    -- sub-put-joined-head-2 105:44, part-put-joined-head-start-2 105:44, part-put-joined-head-end-2 105:44
+    (λ c. search needs) (λ c. search needs) (λ c. search needs) (λ c. search needs) (λ c. search needs)
     (λ c. search needs)
+    put-joined-head-requires
+    sub-put-joined
+    part-put-joined-start
+    -- by search: part-put-joined-end 106:40, sub-put-joined-2 106:55, part-put-joined-start-2 106:55,
+    -- part-put-joined-end-2 106:55, sub-put-joined-3 106:65, part-put-joined-start-3 106:65,
+    -- part-put-joined-end-3 106:65
+    (λ c. search needs) (λ c. search needs) (λ c. search needs) (λ c. search needs) (λ c. search needs)
+    (λ c. search needs) (λ c. search needs)
+    put-joined-requires
+    add-w
+    sub-put-joined-target
+    part-put-joined-target-start
+    -- by search: part-put-joined-target-end 108:31
     (λ c. search needs)
+    sub-put-joined-target-2
+    part-put-joined-target-start-2
+    -- by search: part-put-joined-target-end-2 108:46
     (λ c. search needs)
+    sub-put-joined-target-3
+    part-put-joined-target-start-3
+    -- by search: part-put-joined-target-end-3 108:56
     (λ c. search needs)
-    (λ c. search needs)
-    (λ c. search needs)
-    (λ c κs. let v = (c .before .before .before .before .before .pre) in heads-asked (c .before .before .before .before .before .args .t .now) (bytes-known (c .before .before .before .before .before .args .t .now) (c .before .before .before .shared-slice-known .given)) (v .before) (v .first) (v .after) (c .before .before .before .before .before .args .x) (v .there) (v .before′) (v .second) (v .after′) (c .before .before .before .before .before .args .y) (v .there′) (c .before .before .before .before .before .args .out .now) (first-room (joined-pieces (c .before .before .before .before .before .args .order) (v .first) (v .second)) (c .before .before .before .before .before .args .out .now) (v .room)))
-    (λ c. let v = (c .before .before .before .before .before .before .before .before .pre) in second-start (joined-pieces (c .before .before .before .before .before .before .before .before .args .order) (v .first) (v .second)) (c .before .before .before .before .before .before .before .before .args .out .now) (v .room) (heads-wrote (c .before .before .before .before .before .before .before .before .args .t .now) (bytes-known (c .before .before .before .before .before .before .before .before .args .t .now) (c .before .before .before .before .before .before .shared-slice-known .given)) (v .before) (v .first) (v .after) (c .before .before .before .before .before .before .before .before .args .x) (v .there) (v .before′) (v .second) (v .after′) (c .before .before .before .before .before .before .before .before .args .y) (v .there′) (c .before .before .before .before .before .before .before .before .args .out .now) (c .before .before .put-joined-head .result) (c .before .before .put-joined-head .last .0) (c .before .before .put-joined-head .ensures)))
-    (λ c. let v = (c .before .before .before .before .before .before .before .before .pre) in second-start (joined-pieces (c .before .before .before .before .before .before .before .before .args .order) (v .first) (v .second)) (c .before .before .before .before .before .before .before .before .args .out .now) (v .room) (heads-wrote (c .before .before .before .before .before .before .before .before .args .t .now) (bytes-known (c .before .before .before .before .before .before .before .before .args .t .now) (c .before .before .before .before .before .before .shared-slice-known .given)) (v .before) (v .first) (v .after) (c .before .before .before .before .before .before .before .before .args .x) (v .there) (v .before′) (v .second) (v .after′) (c .before .before .before .before .before .before .before .before .args .y) (v .there′) (c .before .before .before .before .before .before .before .before .args .out .now) (c .before .before .put-joined-head .result) (c .before .before .put-joined-head .last .0) (c .before .before .put-joined-head .ensures)))
-    (λ c. search needs)
-    (λ c. search needs)
-    (λ c. search needs)
-    (λ c. search needs)
-    (λ c. search needs)
-    (λ c. search needs)
-    (λ c. search needs)
-    (λ c κs. let v = (c .before .before .before .before .before .before .before .before .before .before .before .pre) in sources-asked (c .before .before .before .before .before .before .before .before .before .before .before .args .t .now) (bytes-known (c .before .before .before .before .before .before .before .before .before .before .before .args .t .now) (c .before .before .before .before .before .before .before .before .before .shared-slice-known .given)) (v .before) (v .first) (v .after) (c .before .before .before .before .before .before .before .before .before .before .before .args .x) (v .there) (v .before′) (v .second) (v .after′) (c .before .before .before .before .before .before .before .before .before .before .before .args .y) (v .there′) (rest (c .before .before .before .before .before .put-joined-head .result) (c .before .before .before .before .before .put-joined-head .last .0)) (v .small) (second-room (joined-pieces (c .before .before .before .before .before .before .before .before .before .before .before .args .order) (v .first) (v .second)) (c .before .before .before .before .before .before .before .before .before .before .before .args .out .now) (v .room) (heads-wrote (c .before .before .before .before .before .before .before .before .before .before .before .args .t .now) (bytes-known (c .before .before .before .before .before .before .before .before .before .before .before .args .t .now) (c .before .before .before .before .before .before .before .before .before .shared-slice-known .given)) (v .before) (v .first) (v .after) (c .before .before .before .before .before .before .before .before .before .before .before .args .x) (v .there) (v .before′) (v .second) (v .after′) (c .before .before .before .before .before .before .before .before .before .before .before .args .y) (v .there′) (c .before .before .before .before .before .before .before .before .before .before .before .args .out .now) (c .before .before .before .before .before .put-joined-head .result) (c .before .before .before .before .before .put-joined-head .last .0) (c .before .before .before .before .before .put-joined-head .ensures))))
-    (λ c. let v = (c .before .before .before .before .before .before .before .before .before .before .before .before .before .before .pre) in omega (arith, two-fit (joined-pieces (c .before .before .before .before .before .before .before .before .before .before .before .before .before .before .args .order) (v .first) (v .second)) (c .before .before .before .before .before .before .before .before .before .before .before .before .before .before .args .out .now) (v .room) (heads-wrote (c .before .before .before .before .before .before .before .before .before .before .before .before .before .before .args .t .now) (bytes-known (c .before .before .before .before .before .before .before .before .before .before .before .before .before .before .args .t .now) (c .before .before .before .before .before .before .before .before .before .before .before .before .shared-slice-known .given)) (v .before) (v .first) (v .after) (c .before .before .before .before .before .before .before .before .before .before .before .before .before .before .args .x) (v .there) (v .before′) (v .second) (v .after′) (c .before .before .before .before .before .before .before .before .before .before .before .before .before .before .args .y) (v .there′) (c .before .before .before .before .before .before .before .before .before .before .before .before .before .before .args .out .now) (c .before .before .before .before .before .before .before .before .put-joined-head .result) (c .before .before .before .before .before .before .before .before .put-joined-head .last .0) (c .before .before .before .before .before .before .before .before .put-joined-head .ensures)) (sources-wrote (c .before .before .before .before .before .before .before .before .before .before .before .before .before .before .args .t .now) (bytes-known (c .before .before .before .before .before .before .before .before .before .before .before .before .before .before .args .t .now) (c .before .before .before .before .before .before .before .before .before .before .before .before .shared-slice-known .given)) (v .before) (v .first) (v .after) (c .before .before .before .before .before .before .before .before .before .before .before .before .before .before .args .x) (v .there) (v .before′) (v .second) (v .after′) (c .before .before .before .before .before .before .before .before .before .before .before .before .before .before .args .y) (v .there′) (rest (c .before .before .before .before .before .before .before .before .put-joined-head .result) (c .before .before .before .before .before .before .before .before .put-joined-head .last .0)) (c .before .before .put-joined .result) (c .before .before .put-joined .last .0) (c .before .before .put-joined .ensures))))
-    (λ c. let v = (c .before .before .before .before .before .before .before .before .before .before .before .before .before .before .pre) in third-start (joined-pieces (c .before .before .before .before .before .before .before .before .before .before .before .before .before .before .args .order) (v .first) (v .second)) (c .before .before .before .before .before .before .before .before .before .before .before .before .before .before .args .out .now) (v .room) (heads-wrote (c .before .before .before .before .before .before .before .before .before .before .before .before .before .before .args .t .now) (bytes-known (c .before .before .before .before .before .before .before .before .before .before .before .before .before .before .args .t .now) (c .before .before .before .before .before .before .before .before .before .before .before .before .shared-slice-known .given)) (v .before) (v .first) (v .after) (c .before .before .before .before .before .before .before .before .before .before .before .before .before .before .args .x) (v .there) (v .before′) (v .second) (v .after′) (c .before .before .before .before .before .before .before .before .before .before .before .before .before .before .args .y) (v .there′) (c .before .before .before .before .before .before .before .before .before .before .before .before .before .before .args .out .now) (c .before .before .before .before .before .before .before .before .put-joined-head .result) (c .before .before .before .before .before .before .before .before .put-joined-head .last .0) (c .before .before .before .before .before .before .before .before .put-joined-head .ensures)) (sources-wrote (c .before .before .before .before .before .before .before .before .before .before .before .before .before .before .args .t .now) (bytes-known (c .before .before .before .before .before .before .before .before .before .before .before .before .before .before .args .t .now) (c .before .before .before .before .before .before .before .before .before .before .before .before .shared-slice-known .given)) (v .before) (v .first) (v .after) (c .before .before .before .before .before .before .before .before .before .before .before .before .before .before .args .x) (v .there) (v .before′) (v .second) (v .after′) (c .before .before .before .before .before .before .before .before .before .before .before .before .before .before .args .y) (v .there′) (rest (c .before .before .before .before .before .before .before .before .put-joined-head .result) (c .before .before .before .before .before .before .before .before .put-joined-head .last .0)) (c .before .before .put-joined .result) (c .before .before .put-joined .last .0) (c .before .before .put-joined .ensures)))
-    (λ c. let v = (c .before .before .before .before .before .before .before .before .before .before .before .before .before .before .pre) in third-start (joined-pieces (c .before .before .before .before .before .before .before .before .before .before .before .before .before .before .args .order) (v .first) (v .second)) (c .before .before .before .before .before .before .before .before .before .before .before .before .before .before .args .out .now) (v .room) (heads-wrote (c .before .before .before .before .before .before .before .before .before .before .before .before .before .before .args .t .now) (bytes-known (c .before .before .before .before .before .before .before .before .before .before .before .before .before .before .args .t .now) (c .before .before .before .before .before .before .before .before .before .before .before .before .shared-slice-known .given)) (v .before) (v .first) (v .after) (c .before .before .before .before .before .before .before .before .before .before .before .before .before .before .args .x) (v .there) (v .before′) (v .second) (v .after′) (c .before .before .before .before .before .before .before .before .before .before .before .before .before .before .args .y) (v .there′) (c .before .before .before .before .before .before .before .before .before .before .before .before .before .before .args .out .now) (c .before .before .before .before .before .before .before .before .put-joined-head .result) (c .before .before .before .before .before .before .before .before .put-joined-head .last .0) (c .before .before .before .before .before .before .before .before .put-joined-head .ensures)) (sources-wrote (c .before .before .before .before .before .before .before .before .before .before .before .before .before .before .args .t .now) (bytes-known (c .before .before .before .before .before .before .before .before .before .before .before .before .before .before .args .t .now) (c .before .before .before .before .before .before .before .before .before .before .before .before .shared-slice-known .given)) (v .before) (v .first) (v .after) (c .before .before .before .before .before .before .before .before .before .before .before .before .before .before .args .x) (v .there) (v .before′) (v .second) (v .after′) (c .before .before .before .before .before .before .before .before .before .before .before .before .before .before .args .y) (v .there′) (rest (c .before .before .before .before .before .before .before .before .put-joined-head .result) (c .before .before .before .before .before .before .before .before .put-joined-head .last .0)) (c .before .before .put-joined .result) (c .before .before .put-joined .last .0) (c .before .before .put-joined .ensures)))
-    (λ c. search needs)
-    (λ c. let v = (c .before .before .before .before .before .before .before .before .before .before .before .before .before .before .before .pre) in target-ends (c .before .before .before .before .before .before .before .before .before .before .before .before .before .before .before .args .t .now) (bytes-known (c .before .before .before .before .before .before .before .before .before .before .before .before .before .before .before .args .t .now) (c .before .before .before .before .before .before .before .before .before .before .before .before .before .shared-slice-known .given)) (v .before) (v .first) (v .after) (c .before .before .before .before .before .before .before .before .before .before .before .before .before .before .before .args .x) (v .there) .0)
-    (λ c. let v = (c .before .before .before .before .before .before .before .before .before .before .before .before .before .before .before .pre) in let e = target-ends (c .before .before .before .before .before .before .before .before .before .before .before .before .before .before .before .args .t .now) (bytes-known (c .before .before .before .before .before .before .before .before .before .before .before .before .before .before .before .args .t .now) (c .before .before .before .before .before .before .before .before .before .before .before .before .before .shared-slice-known .given)) (v .before) (v .first) (v .after) (c .before .before .before .before .before .before .before .before .before .before .before .before .before .before .before .args .x) (v .there) in omega (arith, e .0, e .1))
-    (λ c. search needs)
-    (λ c. let v = (c .before .before .before .before .before .before .before .before .before .before .before .before .before .before .before .before .pre) in target-ends (c .before .before .before .before .before .before .before .before .before .before .before .before .before .before .before .before .args .t .now) (bytes-known (c .before .before .before .before .before .before .before .before .before .before .before .before .before .before .before .before .args .t .now) (c .before .before .before .before .before .before .before .before .before .before .before .before .before .before .shared-slice-known .given)) (v .before′) (v .second) (v .after′) (c .before .before .before .before .before .before .before .before .before .before .before .before .before .before .before .before .args .y) (v .there′) .0)
-    (λ c. let v = (c .before .before .before .before .before .before .before .before .before .before .before .before .before .before .before .before .pre) in let e = target-ends (c .before .before .before .before .before .before .before .before .before .before .before .before .before .before .before .before .args .t .now) (bytes-known (c .before .before .before .before .before .before .before .before .before .before .before .before .before .before .before .before .args .t .now) (c .before .before .before .before .before .before .before .before .before .before .before .before .before .before .shared-slice-known .given)) (v .before′) (v .second) (v .after′) (c .before .before .before .before .before .before .before .before .before .before .before .before .before .before .before .before .args .y) (v .there′) in omega (arith, e .0, e .1))
-    (λ c. search needs)
-    (λ c κs. let v = (c .before .before .before .before .before .before .before .before .before .before .before .before .before .before .before .before .before .pre) in targets-asked (c .before .before .before .before .before .before .before .before .before .before .before .before .before .before .before .before .before .args .t .now) (bytes-known (c .before .before .before .before .before .before .before .before .before .before .before .before .before .before .before .before .before .args .t .now) (c .before .before .before .before .before .before .before .before .before .before .before .before .before .before .before .shared-slice-known .given)) (v .before) (v .first) (v .after) (c .before .before .before .before .before .before .before .before .before .before .before .before .before .before .before .before .before .args .x) (v .there) (v .before′) (v .second) (v .after′) (c .before .before .before .before .before .before .before .before .before .before .before .before .before .before .before .before .before .args .y) (v .there′) (c .before .before .before .before .before .before .before .before .before .before .before .before .before .before .before .before .before .args .order) (rest (c .before .before .before .before .before .before .before .before .before .before .before .put-joined-head .result + (c .before .before .before .before .before .put-joined) .result) (back (c .before .before .before .before .before .before .before .before .before .before .before .put-joined-head .result) (c .before .before .before .before .before .before .before .before .before .before .before .put-joined-head .last .0) (c .before .before .before .before .before .put-joined .last .0))) (v .small) (third-room (joined-pieces (c .before .before .before .before .before .before .before .before .before .before .before .before .before .before .before .before .before .args .order) (v .first) (v .second)) (c .before .before .before .before .before .before .before .before .before .before .before .before .before .before .before .before .before .args .out .now) (v .room) (heads-wrote (c .before .before .before .before .before .before .before .before .before .before .before .before .before .before .before .before .before .args .t .now) (bytes-known (c .before .before .before .before .before .before .before .before .before .before .before .before .before .before .before .before .before .args .t .now) (c .before .before .before .before .before .before .before .before .before .before .before .before .before .before .before .shared-slice-known .given)) (v .before) (v .first) (v .after) (c .before .before .before .before .before .before .before .before .before .before .before .before .before .before .before .before .before .args .x) (v .there) (v .before′) (v .second) (v .after′) (c .before .before .before .before .before .before .before .before .before .before .before .before .before .before .before .before .before .args .y) (v .there′) (c .before .before .before .before .before .before .before .before .before .before .before .before .before .before .before .before .before .args .out .now) (c .before .before .before .before .before .before .before .before .before .before .before .put-joined-head .result) (c .before .before .before .before .before .before .before .before .before .before .before .put-joined-head .last .0) (c .before .before .before .before .before .before .before .before .before .before .before .put-joined-head .ensures)) (sources-wrote (c .before .before .before .before .before .before .before .before .before .before .before .before .before .before .before .before .before .args .t .now) (bytes-known (c .before .before .before .before .before .before .before .before .before .before .before .before .before .before .before .before .before .args .t .now) (c .before .before .before .before .before .before .before .before .before .before .before .before .before .before .before .shared-slice-known .given)) (v .before) (v .first) (v .after) (c .before .before .before .before .before .before .before .before .before .before .before .before .before .before .before .before .before .args .x) (v .there) (v .before′) (v .second) (v .after′) (c .before .before .before .before .before .before .before .before .before .before .before .before .before .before .before .before .before .args .y) (v .there′) (rest (c .before .before .before .before .before .before .before .before .before .before .before .put-joined-head .result) (c .before .before .before .before .before .before .before .before .before .before .before .put-joined-head .last .0)) (c .before .before .before .before .before .put-joined .result) (c .before .before .before .before .before .put-joined .last .0) (c .before .before .before .before .before .put-joined .ensures))))
-    (λ c. let v = (c .before .before .before .before .before .before .before .before .before .before .before .before .before .before .before .before .before .before .before .before .pre) in omega (arith, three-fit (joined-pieces (c .before .before .before .before .before .before .before .before .before .before .before .before .before .before .before .before .before .before .before .before .args .order) (v .first) (v .second)) (c .before .before .before .before .before .before .before .before .before .before .before .before .before .before .before .before .before .before .before .before .args .out .now) (v .room) (heads-wrote (c .before .before .before .before .before .before .before .before .before .before .before .before .before .before .before .before .before .before .before .before .args .t .now) (bytes-known (c .before .before .before .before .before .before .before .before .before .before .before .before .before .before .before .before .before .before .before .before .args .t .now) (c .before .before .before .before .before .before .before .before .before .before .before .before .before .before .before .before .before .before .shared-slice-known .given)) (v .before) (v .first) (v .after) (c .before .before .before .before .before .before .before .before .before .before .before .before .before .before .before .before .before .before .before .before .args .x) (v .there) (v .before′) (v .second) (v .after′) (c .before .before .before .before .before .before .before .before .before .before .before .before .before .before .before .before .before .before .before .before .args .y) (v .there′) (c .before .before .before .before .before .before .before .before .before .before .before .before .before .before .before .before .before .before .before .before .args .out .now) (c .before .before .before .before .before .before .before .before .before .before .before .before .before .before .put-joined-head .result) (c .before .before .before .before .before .before .before .before .before .before .before .before .before .before .put-joined-head .last .0) (c .before .before .before .before .before .before .before .before .before .before .before .before .before .before .put-joined-head .ensures)) (sources-wrote (c .before .before .before .before .before .before .before .before .before .before .before .before .before .before .before .before .before .before .before .before .args .t .now) (bytes-known (c .before .before .before .before .before .before .before .before .before .before .before .before .before .before .before .before .before .before .before .before .args .t .now) (c .before .before .before .before .before .before .before .before .before .before .before .before .before .before .before .before .before .before .shared-slice-known .given)) (v .before) (v .first) (v .after) (c .before .before .before .before .before .before .before .before .before .before .before .before .before .before .before .before .before .before .before .before .args .x) (v .there) (v .before′) (v .second) (v .after′) (c .before .before .before .before .before .before .before .before .before .before .before .before .before .before .before .before .before .before .before .before .args .y) (v .there′) (rest (c .before .before .before .before .before .before .before .before .before .before .before .before .before .before .put-joined-head .result) (c .before .before .before .before .before .before .before .before .before .before .before .before .before .before .put-joined-head .last .0)) (c .before .before .before .before .before .before .before .before .put-joined .result) (c .before .before .before .before .before .before .before .before .put-joined .last .0) (c .before .before .before .before .before .before .before .before .put-joined .ensures)) ((targets-wrote (c .before .before .before .before .before .before .before .before .before .before .before .before .before .before .before .before .before .before .before .before .args .t .now) (bytes-known (c .before .before .before .before .before .before .before .before .before .before .before .before .before .before .before .before .before .before .before .before .args .t .now) (c .before .before .before .before .before .before .before .before .before .before .before .before .before .before .before .before .before .before .shared-slice-known .given)) (v .before) (v .first) (v .after) (c .before .before .before .before .before .before .before .before .before .before .before .before .before .before .before .before .before .before .before .before .args .x) (v .there) (v .before′) (v .second) (v .after′) (c .before .before .before .before .before .before .before .before .before .before .before .before .before .before .before .before .before .before .before .before .args .y) (v .there′) (c .before .before .before .before .before .before .before .before .before .before .before .before .before .before .before .before .before .before .before .before .args .order) (rest (c .before .before .before .before .before .before .before .before .before .before .before .before .before .before .put-joined-head .result + (c .before .before .before .before .before .before .before .before .put-joined) .result) (back (c .before .before .before .before .before .before .before .before .before .before .before .before .before .before .put-joined-head .result) (c .before .before .before .before .before .before .before .before .before .before .before .before .before .before .put-joined-head .last .0) (c .before .before .before .before .before .before .before .before .put-joined .last .0))) (c .before .before .put-joined-target .result) (c .before .before .put-joined-target .last .0) (c .before .before .put-joined-target .ensures)) .0)))
-    (λ c. let v = (c .before .before .before .before .before .before .before .before .before .before .before .before .before .before .before .before .before .before .before .before .pre) in ap length (all-wrote (joined-pieces (c .before .before .before .before .before .before .before .before .before .before .before .before .before .before .before .before .before .before .before .before .args .order) (v .first) (v .second)) (c .before .before .before .before .before .before .before .before .before .before .before .before .before .before .before .before .before .before .before .before .args .out .now) (heads-wrote (c .before .before .before .before .before .before .before .before .before .before .before .before .before .before .before .before .before .before .before .before .args .t .now) (bytes-known (c .before .before .before .before .before .before .before .before .before .before .before .before .before .before .before .before .before .before .before .before .args .t .now) (c .before .before .before .before .before .before .before .before .before .before .before .before .before .before .before .before .before .before .shared-slice-known .given)) (v .before) (v .first) (v .after) (c .before .before .before .before .before .before .before .before .before .before .before .before .before .before .before .before .before .before .before .before .args .x) (v .there) (v .before′) (v .second) (v .after′) (c .before .before .before .before .before .before .before .before .before .before .before .before .before .before .before .before .before .before .before .before .args .y) (v .there′) (c .before .before .before .before .before .before .before .before .before .before .before .before .before .before .before .before .before .before .before .before .args .out .now) (c .before .before .before .before .before .before .before .before .before .before .before .before .before .before .put-joined-head .result) (c .before .before .before .before .before .before .before .before .before .before .before .before .before .before .put-joined-head .last .0) (c .before .before .before .before .before .before .before .before .before .before .before .before .before .before .put-joined-head .ensures)) (sources-wrote (c .before .before .before .before .before .before .before .before .before .before .before .before .before .before .before .before .before .before .before .before .args .t .now) (bytes-known (c .before .before .before .before .before .before .before .before .before .before .before .before .before .before .before .before .before .before .before .before .args .t .now) (c .before .before .before .before .before .before .before .before .before .before .before .before .before .before .before .before .before .before .shared-slice-known .given)) (v .before) (v .first) (v .after) (c .before .before .before .before .before .before .before .before .before .before .before .before .before .before .before .before .before .before .before .before .args .x) (v .there) (v .before′) (v .second) (v .after′) (c .before .before .before .before .before .before .before .before .before .before .before .before .before .before .before .before .before .before .before .before .args .y) (v .there′) (rest (c .before .before .before .before .before .before .before .before .before .before .before .before .before .before .put-joined-head .result) (c .before .before .before .before .before .before .before .before .before .before .before .before .before .before .put-joined-head .last .0)) (c .before .before .before .before .before .before .before .before .put-joined .result) (c .before .before .before .before .before .before .before .before .put-joined .last .0) (c .before .before .before .before .before .before .before .before .put-joined .ensures)) (targets-wrote (c .before .before .before .before .before .before .before .before .before .before .before .before .before .before .before .before .before .before .before .before .args .t .now) (bytes-known (c .before .before .before .before .before .before .before .before .before .before .before .before .before .before .before .before .before .before .before .before .args .t .now) (c .before .before .before .before .before .before .before .before .before .before .before .before .before .before .before .before .before .before .shared-slice-known .given)) (v .before) (v .first) (v .after) (c .before .before .before .before .before .before .before .before .before .before .before .before .before .before .before .before .before .before .before .before .args .x) (v .there) (v .before′) (v .second) (v .after′) (c .before .before .before .before .before .before .before .before .before .before .before .before .before .before .before .before .before .before .before .before .args .y) (v .there′) (c .before .before .before .before .before .before .before .before .before .before .before .before .before .before .before .before .before .before .before .before .args .order) (rest (c .before .before .before .before .before .before .before .before .before .before .before .before .before .before .put-joined-head .result + (c .before .before .before .before .before .before .before .before .put-joined) .result) (back (c .before .before .before .before .before .before .before .before .before .before .before .before .before .before .put-joined-head .result) (c .before .before .before .before .before .before .before .before .before .before .before .before .before .before .put-joined-head .last .0) (c .before .before .before .before .before .before .before .before .put-joined .last .0))) (c .before .before .put-joined-target .result) (c .before .before .put-joined-target .last .0) (c .before .before .put-joined-target .ensures)) .1) ∙ lead-length (part-bytes (c .before .before .before .before .before .before .before .before .before .before .before .before .before .before .before .before .before .before .before .before .args .order) (v .first) (v .second)) (c .before .before .before .before .before .before .before .before .before .before .before .before .before .before .before .before .before .before .before .before .args .out .now) (v .room))
-    (λ c. λ b p a e q d s u. all-wrote (joined-pieces (c .before .before .before .before .before .before .before .before .before .before .before .before .before .before .before .before .before .before .before .before .args .order) p q) (c .before .before .before .before .before .before .before .before .before .before .before .before .before .before .before .before .before .before .before .before .args .out .now) (heads-wrote (c .before .before .before .before .before .before .before .before .before .before .before .before .before .before .before .before .before .before .before .before .args .t .now) (bytes-known (c .before .before .before .before .before .before .before .before .before .before .before .before .before .before .before .before .before .before .before .before .args .t .now) (c .before .before .before .before .before .before .before .before .before .before .before .before .before .before .before .before .before .before .shared-slice-known .given)) b p a (c .before .before .before .before .before .before .before .before .before .before .before .before .before .before .before .before .before .before .before .before .args .x) s e q d (c .before .before .before .before .before .before .before .before .before .before .before .before .before .before .before .before .before .before .before .before .args .y) u (c .before .before .before .before .before .before .before .before .before .before .before .before .before .before .before .before .before .before .before .before .args .out .now) (c .before .before .before .before .before .before .before .before .before .before .before .before .before .before .put-joined-head .result) (c .before .before .before .before .before .before .before .before .before .before .before .before .before .before .put-joined-head .last .0) (c .before .before .before .before .before .before .before .before .before .before .before .before .before .before .put-joined-head .ensures)) (sources-wrote (c .before .before .before .before .before .before .before .before .before .before .before .before .before .before .before .before .before .before .before .before .args .t .now) (bytes-known (c .before .before .before .before .before .before .before .before .before .before .before .before .before .before .before .before .before .before .before .before .args .t .now) (c .before .before .before .before .before .before .before .before .before .before .before .before .before .before .before .before .before .before .shared-slice-known .given)) b p a (c .before .before .before .before .before .before .before .before .before .before .before .before .before .before .before .before .before .before .before .before .args .x) s e q d (c .before .before .before .before .before .before .before .before .before .before .before .before .before .before .before .before .before .before .before .before .args .y) u (rest (c .before .before .before .before .before .before .before .before .before .before .before .before .before .before .put-joined-head .result) (c .before .before .before .before .before .before .before .before .before .before .before .before .before .before .put-joined-head .last .0)) (c .before .before .before .before .before .before .before .before .put-joined .result) (c .before .before .before .before .before .before .before .before .put-joined .last .0) (c .before .before .before .before .before .before .before .before .put-joined .ensures)) (targets-wrote (c .before .before .before .before .before .before .before .before .before .before .before .before .before .before .before .before .before .before .before .before .args .t .now) (bytes-known (c .before .before .before .before .before .before .before .before .before .before .before .before .before .before .before .before .before .before .before .before .args .t .now) (c .before .before .before .before .before .before .before .before .before .before .before .before .before .before .before .before .before .before .shared-slice-known .given)) b p a (c .before .before .before .before .before .before .before .before .before .before .before .before .before .before .before .before .before .before .before .before .args .x) s e q d (c .before .before .before .before .before .before .before .before .before .before .before .before .before .before .before .before .before .before .before .before .args .y) u (c .before .before .before .before .before .before .before .before .before .before .before .before .before .before .before .before .before .before .before .before .args .order) (rest (c .before .before .before .before .before .before .before .before .before .before .before .before .before .before .put-joined-head .result + (c .before .before .before .before .before .before .before .before .put-joined) .result) (back (c .before .before .before .before .before .before .before .before .before .before .before .before .before .before .put-joined-head .result) (c .before .before .before .before .before .before .before .before .before .before .before .before .before .before .put-joined-head .last .0) (c .before .before .before .before .before .before .before .before .put-joined .last .0))) (c .before .before .put-joined-target .result) (c .before .before .put-joined-target .last .0) (c .before .before .put-joined-target .ensures))))
+    put-joined-target-requires
+    add-result
+    same-length
+    returns)

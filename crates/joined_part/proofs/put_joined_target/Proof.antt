@@ -9,34 +9,268 @@ use borrow.Author.Needs.{needs}
 use Rattle.joined_part.proofs.put_joined_target.Statement.{statement}
 use Rattle.joined_part.proofs.put_joined_target.Tie as tie
 
+-- src/lib.rt:76:13
+returns : tie.Need-returns
+returns c =
+    let args = c .before .before .before .before .before .args in
+    λ g k a b.
+    neither-wrote (args .order) (args .g .now) (args .k .now) g k a b (c .before .if1 .taken) (c .if2 .taken)
+    (args .out .now)
+
+-- src/lib.rt:78:46
+sub-put-target : tie.Need-sub-put-target
+sub-put-target c =
+    let start = c .before .before .before .before .before .before in
+    let (g, k, a, b, small, room) = start .pre in
+    (present (start .args .k .now) k (c .before .if2 .left) b) .least
+
+-- src/lib.rt:78:46
+part-put-target-start : tie.Need-part-put-target-start
+part-put-target-start c =
+    let start = c .before .before .before .before .before .before in
+    let (g, k, a, b, small, room) = start .pre in
+    omega (arith, (present (start .args .k .now) k (c .before .if2 .left) b) .least)
+
+-- src/lib.rt:78:9
+put-target-requires : tie.Need-put-target-requires
+put-target-requires c κs =
+    let start = c .before .before .before .before .before .before .before in
+    let args = start .args in
+    let order = args .order in
+    let k₀ = args .k .now in
+    let if1 = c .before .before .before .if1 in
+    let (g, k, a, b, small, room) = start .pre in
+    alone-room order (rest 4 k₀) (target-bytes order g k)
+    (second-alone order (args .g .now) k₀ g k a b (if1 .taken) (present k₀ k (c .before .before .if2 .left) b))
+    (args .out .now) room
+
+-- src/lib.rt:78:9
+returns-2 : tie.Need-returns-2
+returns-2 c =
+    let after-if2 = c .before .before .before .before .before in
+    let args = after-if2 .before .before .before .before .before .args in
+    let order = args .order in
+    let k₀ = args .k .now in
+    let if1 = after-if2 .before .if1 in
+    let if2 = after-if2 .if2 in
+    let put-target = c .before .before .put-target in
+    λ g k a b.
+    alone-wrote order (rest 4 k₀) (target-bytes order g k)
+    (second-alone order (args .g .now) k₀ g k a b (if1 .taken) (present k₀ k (if2 .left) b)) (args .out .now)
+    (put-target .last .0) (put-target .result) (put-target .ensures)
+
+-- src/lib.rt:81:46
+sub-put-target-2 : tie.Need-sub-put-target-2
+sub-put-target-2 c =
+    let start = c .before .before .before .before .before .before in
+    let (g, k, a, b, small, room) = start .pre in
+    (present (start .args .g .now) g (c .before .before .if1 .left) a) .least
+
+-- src/lib.rt:81:46
+part-put-target-start-2 : tie.Need-part-put-target-start-2
+part-put-target-start-2 c =
+    let start = c .before .before .before .before .before .before in
+    let (g, k, a, b, small, room) = start .pre in
+    omega (arith, (present (start .args .g .now) g (c .before .before .if1 .left) a) .least)
+
+-- src/lib.rt:81:9
+put-target-requires-2 : tie.Need-put-target-requires-2
+put-target-requires-2 c κs =
+    let start = c .before .before .before .before .before .before .before in
+    let args = start .args in
+    let order = args .order in
+    let g₀ = args .g .now in
+    let if1 = c .before .before .before .if1 in
+    let (g, k, a, b, small, room) = start .pre in
+    alone-room order (rest 4 g₀) (target-bytes order g k)
+    (first-alone order g₀ (args .k .now) g k a b (present g₀ g (if1 .left) a) (c .before .before .if3 .taken))
+    (args .out .now) room
+
+-- src/lib.rt:81:9
+returns-3 : tie.Need-returns-3
+returns-3 c =
+    let after-if3 = c .before .before .before .before .before in
+    let args = after-if3 .before .before .before .before .before .args in
+    let order = args .order in
+    let g₀ = args .g .now in
+    let if1 = after-if3 .before .if1 in
+    let if3 = after-if3 .if3 in
+    let put-target2 = c .before .before .put-target2 in
+    λ g k a b.
+    alone-wrote order (rest 4 g₀) (target-bytes order g k)
+    (first-alone order g₀ (args .k .now) g k a b (present g₀ g (if1 .left) a) (if3 .taken)) (args .out .now)
+    (put-target2 .last .0) (put-target2 .result) (put-target2 .ensures)
+
+-- src/lib.rt:83:9
+put-target-head-requires : tie.Need-put-target-head-requires
+put-target-head-requires c κs =
+    let start = c .before .before .before .before .before .before in
+    let args = start .args in
+    let order = args .order in
+    let out = args .out .now in
+    let g₀ = args .g .now in
+    let k₀ = args .k .now in
+    let (g, k, a, b, small, room) = start .pre in
+    room-of-head order out (first-room
+    (both-pieces order g₀ k₀ g k (present g₀ g (c .before .before .if1 .left) a)
+    (present k₀ k (c .before .if3 .left) b)) out room)
+
+-- src/lib.rt:85:9
+sub-put-joined : tie.Need-sub-put-joined
+sub-put-joined c =
+    let after-if1 = c .before .before .before .before .before in
+    let start = after-if1 .before .before .before .before in
+    let args = start .args in
+    let g₀ = args .g .now in
+    let k₀ = args .k .now in
+    let if1 = after-if1 .if1 in
+    let if3 = c .before .before .before .before .if3 in
+    let (g, k, a, b, small, room) = start .pre in
+    second-start (both-pieces (args .order) g₀ k₀ g k (present g₀ g (if1 .left) a) (present k₀ k (if3 .left) b))
+    (args .out .now) room (c .before .before .put-target-head .ensures)
+
+-- src/lib.rt:85:9
+part-put-joined-start : tie.Need-part-put-joined-start
+part-put-joined-start c =
+    let after-if1 = c .before .before .before .before .before in
+    let start = after-if1 .before .before .before .before in
+    let args = start .args in
+    let g₀ = args .g .now in
+    let k₀ = args .k .now in
+    let if1 = after-if1 .if1 in
+    let if3 = c .before .before .before .before .if3 in
+    let (g, k, a, b, small, room) = start .pre in
+    second-start (both-pieces (args .order) g₀ k₀ g k (present g₀ g (if1 .left) a) (present k₀ k (if3 .left) b))
+    (args .out .now) room (c .before .before .put-target-head .ensures)
+
+-- src/lib.rt:86:9
+sub-put-joined-2 : tie.Need-sub-put-joined-2
+sub-put-joined-2 c =
+    let after-if1 = c .before .before .before .before .before .before in
+    let start = after-if1 .before .before .before .before in
+    let if1 = after-if1 .if1 in
+    let (g, k, a, b, small, room) = start .pre in
+    (present (start .args .g .now) g (if1 .left) a) .least
+
+-- src/lib.rt:86:9
+part-put-joined-start-2 : tie.Need-part-put-joined-start-2
+part-put-joined-start-2 c =
+    let after-if1 = c .before .before .before .before .before .before in
+    let start = after-if1 .before .before .before .before in
+    let if1 = after-if1 .if1 in
+    let (g, k, a, b, small, room) = start .pre in
+    omega (arith, (present (start .args .g .now) g (if1 .left) a) .least)
+
+-- src/lib.rt:87:9
+sub-put-joined-3 : tie.Need-sub-put-joined-3
+sub-put-joined-3 c =
+    let after-if3 = c .before .before .before .before .before .before in
+    let start = after-if3 .before .before .before .before .before in
+    let if3 = after-if3 .if3 in
+    let (g, k, a, b, small, room) = start .pre in
+    (present (start .args .k .now) k (if3 .left) b) .least
+
+-- src/lib.rt:87:9
+part-put-joined-start-3 : tie.Need-part-put-joined-start-3
+part-put-joined-start-3 c =
+    let after-if3 = c .before .before .before .before .before .before in
+    let start = after-if3 .before .before .before .before .before in
+    let if3 = after-if3 .if3 in
+    let (g, k, a, b, small, room) = start .pre in
+    omega (arith, (present (start .args .k .now) k (if3 .left) b) .least)
+
+-- src/lib.rt:84:9
+put-joined-requires : tie.Need-put-joined-requires
+put-joined-requires c κs =
+    let after-put-target-head = c .before .before .before .before .before in
+    let start = after-put-target-head .before .before .before .before .before .before .before in
+    let args = start .args in
+    let order = args .order in
+    let g₀ = args .g .now in
+    let k₀ = args .k .now in
+    let if1 = after-put-target-head .before .before .before .if1 in
+    let if3 = after-put-target-head .before .before .if3 in
+    let put-target-head = after-put-target-head .put-target-head in
+    let (g, k, a, b, small, room) = start .pre in
+    contents-room order g₀ k₀ g k (present g₀ g (if1 .left) a) (present k₀ k (if3 .left) b)
+    (rest (put-target-head .result) (put-target-head .last .0)) small
+    (second-room (both-pieces order g₀ k₀ g k (present g₀ g (if1 .left) a) (present k₀ k (if3 .left) b))
+    (args .out .now) room (put-target-head .ensures))
+
+-- src/lib.rt:89:5
+add-result : tie.Need-add-result
+add-result c =
+    let after-put-target-head = c .before .before .before .before .before .before .before .before in
+    let start = after-put-target-head .before .before .before .before .before .before .before in
+    let args = start .args in
+    let g₀ = args .g .now in
+    let k₀ = args .k .now in
+    let if1 = after-put-target-head .before .before .before .if1 in
+    let if3 = after-put-target-head .before .before .if3 in
+    let put-target-head = after-put-target-head .put-target-head in
+    let (g, k, a, b, small, room) = start .pre in
+    omega (
+      arith,
+      two-fit (both-pieces (args .order) g₀ k₀ g k (present g₀ g (if1 .left) a) (present k₀ k (if3 .left) b))
+          (args .out .now) room (put-target-head .ensures)
+          (c .before .before .put-joined .ensures ((present g₀ g (if1 .left) a) .items)
+          ((present k₀ k (if3 .left) b) .items) ((present g₀ g (if1 .left) a) .holds)
+          ((present k₀ k (if3 .left) b) .holds)),
+    )
+
+-- src/lib.rt:70:1
+returns-4 : tie.Need-returns-4
+returns-4 c =
+    let after-put-target-head = c .before .before .before .before .before .before .before .before in
+    let args = after-put-target-head .before .before .before .before .before .before .before .args in
+    let g₀ = args .g .now in
+    let k₀ = args .k .now in
+    let if1 = after-put-target-head .before .before .before .if1 in
+    let if3 = after-put-target-head .before .before .if3 in
+    let put-target-head = after-put-target-head .put-target-head in
+    λ g k a b.
+    both-wrote (both-pieces (args .order) g₀ k₀ g k (present g₀ g (if1 .left) a) (present k₀ k (if3 .left) b))
+    (args .out .now) (put-target-head .ensures)
+    (c .before .before .put-joined .ensures ((present g₀ g (if1 .left) a) .items)
+    ((present k₀ k (if3 .left) b) .items) ((present g₀ g (if1 .left) a) .holds)
+    ((present k₀ k (if3 .left) b) .holds)) refl
+
 pub put-joined-target-spec : {M : Type 1} → statement M
 put-joined-target-spec =
     tie.close
     (tie.spec
-    (λ c. λ g k a b. neither-wrote (c .before .before .before .before .before .args .order) (c .before .before .before .before .before .args .g .now) (c .before .before .before .before .before .args .k .now) g k a b (c .before .if1 .taken) (c .if2 .taken) (c .before .before .before .before .before .args .out .now))
-    (λ c. let (g, k, a, b, small, room) = (c .before .before .before .before .before .before .pre) in (present (c .before .before .before .before .before .before .args .k .now) k (c .before .if2 .left) b) .least)
-    (λ c. let (g, k, a, b, small, room) = (c .before .before .before .before .before .before .pre) in omega (arith, (present (c .before .before .before .before .before .before .args .k .now) k (c .before .if2 .left) b) .least))
+    returns
+    sub-put-target
+    part-put-target-start
+    -- by search: part-put-target-end 78:46
     (λ c. search needs)
-    (λ c κs. let (g, k, a, b, small, room) = (c .before .before .before .before .before .before .before .pre) in alone-room (c .before .before .before .before .before .before .before .args .order) (rest 4 (c .before .before .before .before .before .before .before .args .k .now)) (target-bytes (c .before .before .before .before .before .before .before .args .order) g k) (second-alone (c .before .before .before .before .before .before .before .args .order) (c .before .before .before .before .before .before .before .args .g .now) (c .before .before .before .before .before .before .before .args .k .now) g k a b (c .before .before .before .if1 .taken) (present (c .before .before .before .before .before .before .before .args .k .now) k (c .before .before .if2 .left) b)) (c .before .before .before .before .before .before .before .args .out .now) room)
+    put-target-requires
+    -- by search: same-length 78:9
     (λ c. search needs)
-    (λ c. λ g k a b. alone-wrote (c .before .before .before .before .before .before .before .before .before .before .args .order) (rest 4 (c .before .before .before .before .before .before .before .before .before .before .args .k .now)) (target-bytes (c .before .before .before .before .before .before .before .before .before .before .args .order) g k) (second-alone (c .before .before .before .before .before .before .before .before .before .before .args .order) (c .before .before .before .before .before .before .before .before .before .before .args .g .now) (c .before .before .before .before .before .before .before .before .before .before .args .k .now) g k a b (c .before .before .before .before .before .before .if1 .taken) (present (c .before .before .before .before .before .before .before .before .before .before .args .k .now) k (c .before .before .before .before .before .if2 .left) b)) (c .before .before .before .before .before .before .before .before .before .before .args .out .now) (c .before .before .put-target .last .0) (c .before .before .put-target .result) (c .before .before .put-target .ensures))
-    (λ c. let (g, k, a, b, small, room) = (c .before .before .before .before .before .before .pre) in (present (c .before .before .before .before .before .before .args .g .now) g (c .before .before .if1 .left) a) .least)
-    (λ c. let (g, k, a, b, small, room) = (c .before .before .before .before .before .before .pre) in omega (arith, (present (c .before .before .before .before .before .before .args .g .now) g (c .before .before .if1 .left) a) .least))
+    returns-2
+    sub-put-target-2
+    part-put-target-start-2
+    -- by search: part-put-target-end-2 81:46
     (λ c. search needs)
-    (λ c κs. let (g, k, a, b, small, room) = (c .before .before .before .before .before .before .before .pre) in alone-room (c .before .before .before .before .before .before .before .args .order) (rest 4 (c .before .before .before .before .before .before .before .args .g .now)) (target-bytes (c .before .before .before .before .before .before .before .args .order) g k) (first-alone (c .before .before .before .before .before .before .before .args .order) (c .before .before .before .before .before .before .before .args .g .now) (c .before .before .before .before .before .before .before .args .k .now) g k a b (present (c .before .before .before .before .before .before .before .args .g .now) g (c .before .before .before .if1 .left) a) (c .before .before .if3 .taken)) (c .before .before .before .before .before .before .before .args .out .now) room)
+    put-target-requires-2
+    -- by search: same-length-2 81:9
     (λ c. search needs)
-    (λ c. λ g k a b. alone-wrote (c .before .before .before .before .before .before .before .before .before .before .args .order) (rest 4 (c .before .before .before .before .before .before .before .before .before .before .args .g .now)) (target-bytes (c .before .before .before .before .before .before .before .before .before .before .args .order) g k) (first-alone (c .before .before .before .before .before .before .before .before .before .before .args .order) (c .before .before .before .before .before .before .before .before .before .before .args .g .now) (c .before .before .before .before .before .before .before .before .before .before .args .k .now) g k a b (present (c .before .before .before .before .before .before .before .before .before .before .args .g .now) g (c .before .before .before .before .before .before .if1 .left) a) (c .before .before .before .before .before .if3 .taken)) (c .before .before .before .before .before .before .before .before .before .before .args .out .now) (c .before .before .put-target2 .last .0) (c .before .before .put-target2 .result) (c .before .before .put-target2 .ensures))
-    (λ c κs. let (g, k, a, b, small, room) = (c .before .before .before .before .before .before .pre) in room-of-head (c .before .before .before .before .before .before .args .order) (c .before .before .before .before .before .before .args .out .now) (first-room (both-pieces (c .before .before .before .before .before .before .args .order) (c .before .before .before .before .before .before .args .g .now) (c .before .before .before .before .before .before .args .k .now) g k (present (c .before .before .before .before .before .before .args .g .now) g (c .before .before .if1 .left) a) (present (c .before .before .before .before .before .before .args .k .now) k (c .before .if3 .left) b)) (c .before .before .before .before .before .before .args .out .now) room))
-    (λ c. let (g, k, a, b, small, room) = (c .before .before .before .before .before .before .before .before .before .pre) in second-start (both-pieces (c .before .before .before .before .before .before .before .before .before .args .order) (c .before .before .before .before .before .before .before .before .before .args .g .now) (c .before .before .before .before .before .before .before .before .before .args .k .now) g k (present (c .before .before .before .before .before .before .before .before .before .args .g .now) g (c .before .before .before .before .before .if1 .left) a) (present (c .before .before .before .before .before .before .before .before .before .args .k .now) k (c .before .before .before .before .if3 .left) b)) (c .before .before .before .before .before .before .before .before .before .args .out .now) room (c .before .before .put-target-head .ensures))
-    (λ c. let (g, k, a, b, small, room) = (c .before .before .before .before .before .before .before .before .before .pre) in second-start (both-pieces (c .before .before .before .before .before .before .before .before .before .args .order) (c .before .before .before .before .before .before .before .before .before .args .g .now) (c .before .before .before .before .before .before .before .before .before .args .k .now) g k (present (c .before .before .before .before .before .before .before .before .before .args .g .now) g (c .before .before .before .before .before .if1 .left) a) (present (c .before .before .before .before .before .before .before .before .before .args .k .now) k (c .before .before .before .before .if3 .left) b)) (c .before .before .before .before .before .before .before .before .before .args .out .now) room (c .before .before .put-target-head .ensures))
+    returns-3
+    put-target-head-requires
+    sub-put-joined
+    part-put-joined-start
+    -- by search: part-put-joined-end 85:9
     (λ c. search needs)
-    (λ c. let (g, k, a, b, small, room) = (c .before .before .before .before .before .before .before .before .before .before .pre) in (present (c .before .before .before .before .before .before .before .before .before .before .args .g .now) g (c .before .before .before .before .before .before .if1 .left) a) .least)
-    (λ c. let (g, k, a, b, small, room) = (c .before .before .before .before .before .before .before .before .before .before .pre) in omega (arith, (present (c .before .before .before .before .before .before .before .before .before .before .args .g .now) g (c .before .before .before .before .before .before .if1 .left) a) .least))
+    sub-put-joined-2
+    part-put-joined-start-2
+    -- by search: part-put-joined-end-2 86:9
     (λ c. search needs)
-    (λ c. let (g, k, a, b, small, room) = (c .before .before .before .before .before .before .before .before .before .before .before .pre) in (present (c .before .before .before .before .before .before .before .before .before .before .before .args .k .now) k (c .before .before .before .before .before .before .if3 .left) b) .least)
-    (λ c. let (g, k, a, b, small, room) = (c .before .before .before .before .before .before .before .before .before .before .before .pre) in omega (arith, (present (c .before .before .before .before .before .before .before .before .before .before .before .args .k .now) k (c .before .before .before .before .before .before .if3 .left) b) .least))
+    sub-put-joined-3
+    part-put-joined-start-3
+    -- by search: part-put-joined-end-3 87:9
     (λ c. search needs)
-    (λ c κs. let (g, k, a, b, small, room) = (c .before .before .before .before .before .before .before .before .before .before .before .before .pre) in contents-room (c .before .before .before .before .before .before .before .before .before .before .before .before .args .order) (c .before .before .before .before .before .before .before .before .before .before .before .before .args .g .now) (c .before .before .before .before .before .before .before .before .before .before .before .before .args .k .now) g k (present (c .before .before .before .before .before .before .before .before .before .before .before .before .args .g .now) g (c .before .before .before .before .before .before .before .before .if1 .left) a) (present (c .before .before .before .before .before .before .before .before .before .before .before .before .args .k .now) k (c .before .before .before .before .before .before .before .if3 .left) b) (rest (c .before .before .before .before .before .put-target-head .result) (c .before .before .before .before .before .put-target-head .last .0)) small (second-room (both-pieces (c .before .before .before .before .before .before .before .before .before .before .before .before .args .order) (c .before .before .before .before .before .before .before .before .before .before .before .before .args .g .now) (c .before .before .before .before .before .before .before .before .before .before .before .before .args .k .now) g k (present (c .before .before .before .before .before .before .before .before .before .before .before .before .args .g .now) g (c .before .before .before .before .before .before .before .before .if1 .left) a) (present (c .before .before .before .before .before .before .before .before .before .before .before .before .args .k .now) k (c .before .before .before .before .before .before .before .if3 .left) b)) (c .before .before .before .before .before .before .before .before .before .before .before .before .args .out .now) room (c .before .before .before .before .before .put-target-head .ensures)))
-    (λ c. let (g, k, a, b, small, room) = (c .before .before .before .before .before .before .before .before .before .before .before .before .before .before .before .pre) in omega (arith, two-fit (both-pieces (c .before .before .before .before .before .before .before .before .before .before .before .before .before .before .before .args .order) (c .before .before .before .before .before .before .before .before .before .before .before .before .before .before .before .args .g .now) (c .before .before .before .before .before .before .before .before .before .before .before .before .before .before .before .args .k .now) g k (present (c .before .before .before .before .before .before .before .before .before .before .before .before .before .before .before .args .g .now) g (c .before .before .before .before .before .before .before .before .before .before .before .if1 .left) a) (present (c .before .before .before .before .before .before .before .before .before .before .before .before .before .before .before .args .k .now) k (c .before .before .before .before .before .before .before .before .before .before .if3 .left) b)) (c .before .before .before .before .before .before .before .before .before .before .before .before .before .before .before .args .out .now) room (c .before .before .before .before .before .before .before .before .put-target-head .ensures) (c .before .before .put-joined .ensures ((present (c .before .before .before .before .before .before .before .before .before .before .before .before .before .before .before .args .g .now) g (c .before .before .before .before .before .before .before .before .before .before .before .if1 .left) a) .items) ((present (c .before .before .before .before .before .before .before .before .before .before .before .before .before .before .before .args .k .now) k (c .before .before .before .before .before .before .before .before .before .before .if3 .left) b) .items) ((present (c .before .before .before .before .before .before .before .before .before .before .before .before .before .before .before .args .g .now) g (c .before .before .before .before .before .before .before .before .before .before .before .if1 .left) a) .holds) ((present (c .before .before .before .before .before .before .before .before .before .before .before .before .before .before .before .args .k .now) k (c .before .before .before .before .before .before .before .before .before .before .if3 .left) b) .holds))))
+    put-joined-requires
+    add-result
+    -- by search: same-length-3 70:1
     (λ c. search needs)
-    (λ c. λ g k a b. both-wrote (both-pieces (c .before .before .before .before .before .before .before .before .before .before .before .before .before .before .before .args .order) (c .before .before .before .before .before .before .before .before .before .before .before .before .before .before .before .args .g .now) (c .before .before .before .before .before .before .before .before .before .before .before .before .before .before .before .args .k .now) g k (present (c .before .before .before .before .before .before .before .before .before .before .before .before .before .before .before .args .g .now) g (c .before .before .before .before .before .before .before .before .before .before .before .if1 .left) a) (present (c .before .before .before .before .before .before .before .before .before .before .before .before .before .before .before .args .k .now) k (c .before .before .before .before .before .before .before .before .before .before .if3 .left) b)) (c .before .before .before .before .before .before .before .before .before .before .before .before .before .before .before .args .out .now) (c .before .before .before .before .before .before .before .before .put-target-head .ensures) (c .before .before .put-joined .ensures ((present (c .before .before .before .before .before .before .before .before .before .before .before .before .before .before .before .args .g .now) g (c .before .before .before .before .before .before .before .before .before .before .before .if1 .left) a) .items) ((present (c .before .before .before .before .before .before .before .before .before .before .before .before .before .before .before .args .k .now) k (c .before .before .before .before .before .before .before .before .before .before .if3 .left) b) .items) ((present (c .before .before .before .before .before .before .before .before .before .before .before .before .before .before .before .args .g .now) g (c .before .before .before .before .before .before .before .before .before .before .before .if1 .left) a) .holds) ((present (c .before .before .before .before .before .before .before .before .before .before .before .before .before .before .before .args .k .now) k (c .before .before .before .before .before .before .before .before .before .before .if3 .left) b) .holds)) refl))
+    returns-4)
