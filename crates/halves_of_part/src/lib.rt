@@ -11,8 +11,8 @@ fn put_target_first(out: &mut [u8], t: &[u8], k: usize) -> usize
     if t.len() == 0 {
         return 0;
     }
-    let n = writer::put(out, &t[..4]);
-    let m = cut::put_first(&mut out[n..], &t[4..], k);
+    let n = heads::put_target_head(out, heads::order_of(t));
+    let m = cut::put_first(&mut out[n..], &t[marks::TARGET_WIDTH..], k);
     n + m
 }
 
@@ -36,9 +36,8 @@ fn put_target_second(out: &mut [u8], t: &[u8], k: usize) -> usize
     if t.len() == 0 {
         return 0;
     }
-    let n = writer::put(out, &t[..4]);
-    let q = writer::put_number(out, 2, walk::number_of(t) + 1);
-    let m = cut::put_second(&mut out[n..], &t[4..], k);
+    let n = heads::put_target_head(out, heads::order_of(t) + 1);
+    let m = cut::put_second(&mut out[n..], &t[marks::TARGET_WIDTH..], k);
     n + m
 }
 
@@ -55,8 +54,7 @@ fn put_second_half(
     requires { ⌜ RoomPart (second-half k j id) (now h) (now s) (now t) (now out) ⌝ }
     ensures { λ r. ⌜ WrotePart (second-half k j id) (now (h .entry)) (now (s .entry)) (now (t .entry)) (now (out .entry)) r (now (out .exit)) ⌝ }
 {
-    let n = writer::put(out, h);
-    let q = writer::put_number(out, 2, id);
+    let n = heads::put_with_id(out, h, id);
     let m = cut::put_second(&mut out[n..], s, k);
     let e = n + m;
     let i = put_target_second(&mut out[e..], t, j);

@@ -1,64 +1,80 @@
--- Joined heads: their bytes, and their writing.
-use Prim.Native.Nat.{ℕ, _+_, _≤_, _<_}
-use mathlib.Core.Path.{_≡_, refl, ap, _∙_}
-use mathlib.Core.Bool.{_&&_}
-use mathlib.Core.List.{List, [], _∷_, _++_}
+-- Joined heads: their fields, and their writing.
+use Prim.Native.Nat.{ℕ, _≤_}
+use mathlib.Core.Path.{_≡_, refl, sym, ap, ap₂, _∙_, subst}
+use mathlib.Core.Bool.{Bool, true, false, true≢false, _&&_, cond}
+use mathlib.Core.List.{List}
 use native.Mathlib.Omega.{arith}
-use lib.ListN.{length, take, getD, length-append}
-use lib.Dec.{eqb}
-use borrow.Author.Tests.{lt-ltb, le-ltb}
-use lib.Seq.{length-take-le}
-use Rattle.xliff.specs.Bytes.{two}
+use lib.ListN.{length}
+use lib.Dec.{eqb, leb}
+use Rattle.xliff.specs.Bytes.{'-'}
+use Rattle.xliff.specs.Unit as unit
 use Rattle.xliff.specs.Unit.{Head, segment, ignorable}
 use Rattle.xliff.specs.Encode.{head-bytes}
-use Rattle.xliff.specs.Join.{join-heads, earliest, dash}
-use Rattle.writer.specs.Pieces.{lead, overlay}
-use Rattle.writer.proofs.PieceLaws.{over-lead}
-use Rattle.joined_part.specs.Heads.{segmentWith, joinedHead}
+use Rattle.xliff.specs.Join.{join-heads, rank, earliest, dash}
+use Rattle.writer.specs.Pieces.{Written}
+use Rattle.heads.specs.declared.Segment.{Segment}
+use Rattle.heads.specs.Heads.{fields, is-segment, FieldsAre}
+use Rattle.heads.proofs.HeadLaws.{segment-long}
+use Rattle.joined_part.specs.Heads.{JoinedSegment}
 
-pub head-long : (a : Head) → 4 ≤ length (head-bytes a)
-unfolding head-bytes two
-head-long (segment f) = omega arith
-head-long (ignorable i) = omega arith
+-- two segments
+pub two-joined : (x y r : Segment) → r .id ≡ x .id → r .«can_resegment» ≡ dash (eqb (x .«can_resegment») '-' && eqb (y .«can_resegment») '-')
+    → r .state ≡ earliest (x .state) (y .state) → JoinedSegment x y r
+unfolding join-heads
+two-joined x y r i d s =
+    ap (λ (n : ℕ). segment (record { id = n; canResegment = r .«can_resegment»; state = r .state })) i
+    ∙ ap₂ (λ (e t : ℕ). segment (record { id = x .id; canResegment = e; state = t })) d s
 
-pub head-same : (a b : Head) → joinedHead (head-bytes a) (head-bytes b) ≡ head-bytes (join-heads a b)
-unfolding joinedHead segmentWith head-bytes join-heads two
-head-same (ignorable i) (ignorable j) = refl
-head-same (ignorable i) (segment g) = refl
-head-same (segment f) (ignorable j) = refl
-head-same (segment f) (segment g) = refl
+-- a segment with itself is that segment with an ignorable
+both-same : (b : Bool) → b && b ≡ b
+both-same true = refl
+both-same false = refl
 
-pub segment-long : (h : List ℕ) (c s : ℕ) → 4 ≤ length h → length (segmentWith h c s) ≡ 6
-unfolding segmentWith
-segment-long h c s l =
-    length-append (take 4 h ++ (c ∷ [])) (s ∷ []) ∙ ap (λ (n : ℕ). n + 1) (length-append (take 4 h) (c ∷ []) ∙ ap (λ (n : ℕ). n + 1) (length-take-le 4 h l))
+cond-same : (b : Bool) (n : ℕ) → cond b n n ≡ n
+cond-same true n = refl
+cond-same false n = refl
 
--- a piece of four bytes, then two bytes
-pub segment-wrote : (h out l : List ℕ) (c s n : ℕ) → 4 ≤ length h → n ≡ length (take 4 h) → l ≡ lead (take 4 h) out
-    → overlay (overlay l n (c ∷ [])) (n + 1) (s ∷ []) ≡ lead (segmentWith h c s) out
-unfolding segmentWith
-segment-wrote h out l c s n k e f =
-    over-lead out (take 4 h ++ (c ∷ [])) (s ∷ []) (overlay l n (c ∷ [])) (n + 1) (over-lead out (take 4 h) (c ∷ []) l n f e)
-    (omega (arith, e, length-append (take 4 h) (c ∷ [])))
+with-itself : (f : unit.Segment) (j : ℕ) → join-heads (segment f) (segment f) ≡ join-heads (segment f) (ignorable j)
+unfolding join-heads earliest
+with-itself f j =
+    ap₂ (λ (e t : ℕ). segment (record { id = f .id; canResegment = e; state = t })) (ap dash (both-same (eqb (f .canResegment) '-')))
+    (cond-same (leb (rank (f .state)) (rank (f .state))) (f .state))
 
--- the four cases, and their lengths
+ignored-first : (f : unit.Segment) (j : ℕ) → join-heads (segment f) (ignorable j) ≡ join-heads (ignorable j) (segment f)
+unfolding join-heads
+ignored-first f j = refl
+
+-- the heads a and b, whose bytes are h and i
 module _ (h i : List ℕ) where
-  pub two-ignorables : length h < 6 → length i < 6 → joinedHead h i ≡ h
-  unfolding joinedHead
-  two-ignorables a b = simp (lt-ltb (length h) 6 a, lt-ltb (length i) 6 b)
+  pub both-segments : (a b : Head) → head-bytes a ≡ h → head-bytes b ≡ i → is-segment a ≡ true → is-segment b ≡ true
+      → (x y r : Segment) → FieldsAre h x → FieldsAre i y → JoinedSegment x y r → segment (fields r) ≡ join-heads a b
+  both-segments (segment f) (segment g) ea eb p q x y r u v j = j ∙ ap₂ (λ (m n : unit.Segment). join-heads (segment m) (segment n)) (u f ea) (v g eb)
+  both-segments (segment f) (ignorable n) ea eb p q x y r u v j = absurd (true≢false (sym q))
+  both-segments (ignorable m) b ea eb p q x y r u v j = absurd (true≢false (sym p))
 
-  pub segment-second : length h < 6 → 6 ≤ length i → joinedHead h i ≡ segmentWith i (dash (eqb (getD i 4 0) 45)) (getD i 5 0)
-  unfolding joinedHead
-  segment-second a b = simp (lt-ltb (length h) 6 a, le-ltb (length i) 6 b)
+  pub first-segment : (a b : Head) → head-bytes a ≡ h → is-segment a ≡ true → is-segment b ≡ false
+      → (x r : Segment) → FieldsAre h x → JoinedSegment x x r → segment (fields r) ≡ join-heads a b
+  first-segment (segment f) (ignorable n) ea p q x r u j = j ∙ ap (λ (m : unit.Segment). join-heads (segment m) (segment m)) (u f ea) ∙ with-itself f n
+  first-segment (segment f) (segment g) ea p q x r u j = absurd (true≢false q)
+  first-segment (ignorable m) b ea p q x r u j = absurd (true≢false (sym p))
 
-  pub segment-first : 6 ≤ length h → length i < 6 → joinedHead h i ≡ segmentWith h (dash (eqb (getD h 4 0) 45)) (getD h 5 0)
-  unfolding joinedHead
-  segment-first a b = simp (le-ltb (length h) 6 a, lt-ltb (length i) 6 b)
+  pub second-segment : (a b : Head) → head-bytes b ≡ i → is-segment a ≡ false → is-segment b ≡ true
+      → (y r : Segment) → FieldsAre i y → JoinedSegment y y r → segment (fields r) ≡ join-heads a b
+  second-segment (ignorable n) (segment g) eb p q y r v j =
+      j ∙ ap (λ (m : unit.Segment). join-heads (segment m) (segment m)) (v g eb) ∙ with-itself g n ∙ ignored-first g n
+  second-segment (ignorable m) (ignorable n) eb p q y r v j = absurd (true≢false (sym q))
+  second-segment (segment f) b eb p q y r v j = absurd (true≢false p)
 
-  pub two-segments : 6 ≤ length h → 6 ≤ length i
-      → joinedHead h i ≡ segmentWith h (dash (eqb (getD h 4 0) 45 && eqb (getD i 4 0) 45)) (earliest (getD h 5 0) (getD i 5 0))
-  unfolding joinedHead
-  two-segments a b = simp (le-ltb (length h) 6 a, le-ltb (length i) 6 b)
+  pub no-segment : (a b : Head) → head-bytes a ≡ h → is-segment a ≡ false → is-segment b ≡ false → h ≡ head-bytes (join-heads a b)
+  unfolding join-heads
+  no-segment (ignorable m) (ignorable n) ea p q = sym ea
+  no-segment (ignorable m) (segment g) ea p q = absurd (true≢false q)
+  no-segment (segment f) b ea p q = absurd (true≢false p)
 
-  pub is-six : (s : List ℕ) (c d : ℕ) → 4 ≤ length s → joinedHead h i ≡ segmentWith s c d → length (joinedHead h i) ≡ 6
-  is-six s c d l e = ap length e ∙ segment-long s c d l
+-- room for a segment, and its writing
+module _ (a b : Head) (r : Segment) (e : segment (fields r) ≡ join-heads a b) where
+  pub segment-room : (o : List ℕ) → length (head-bytes (join-heads a b)) ≤ length o → 6 ≤ length o
+  segment-room o h = omega (arith, ap (λ (x : Head). length (head-bytes x)) e, segment-long (fields r))
+
+  pub segment-wrote : (o l : List ℕ) (n : ℕ) → Written (head-bytes (segment (fields r))) o n l → Written (head-bytes (join-heads a b)) o n l
+  segment-wrote o l n w = subst (λ (x : Head). Written (head-bytes x) o n l) e w

@@ -1,20 +1,22 @@
--- The bytes of joined heads.
-use Prim.Native.Nat.{ℕ}
-use mathlib.Core.Bool.{_&&_, cond}
-use mathlib.Core.List.{List, [], _∷_, _++_}
-use lib.ListN.{length, take, getD}
-use lib.Dec.{eqb, ltb}
-use Rattle.xliff.specs.Bytes.{'-'}
-use Rattle.xliff.specs.Join.{earliest, dash}
+-- Joined heads.
+use Prim.Native.Nat.{ℕ, _≤_}
+use mathlib.Core.Path.{_≡_}
+use mathlib.Core.List.{List}
+use lib.ListN.{length}
+use Rattle.xliff.specs.Unit.{Head, segment}
+use Rattle.xliff.specs.Encode.{head-bytes}
+use Rattle.xliff.specs.Join.{join-heads}
+use Rattle.writer.specs.Pieces.{Written}
+use Rattle.heads.specs.declared.Segment.{Segment}
+use Rattle.heads.specs.Heads.{fields}
 
--- mark and id of h, and two letters
-unfoldable pub segmentWith : List ℕ → ℕ → ℕ → List ℕ
-segmentWith h c s = take 4 h ++ (c ∷ []) ++ (s ∷ [])
+-- the segment r is x and y joined
+abbrev pub JoinedSegment : Segment → Segment → Segment → Type 0
+JoinedSegment x y r = segment (fields r) ≡ join-heads (segment (fields x)) (segment (fields y))
 
-unfoldable pub joinedHead : List ℕ → List ℕ → List ℕ
-joinedHead h i =
-    cond (ltb (length h) 6)
-    (cond (ltb (length i) 6) h (segmentWith i (dash (eqb (getD i 4 0) '-')) (getD i 5 0)))
-    (cond (ltb (length i) 6)
-    (segmentWith h (dash (eqb (getD h 4 0) '-')) (getD h 5 0))
-    (segmentWith h (dash (eqb (getD h 4 0) '-' && eqb (getD i 4 0) '-')) (earliest (getD h 5 0) (getD i 5 0))))
+-- two heads, and room for both in one; it is written
+abbrev pub RoomHeads : List ℕ → List ℕ → List ℕ → Type 0
+RoomHeads h i out = (a : Head) × (b : Head) × (head-bytes a ≡ h) × (head-bytes b ≡ i) × (length (head-bytes (join-heads a b)) ≤ length out)
+
+abbrev pub WroteHeads : List ℕ → List ℕ → List ℕ → ℕ → List ℕ → Type 0
+WroteHeads h i out n l = (a b : Head) → head-bytes a ≡ h → head-bytes b ≡ i → Written (head-bytes (join-heads a b)) out n l

@@ -1,11 +1,9 @@
 // Two parts joined.
+use heads::Segment;
 use part_at::PartPlace;
 ghost use mathlib.Core.Path.{_≡_};
-ghost use Prim.Native.Nat.{_≤_};
-ghost use lib.ListN.{length};
 ghost use Rattle.xliff.specs.Join.{rank, earliest, dash};
-ghost use Rattle.writer.specs.Pieces.{lead, overlay, numberBytes};
-ghost use Rattle.joined_part.specs.Heads.{segmentWith, joinedHead};
+ghost use Rattle.joined_part.specs.Heads.{JoinedSegment, RoomHeads, WroteHeads};
 ghost use Rattle.joined_part.specs.Joined.{RoomTargets, WroteTargets, RoomParts, WroteParts};
 
 fn dash_if(all: bool) -> u8
@@ -35,46 +33,37 @@ fn earliest_of(s: u8, t: u8) -> u8
     if rank_of(s) <= rank_of(t) { s } else { t }
 }
 
-// A segment with the mark and id of `h`, and these letters.
-fn put_segment(out: &mut [u8], h: &[u8], resegment: u8, state: u8) -> usize
-    requires { ⌜ (4 ≤ length (now h)) × (6 ≤ length (now out)) ⌝ }
-    ensures { λ r. ⌜ (r ≡ 6) × (now (out .exit) ≡ lead (segmentWith (now (h .entry)) resegment state) (now (out .entry))) ⌝ }
+// Two segments in one. A segment joined with an ignorable is as if it were joined with itself.
+fn joined_segment(x: Segment, y: Segment) -> Segment
+    ensures { λ r. ⌜ JoinedSegment x y r ⌝ }
 {
-    let n = writer::put(out, &h[..4]);
-    let m = writer::put_byte(out, n, resegment);
-    writer::put_byte(out, m, state)
+    let dash = dash_if((x.can_resegment == b'-') & (y.can_resegment == b'-'));
+    let state = earliest_of(x.state, y.state);
+    Segment {
+        id: x.id,
+        can_resegment: dash,
+        state: state,
+    }
 }
 
-// The head of both: an ignorable's has 4 bytes, a segment's 6.
+// The head of both.
 fn put_joined_head(out: &mut [u8], h: &[u8], i: &[u8]) -> usize
-    requires { ⌜ (4 ≤ length (now h)) × (4 ≤ length (now i)) × (length (joinedHead (now h) (now i)) ≤ length (now out)) ⌝ }
-    ensures { λ r. ⌜ (r ≡ length (joinedHead (now (h .entry)) (now (i .entry)))) × (now (out .exit) ≡ lead (joinedHead (now (h .entry)) (now (i .entry))) (now (out .entry))) ⌝ }
+    requires { ⌜ RoomHeads (now h) (now i) (now out) ⌝ }
+    ensures { λ r. ⌜ WroteHeads (now (h .entry)) (now (i .entry)) (now (out .entry)) r (now (out .exit)) ⌝ }
 {
-    if h.len() < 6 {
-        if i.len() < 6 {
-            return writer::put(out, h);
+    if heads::is_segment(h) {
+        let x = heads::segment_of(h);
+        if heads::is_segment(i) {
+            let y = heads::segment_of(i);
+            return heads::put_segment(out, joined_segment(x, y));
         }
-        return put_segment(out, i, dash_if(i[4] == b'-'), i[5]);
+        return heads::put_segment(out, joined_segment(x, x));
     }
-    if i.len() < 6 {
-        return put_segment(out, h, dash_if(h[4] == b'-'), h[5]);
+    if heads::is_segment(i) {
+        let y = heads::segment_of(i);
+        return heads::put_segment(out, joined_segment(y, y));
     }
-    put_segment(
-        out,
-        h,
-        dash_if((h[4] == b'-') & (i[4] == b'-')),
-        earliest_of(h[5], i[5]),
-    )
-}
-
-// A target with another order.
-fn put_target(out: &mut [u8], g: &[u8], order: u16) -> usize
-    requires { ⌜ (4 ≤ length (now g)) × (length (now g) ≤ length (now out)) ⌝ }
-    ensures { λ r. ⌜ (r ≡ length (now (g .entry))) × (now (out .exit) ≡ lead (overlay (now (g .entry)) 2 (numberBytes order)) (now (out .entry))) ⌝ }
-{
-    let n = writer::put(out, g);
-    let e = writer::put_number(out, 2, order);
-    n
+    writer::put(out, h)
 }
 
 // The target of both, with this order; none if neither has one.
@@ -86,13 +75,17 @@ fn put_joined_target(out: &mut [u8], g: &[u8], k: &[u8], order: u16) -> usize
         if k.len() == 0 {
             return 0;
         }
-        return put_target(out, k, order);
+        return heads::put_target(out, order, &k[marks::TARGET_WIDTH..]);
     }
     if k.len() == 0 {
-        return put_target(out, g, order);
+        return heads::put_target(out, order, &g[marks::TARGET_WIDTH..]);
     }
-    let n = put_target(out, &g[..4], order);
-    let m = joined_content::put_joined(&mut out[n..], &g[4..], &k[4..]);
+    let n = heads::put_target_head(out, order);
+    let m = joined_content::put_joined(
+        &mut out[n..],
+        &g[marks::TARGET_WIDTH..],
+        &k[marks::TARGET_WIDTH..],
+    );
     n + m
 }
 

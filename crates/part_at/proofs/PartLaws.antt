@@ -41,7 +41,7 @@ focus-in [] p a = refl
 focus-in (q ∷ b) p a = ap (behind q) (focus-in b p a)
 
 -- bytes from an offset on
-slice-at : (t : List ℕ) (from to : ℕ) (x y : List ℕ) → drop from t ≡ x ++ y → from ≤ length t → to ≡ from + length x → Slice t from to x
+pub slice-at : (t : List ℕ) (from to : ℕ) (x y : List ℕ) → drop from t ≡ x ++ y → from ≤ length t → to ≡ from + length x → Slice t from to x
 slice-at t from to x y d l e =
     let k : length (x ++ y) ≡ length t - from = ap length (sym d) ∙ length-drop from t in
     let z : to - from ≡ length x = omega (arith, e) in
@@ -153,6 +153,7 @@ module _ (t : List ℕ) (h : Passes t) (b : List Part) (p : Part) (a : List Part
         head = head-slice;
         source = source-slice;
         target = target-stands t (p .target) place Last (span .rest) (source-slice .within) from-target;
+        kind = span .kind;
         whole = slice-at t (place .head) (place .end) (spell (part-records p)) Last from-head (there .within) (span-end (place .head) p place span);
         behind = drop-past t (place .head) (place .end) (spell (part-records p)) Last from-head (span-end (place .head) p place span);
         records = there;

@@ -1,14 +1,14 @@
 -- The offsets of a part, from what is read at its head and at its target.
-use Prim.Native.Nat.{ℕ, _+_, _≤_}
+use Prim.Native.Nat.{ℕ, _+_, _-_, _≤_}
 use mathlib.Core.Path.{_≡_, refl, sym, ap, _∙_, subst}
-use mathlib.Core.Bool.{true, false}
+use mathlib.Core.Bool.{Bool, true, false}
 use mathlib.Core.List.{List, _∷_, _++_, append-assoc}
 use native.Mathlib.Omega.{arith}
-use lib.ListN.{length, drop, length-append}
+use lib.ListN.{length, take, drop, length-append}
 use Rattle.xliff.specs.Bytes.{gather}
 use Rattle.xliff.specs.Unit.{Target, no-target, target, Part, has-target}
 use Rattle.xliff.specs.Encode as encode
-use Rattle.xliff.specs.Encode.{opening, closing, part-head, target-head, text-run, inline, ill-text, broken, record-bytes, content-records, target-records, part-records, spell, content-bytes}
+use Rattle.xliff.specs.Encode.{opening, closing, part-head, target-head, text-run, inline, ill-text, broken, record-bytes, head-bytes, content-records, target-records, part-records, spell, content-bytes}
 use Rattle.places.specs.Offsets.{At}
 use Rattle.places.proofs.Places.{content-inner}
 use Rattle.walker.specs.Offsets.{After}
@@ -20,10 +20,12 @@ use Rattle.orders.specs.Heads.{orderOf}
 use Rattle.orders.specs.declared.Order.{Order}
 use Rattle.orders.specs.declared.Order.the-variants.{Is, Not}
 use Rattle.orders.proofs.OrderLaws.{is-not, is-is}
+use Rattle.heads.specs.Heads.{SomeHead, SegmentIs}
 use Rattle.part_at.specs.declared.PartPlace.{PartPlace}
 use Rattle.part_at.specs.Content.{is-content, outer, ContentAt, ContentEnds}
-use Rattle.part_at.specs.Stands.{Begins, part-next, end-next, TargetAt, TargetSpan, TargetSpans, PartFrom, PartSpans}
+use Rattle.part_at.specs.Stands.{Begins, part-next, end-next, TargetAt, TargetSpan, TargetSpans, PartFrom, PartSpans, Slice}
 use Rattle.part_at.proofs.ContentLaws.{Means, First, first-read, at-past}
+use Rattle.part_at.proofs.PartLaws.{slice-at}
 
 -- the order that a record sets
 abbrev pub order-at : encode.Record → Order
@@ -127,6 +129,17 @@ module _ (t : List ℕ) (at next : ℕ) (after : After t at next) where
   source-content (p, rest, a, b) =
       (content-records (p .source), target-records (p .target) ++ rest, source-there p rest a, content-inner (p .source), outer-target (p .target) rest b)
 
+  -- its bytes
+  head-slice : (p : Part) (rest : List encode.Record) → At t at (part-records p ++ rest) → Slice t at next (head-bytes (p .head))
+  unfolding part-records spell gather record-bytes
+  head-slice p rest a = slice-at t at next (head-bytes (p .head)) _ (sym (a .rest)) (a .within) (after .offset ∙ ap (λ (n : ℕ). at + n) (part-first p rest a .wide))
+
+  pub head-within : PartFrom t at → (at ≤ next) × (next ≤ length t)
+  head-within (p, rest, a, b) = (head-slice p rest a .ordered, head-slice p rest a .within)
+
+  pub some-head : PartFrom t at → SomeHead (take (next - at) (drop at t))
+  some-head (p, rest, a, b) = (p .head, sym (head-slice p rest a .is))
+
   module _ (e : ℕ) (c : ContentEnds t next e) where
     target-offset : (p : Part) (rest : List encode.Record) → At t at (part-records p ++ rest) → Begins rest → e ≡ next + length (content-bytes (p .source))
     unfolding content-bytes
@@ -141,12 +154,14 @@ module _ (t : List ℕ) (at next : ℕ) (after : After t at next) where
     pub part-target : PartFrom t at → TargetAt t e
     part-target (p, rest, a, b) = (p .target, rest, target-there p rest a b, b)
 
-    pub part-spans : (place : PartPlace) → (place .head ≡ at) × (place .source ≡ next) × (place .target ≡ e) × TargetSpans t e place → PartSpans t at place
+    pub part-spans : (k : Bool) → SegmentIs (take (next - at) (drop at t)) k → (place : PartPlace)
+        → (place .head ≡ at) × (place .source ≡ next) × (place .target ≡ e) × (place .segment ≡ k) × TargetSpans t e place → PartSpans t at place
     unfolding record-bytes
-    part-spans place (h, s, g, z) p rest a b =
+    part-spans k is place (h, s, g, m, z) p rest a b =
         record {
           head = h;
           source = omega (arith, s, after .offset, part-first p rest a .wide);
           target = omega (arith, s, g, target-offset p rest a b);
+          kind = m ∙ is (p .head) (sym (head-slice p rest a .is));
           rest = subst (λ (k : ℕ). TargetSpan k (p .target) place) (sym g) (z (p .target) rest (target-there p rest a b) b);
         }

@@ -12,6 +12,7 @@ use Rattle.xliff.specs.Encode.{Record, opening, closing, part-head, target-head
 use Rattle.xliff.specs.Parse.{unit}
 use Rattle.xliff.specs.Focus.{Focus, nowhere, here, focus}
 use Rattle.xliff.specs.Check.{table-refusal}
+use Rattle.heads.specs.Heads.{is-segment}
 use Rattle.part_at.specs.declared.PartPlace.{PartPlace}
 use Rattle.part_at.specs.declared.FoundPart.{FoundPart}
 use Rattle.part_at.specs.declared.FoundPart.the-variants.{At as FoundAt, Missing}
@@ -46,6 +47,7 @@ pub record PartSpan (at : ℕ) (p : Part) (place : PartPlace) : Type 0 where
   pub head : place .head ≡ at
   pub source : place .source ≡ at + length (head-bytes (p .head))
   pub target : place .target ≡ place .source + length (content-bytes (p .source))
+  pub kind : place .segment ≡ is-segment (p .head)
   pub rest : TargetSpan (place .target) (p .target) place
 
 abbrev pub PartSpans : List ℕ → ℕ → PartPlace → Type 0
@@ -71,6 +73,7 @@ pub record PartStands (t : List ℕ) (b : List Part) (p : Part) (a : List Part) 
   pub head : Slice t (place .head) (place .source) (head-bytes (p .head))
   pub source : Slice t (place .source) (place .target) (content-bytes (p .source))
   pub target : TargetStands t place (p .target)
+  pub kind : place .segment ≡ is-segment (p .head)
   pub whole : Slice t (place .head) (place .end) (spell (part-records p))
   pub behind : drop (place .end) t ≡ spell (gather part-records a) ++ record-bytes closing
   pub records : At t (place .head) (part-records p ++ (gather part-records a ++ (closing ∷ [])))

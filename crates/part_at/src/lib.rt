@@ -79,19 +79,21 @@ fn order_of(r: Read) -> Order
 }
 
 // The offsets of a part: its SG or IG, its source content, its TG and its end. Without a target the TG's is the end, and the order 0.
+// And whether it is a segment, and whether it has a target.
 pub struct PartPlace {
     pub head: usize,
     pub source: usize,
     pub target: usize,
     pub end: usize,
     pub order: u16,
+    pub segment: bool,
     pub has_target: bool,
 }
 
 // The part with these offsets, its target or the next part at `target`.
-fn target_place(t: &[u8], head: usize, source: usize, target: usize) -> PartPlace
+fn target_place(t: &[u8], head: usize, source: usize, target: usize, segment: bool) -> PartPlace
     requires { ⌜ TargetAt (now t) target ⌝ }
-    ensures { λ r. ⌜ (r .head ≡ head) × (r .source ≡ source) × (r .target ≡ target) × TargetSpans (now (t .entry)) target r ⌝ }
+    ensures { λ r. ⌜ (r .head ≡ head) × (r .source ≡ source) × (r .target ≡ target) × (r .segment ≡ segment) × TargetSpans (now (t .entry)) target r ⌝ }
 {
     let r = walker::known_at(t, target);
     let w = syntax::width_of(r);
@@ -104,6 +106,7 @@ fn target_place(t: &[u8], head: usize, source: usize, target: usize) -> PartPlac
                 target: target,
                 end: end,
                 order: q,
+                segment: segment,
                 has_target: true,
             }
         }
@@ -113,6 +116,7 @@ fn target_place(t: &[u8], head: usize, source: usize, target: usize) -> PartPlac
             target: target,
             end: target,
             order: 0,
+            segment: segment,
             has_target: false,
         },
     }
@@ -124,8 +128,9 @@ fn part_from(t: &[u8], at: usize) -> PartPlace
     ensures { λ r. ⌜ PartSpans (now (t .entry)) at r ⌝ }
 {
     let source = walker::after(t, at);
+    let segment = heads::is_segment(&t[at..source]);
     let target = content_end(t, source);
-    target_place(t, at, source, target)
+    target_place(t, at, source, target, segment)
 }
 
 fn starts_part(t: &[u8], at: usize) -> bool
@@ -147,7 +152,7 @@ pub fn part_at(t: &[u8], n: usize) -> FoundPart
     if n == 0 {
         return FoundPart::Missing;
     }
-    let mut at = 3;
+    let mut at = marks::UNIT_WIDTH;
     let mut left = n;
     while 1 < left {
         if !starts_part(t, at) {

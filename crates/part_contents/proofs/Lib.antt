@@ -1,1 +1,2 @@
 pub mod HoldLaws
+pub mod TargetLaws

@@ -1,17 +1,16 @@
 -- A part's canResegment, and the orders of two parts, from where the parts stand.
-use Prim.Native.Nat.{ℕ, suc, _+_, _<_}
+use Prim.Native.Nat.{ℕ, suc, _+_, _≤_}
 use mathlib.Core.Path.{_≡_, refl, sym, ap, _∙_}
 use mathlib.Core.Bool.{Bool, false, not, _&&_}
-use mathlib.Core.List.{List, [], _∷_, _++_}
+use mathlib.Core.List.{List, [], _∷_, _++_, append-assoc}
 use native.Mathlib.Omega.{arith}
 use native.Mathlib.Numerals.{add-one}
-use lib.ListN.{length, drop, getD}
-use lib.Seq.{getD-take}
+use lib.ListN.{length, drop, take-append-drop}
 use lib.Dec.{eqb}
 use Rattle.xliff.specs.Bytes.{gather}
 use Rattle.xliff.specs.Unit.{Target, no-target, target, Part, resolved, is-closed}
 use Rattle.xliff.specs.Encode as encode
-use Rattle.xliff.specs.Encode.{opening, closing, part-head, record-bytes, part-records, content-records, target-records}
+use Rattle.xliff.specs.Encode.{opening, closing, part-head, record-bytes, part-records, content-records, target-records, spell}
 use Rattle.xliff.specs.Parse.{unit}
 use Rattle.xliff.specs.Join.{bad-orders}
 use Rattle.places.proofs.Places.{at-next}
@@ -19,6 +18,7 @@ use Rattle.table.specs.Meaning.{meaning, body}
 use Rattle.table.specs.declared.Record.the-variants.{Unit as UnitStart, UnitEnd, Segment, Ignorable, Target as TargetHead, Text, Inline}
 use Rattle.table.specs.declared.Read.{Read}
 use Rattle.table.specs.declared.Read.the-variants.{Good, Ill, Broken}
+use Rattle.heads.specs.Heads.{ResegmentIs}
 use Rattle.part_at.specs.declared.PartPlace.{PartPlace}
 use Rattle.part_at.specs.Stands.{Standing, PartStands, TargetStands}
 use Rattle.part_at.proofs.ContentLaws.{Means, first-read}
@@ -47,20 +47,21 @@ closed-same u cs (Good (Inline i) w) = refl
 closed-same u cs Ill = refl
 closed-same u cs (Broken b) = refl
 
-pub long-enough : (t : List ℕ) (place : PartPlace) → Standing t place → 2 < length t
+pub long-enough : (t : List ℕ) (place : PartPlace) → Standing t place → 3 ≤ length t
 long-enough t place (b, p, a, s) = omega (arith, s .offset, s .head .ordered, s .head .within)
 
-unit-letter : (t : List ℕ) (b : List Part) (p : Part) (a : List Part) (place : PartPlace) → PartStands t b p a place → getD t 2 0 ≡ unit t .opening .canResegment
-unfolding record-bytes
-unit-letter t b p a place s =
-    sym (getD-take (place .head) t 2 0 (omega (arith, s .offset))) ∙ ap (λ (l : List ℕ). getD l 2 0) (s .before)
+unit-opens : (t : List ℕ) (b : List Part) (p : Part) (a : List Part) (place : PartPlace) → PartStands t b p a place
+    → t ≡ record-bytes (opening (unit t .opening)) ++ (spell (gather part-records b) ++ drop (place .head) t)
+unit-opens t b p a place s =
+    sym (take-append-drop (place .head) t) ∙ ap (λ (l : List ℕ). l ++ drop (place .head) t) (s .before)
+    ∙ append-assoc (record-bytes (opening (unit t .opening))) (spell (gather part-records b)) (drop (place .head) t)
 
-pub closed-is : (t : List ℕ) (place : PartPlace) (u : ℕ) (r : Read) → u ≡ getD t 2 0 → Means t (place .head) r → ClosedIs t place (closedBy u r)
+pub closed-is : (t : List ℕ) (place : PartPlace) (u : ℕ) (r : Read) → ResegmentIs t u → Means t (place .head) r → ClosedIs t place (closedBy u r)
 unfolding is-closed part-records
 closed-is t place u r e m b p a s =
     let f = first-read t (place .head) (part-head (p .head)) (content-records (p .source) ++ target-records (p .target) ++ (gather part-records a ++ (closing ∷ []))) r (s .records) m in
     closed-same u (body (drop (place .head) t)) r ∙ ap (closed-at u) (f .means)
-    ∙ ap (λ (c : ℕ). eqb (resolved c (p .head)) 78) (e ∙ unit-letter t b p a place s)
+    ∙ ap (λ (c : ℕ). eqb (resolved c (p .head)) 78) (e (unit t .opening) (spell (gather part-records b) ++ drop (place .head) t) (unit-opens t b p a place s))
 
 -- the orders, by the targets
 by-targets : (t s : List ℕ) (x y : PartPlace) (g h : Target) → TargetStands t x g → TargetStands s y h

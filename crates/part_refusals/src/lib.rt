@@ -49,7 +49,7 @@ pub fn is_closed(t: &[u8], place: PartPlace) -> bool
     requires { ⌜ Standing (now t) place ⌝ }
     ensures { λ r. ⌜ ClosedIs (now (t .entry)) place r ⌝ }
 {
-    let unit = t[2];
+    let unit = heads::unit_resegment(t);
     closed_by(unit, walker::known_at(t, place.head))
 }
 

@@ -9,12 +9,13 @@ use Rattle.xliff.specs.Unit.{Part}
 use Rattle.xliff.specs.Encode.{Record, record-bytes, part-records, spell}
 use Rattle.xliff.proofs.lists.Tests.{map-append}
 use Rattle.xliff.proofs.unit.Pieces.{spell-append}
+use Rattle.writer.specs.Pieces as pieces
 use Rattle.writer.specs.Pieces.{lead}
 use Rattle.writer.proofs.PieceLaws.{two-back, lead-length}
 use Rattle.walk.specs.Marks.{widthAt}
 use Rattle.parts.specs.Parts.{PartsIn, ordered, order-record}
 use Rattle.parts.proofs.RecordLaws.{Rest, Next, rest-end}
-use Rattle.parts.proofs.OrderLaws.{parts-in, parts-moved, order-length}
+use Rattle.parts.proofs.OrderLaws.{parts-in, parts-moved, order-length, ordered-length}
 
 -- up to the offset at of t, the records of the parts ps are written
 pub record Written (t : List ℕ) (f : ℕ → ℕ) (ps : List Part) (o : List ℕ) (at : ℕ) (l : List ℕ) : Type 0 where
@@ -51,12 +52,15 @@ module _ (t : List ℕ) (f : ℕ → ℕ) (ps : List Part) (o : List ℕ) (at : 
         out = two-back o a b l y at (m .done) (m .out) h ∙ ap (λ (p : List ℕ). lead p o) (sym s);
       }
 
-  pub written-end : length t ≤ at → PartsIn t ps → l ≡ lead (ordered f ps) o
-  written-end h (e, g) =
+  parts-wrote : length t ≤ at → PartsIn t ps → l ≡ lead (ordered f ps) o
+  parts-wrote h (e, g) =
       m .out
       ∙ ap (λ (q : List Record). lead (spell (map (order-record f) q)) o)
       (sym (m .all ∙ ap (λ (q : List Record). m .before ++ q) (rest-end t at (m .after) h (m .rest)) ∙ append-nil (m .before)))
       ∙ ap (λ (q : List Record). lead (spell q) o) (parts-moved f ps g)
+
+  pub written-end : length t ≤ at → at ≤ length t → PartsIn t ps → pieces.Written (ordered f ps) o at l
+  written-end h k g = let z = ordered-length f t ps g in (omega arith, parts-wrote h g)
 
   pub written-length : at ≤ length o → length l ≡ length o
   written-length h = ap length (m .out) ∙ lead-length (spell (map (order-record f) (m .before))) o (omega (arith, m .done))

@@ -16,7 +16,7 @@ use Rattle.xliff.proofs.lists.Tests.{map-append}
 use Rattle.xliff.specs.Good.{Each, each-nil, each-cons}
 use Rattle.xliff.proofs.lists.Each.{each-append}
 use Rattle.walk.specs.Kept.{Kept, kept-end, kept-item, kept-text}
-use Rattle.parts.specs.Parts.{GoodTarget, GoodPart, PartsIn, moved, ordered, InPart, head-in, target-in, item-in, text-in, order-record}
+use Rattle.parts.specs.Parts.{GoodTarget, GoodPart, PartsIn, SomeParts, moved, ordered, InPart, head-in, target-in, item-in, text-in, order-record}
 
 -- one order
 pub moved-below : (up : Bool) (q n : ℕ) → n ≤ q → n ≡ moved up q n
@@ -94,6 +94,10 @@ module _ (f : ℕ → ℕ) where
   orders-length (r ∷ rs) =
       omega (arith, order-length r, orders-length rs, length-append (record-bytes (order-record f r)) (spell (map (order-record f) rs)), length-append (record-bytes r) (spell rs))
 
+  -- they are as long as the parts that stood there; so there is room for them
   pub ordered-length : (t : List ℕ) (ps : List Part) → PartsIn t ps → length (ordered f ps) ≡ length t
   ordered-length t ps (e, h) =
       ap (λ (l : List Record). length (spell l)) (sym (parts-moved ps h)) ∙ orders-length (gather part-records ps) ∙ ap length e
+
+  pub parts-room : (t : List ℕ) (ps : List Part) → PartsIn t ps → (o : List ℕ) → length (ordered f ps) ≤ length o → SomeParts t × (length t ≤ length o)
+  parts-room t ps h o r = ((ps, h), omega (arith, ordered-length t ps h))

@@ -12,12 +12,12 @@ use Rattle.xliff.specs.Item.{Item, start, end, form-P, form-S, text, character,
 use Rattle.xliff.specs.Parse.{is, mark-of, mark-at, size-of}
 use Rattle.xliff.specs.Unit.{Head, segment, ignorable}
 use Rattle.xliff.specs.Encode.{Record, part-head, target-head, text-run, inline, head-bytes, record-bytes, spell}
-use Rattle.xliff.proofs.lists.Tests.{two-value, and-false}
 use Rattle.xliff.specs.Good.{Each, each-cons, GoodItem}
 use Rattle.marks.specs.Marks.{marked}
-use Rattle.walk.specs.Marks.{number, widthAt}
+use Rattle.walk.specs.Marks.{widthAt}
 use Rattle.walk.proofs.WalkLaws.{item-width, item-least, text-width}
-use Rattle.writer.specs.Pieces.{lead, overlay, numberBytes}
+use Rattle.writer.specs.Pieces.{lead, Written}
+use Rattle.heads.specs.Heads.{OrderIs}
 use Rattle.parts.specs.Parts.{InPart, head-in, target-in, item-in, text-in, order-record, One}
 
 pub record-width : (r : Record) (s : List ℕ) → InPart r → widthAt (record-bytes r ++ s) ≡ length (record-bytes r)
@@ -80,22 +80,15 @@ others-stay f (target-head q) (target-in l) e = absurd (true≢false e)
 others-stay f (inline x) (item-in g) e = refl
 others-stay f (text-run cs) (text-in a l) e = refl
 
-pub order-is : (q : ℕ) → number (record-bytes (target-head q)) ≡ q
-unfolding record-bytes two
-order-is q = two-value q
+-- a target whose order n was read
+module _ (r : Record) (b : ATarget r) (t : List ℕ) (e : t ≡ record-bytes r) (n : ℕ) (read : OrderIs t n) where
+  pub order-is : n ≡ b .order
+  order-is = read (b .order) [] (e ∙ ap record-bytes (b .is) ∙ sym (append-nil (record-bytes (target-head (b .order)))))
 
--- the order written over that of a copy
-pub order-over : (q n : ℕ) (o l m : List ℕ) → l ≡ lead (record-bytes (target-head q)) o → m ≡ overlay l 2 (numberBytes n) → m ≡ lead (record-bytes (target-head n)) o
-unfolding record-bytes two
-order-over q n o l m e f = f ∙ ap (λ (x : List ℕ). overlay x 2 (numberBytes n)) e
-
-pub marked-target : (f : ℕ → ℕ) (r : Record) (b : ATarget r) (t o l m : List ℕ) (n k : ℕ) → t ≡ record-bytes r → n ≡ number t → k ≡ f n
-    → l ≡ lead t o → m ≡ overlay l 2 (numberBytes k) → m ≡ lead (record-bytes (order-record f r)) o
-marked-target f r b t o l m n k e g h i j =
-    let s : t ≡ record-bytes (target-head (b .order)) = e ∙ ap record-bytes (b .is) in
-    let v : k ≡ f (b .order) = h ∙ ap f (g ∙ ap number s ∙ order-is (b .order)) in
-    order-over (b .order) k o l m (i ∙ ap (λ (x : List ℕ). lead x o) s) j
-    ∙ ap (λ (x : ℕ). lead (record-bytes (target-head x)) o) v ∙ ap (λ (x : Record). lead (record-bytes (order-record f x)) o) (sym (b .is))
+  -- it is written with the order k
+  pub target-moved : (f : ℕ → ℕ) (k : ℕ) → k ≡ f n → (o l : List ℕ) (m : ℕ) → Written (record-bytes (target-head k)) o m l → l ≡ lead (record-bytes (order-record f r)) o
+  target-moved f k h o l m w =
+      w .1 ∙ ap (λ (x : ℕ). lead (record-bytes (target-head x)) o) (h ∙ ap f order-is) ∙ ap (λ (x : Record). lead (record-bytes (order-record f x)) o) (sym (b .is))
 
 -- the records rs stand in t from the offset at
 pub record Rest (t : List ℕ) (at : ℕ) (rs : List Record) : Type 0 where

@@ -14,7 +14,7 @@ use Rattle.xliff.specs.Focus.{order-parts}
 use Rattle.xliff.specs.Split.{raise-above}
 use Rattle.xliff.specs.Join.{lower-above}
 use Rattle.walk.specs.Kept.{Kept}
-use Rattle.writer.specs.Pieces.{lead}
+use Rattle.writer.specs.Pieces.{lead, Written}
 
 -- the contents of a part are kept, its order can rise, and its head is good
 abbrev pub GoodTarget : Target → Type 0
@@ -44,8 +44,8 @@ abbrev pub ordered : (ℕ → ℕ) → List Part → List ℕ
 ordered f ps = spell (gather part-records (order-parts f ps))
 
 -- the output o has become l, with the parts that stand in t at its head
-abbrev pub WroteParts : (ℕ → ℕ) → List ℕ → List ℕ → List ℕ → Type 0
-WroteParts f t o l = (ps : List Part) → PartsIn t ps → l ≡ lead (ordered f ps) o
+abbrev pub WroteParts : (ℕ → ℕ) → List ℕ → List ℕ → ℕ → List ℕ → Type 0
+WroteParts f t o n l = (ps : List Part) → PartsIn t ps → Written (ordered f ps) o n l
 
 -- a record of a part
 pub data InPart : Record → Type 0 where

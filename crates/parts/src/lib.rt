@@ -23,16 +23,17 @@ fn put_record(out: &mut [u8], t: &[u8], q: u16, up: bool)
     requires { ⌜ One (now t) × (length (now t) ≤ length (now out)) ⌝ }
     ensures { λ r. ⌜ WroteOne (moved up q) (now (t .entry)) (now (out .entry)) (now (out .exit)) ⌝ }
 {
-    let n = writer::put(out, t);
     if marks::marked_by(t, b"TG") {
-        let e = writer::put_number(out, 2, moved_order(walk::number_of(t), q, up));
+        let n = heads::put_target_head(out, moved_order(heads::order_of(t), q, up));
+    } else {
+        let n = writer::put(out, t);
     }
 }
 
 // The parts that stand in `t`, orders above `q` one up or one down, at the head of `out`.
 pub fn put_parts(out: &mut [u8], t: &[u8], q: u16, up: bool) -> usize
     requires { ⌜ SomeParts (now t) × (length (now t) ≤ length (now out)) ⌝ }
-    ensures { λ r. ⌜ (r ≡ length (now (t .entry))) × WroteParts (moved up q) (now (t .entry)) (now (out .entry)) (now (out .exit)) ⌝ }
+    ensures { λ r. ⌜ WroteParts (moved up q) (now (t .entry)) (now (out .entry)) r (now (out .exit)) ⌝ }
 {
     let mut at: usize = 0;
     while at < t.len() {

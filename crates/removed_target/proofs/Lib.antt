@@ -1,3 +1,1 @@
-pub mod HeadLaws
 pub mod RemovedLaws
-pub mod WriteLaws

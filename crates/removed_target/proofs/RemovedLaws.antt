@@ -13,11 +13,14 @@ use Rattle.xliff.specs.Focus.{here, focus, with-parts}
 use Rattle.xliff.specs.RemoveTarget.{remove-focus, remove-unit}
 use Rattle.xliff.specs.Good.{bytes-of, opened, closed}
 use Rattle.xliff.proofs.unit.Pieces.{spell-append, part-bytes, bytes-append, table-pieces}
-use Rattle.xliff.proofs.lists.Slices.{slice-long}
+use Rattle.xliff.proofs.lists.Slices.{slice-long, tail-is}
 use Rattle.part_at.specs.declared.PartPlace.{PartPlace}
 use Rattle.part_at.specs.Stands.{PartStands, TargetStands}
 use Rattle.removed_target.specs.Removed.{to-source, removed-unit}
-use Rattle.removed_target.proofs.HeadLaws.{state-long}
+use Rattle.heads.specs.Heads.{HeadRoom}
+use Rattle.heads.proofs.HeadLaws.{state-long}
+use Rattle.writer.specs.Pieces.{rest}
+use Rattle.writer.proofs.RunLaws.{Pieces, pair}
 
 -- the part without its target
 abbrev pub bared : Part → Part
@@ -93,6 +96,32 @@ module _ (t : List ℕ) (b : List Part) (p : Part) (a : List Part) (place : Part
   removed-long =
       ap length (sym removed-is) ∙ length-append (to-source 'I' (unit t) b p) (drop (place .end) t)
       ∙ ap₂ (λ (x y : ℕ). x + y) (to-source-long 'I') (length-drop (place .end) t)
+
+-- what is written piece by piece, and room for it
+module _ (t : List ℕ) (b : List Part) (p : Part) (a : List Part) (place : PartPlace) (s : PartStands t b p a place) where
+  abbrev pub source-pieces : (st : ℕ) → Pieces (to-source st (unit t) b p)
+  source-pieces st =
+      record {
+        first = take (place .head) t;
+        second = head-bytes (with-state st (p .head));
+        third = take (place .target - place .source) (drop (place .source) t);
+        all = sym (pieces-are t b p a place s st);
+      }
+
+  pub source-room : (st : ℕ) (o : List ℕ) → place .target ≤ length o → length (to-source st (unit t) b p) ≤ length o
+  source-room st o h = omega (arith, to-source-long t b p a place s st)
+
+  pub head-room : (st : ℕ) (l : List ℕ) → length (head-bytes (with-state st (p .head))) ≤ length l
+      → HeadRoom (take (place .source - place .head) (drop (place .head) t)) l
+  head-room st l h = ((p .head, sym (s .head .is)), omega (arith, state-size t b p a place s st, head-long t b p a place s))
+
+  abbrev pub table-pieces-without : Pieces (encode (removed-unit (unit t) b p a))
+  table-pieces-without =
+      pair (to-source 'I' (unit t) b p) (rest (place .end) t)
+      (sym (ap (λ (l : List ℕ). to-source 'I' (unit t) b p ++ l) (tail-is (place .end) t) ∙ removed-is t b p a place s))
+
+  pub removed-room : (o : List ℕ) → length t ≤ length o → length (encode (removed-unit (unit t) b p a)) ≤ length o
+  removed-room o h = let z = in-order t b p a place s in omega (arith, removed-long t b p a place s)
 
 -- the result by the number of the part
 pub remove-unit-is : (u : XliffUnit) (n : ℕ) (b : List Part) (p : Part) (a : List Part) → focus (u .parts) n ≡ here b p a → remove-unit u n ≡ removed-unit u b p a

@@ -1,25 +1,15 @@
 -- A table with the target of one part removed, in pieces as it is written.
 use Prim.Native.Nat.{ℕ}
-use mathlib.Core.Path.{_≡_}
 use mathlib.Core.List.{List, _++_}
-use lib.ListN.{length}
-use Rattle.xliff.specs.Unit.{Head, Part, XliffUnit, with-state}
+use Rattle.xliff.specs.Unit.{Part, XliffUnit, with-state}
 use Rattle.xliff.specs.Encode.{head-bytes, content-bytes, encode}
 use Rattle.xliff.specs.Parse.{unit}
 use Rattle.xliff.specs.Focus.{here, with-parts}
 use Rattle.xliff.specs.RemoveTarget.{remove-focus}
-use Rattle.writer.specs.Pieces.{lead}
+use Rattle.writer.specs.Pieces.{Written}
 use Rattle.xliff.specs.Good.{bytes-of, opened}
 use Rattle.part_at.specs.declared.PartPlace.{PartPlace}
 use Rattle.part_at.specs.Stands.{PartStands}
-
--- these bytes, n of them, are at the head of the output
-abbrev pub Written : List ℕ → List ℕ → ℕ → List ℕ → Type 0
-Written bytes out n last = (n ≡ length bytes) × (last ≡ lead bytes out)
-
--- the head whose bytes were given, with the state st
-abbrev pub WroteHead : ℕ → List ℕ → List ℕ → ℕ → List ℕ → Type 0
-WroteHead st head out n last = (h : Head) → head-bytes h ≡ head → Written (head-bytes (with-state st h)) out n last
 
 -- the table up to the end of the source of the part p behind the parts b, the state of p being st
 abbrev pub to-source : ℕ → XliffUnit → List Part → Part → List ℕ

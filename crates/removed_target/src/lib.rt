@@ -3,20 +3,7 @@ use part_at::PartPlace;
 ghost use Prim.Native.Nat.{_≤_};
 ghost use lib.ListN.{length};
 ghost use Rattle.part_at.specs.Stands.{Standing};
-ghost use Rattle.removed_target.specs.Removed.{WroteHead, WroteToSource, Wrote};
-
-// The head of a part with this state. An ignorable's head has no state: it stays.
-fn put_head_with_state(out: &mut [u8], head: &[u8], state: u8) -> usize
-    requires { ⌜ length (now head) ≤ length (now out) ⌝ }
-    ensures { λ r. ⌜ WroteHead state (now (head .entry)) (now (out .entry)) r (now (out .exit)) ⌝ }
-{
-    let n = writer::put(out, head);
-    if n < 6 {
-        return n;
-    }
-    let e = writer::put_byte(out, 5, state);
-    n
-}
+ghost use Rattle.removed_target.specs.Removed.{WroteToSource, Wrote};
 
 // The table up to the end of a part's source, the state of that part as given.
 pub fn put_to_source(out: &mut [u8], t: &[u8], place: PartPlace, state: u8) -> usize
@@ -27,7 +14,7 @@ pub fn put_to_source(out: &mut [u8], t: &[u8], place: PartPlace, state: u8) -> u
     let s = place.source;
     let g = place.target;
     let n = writer::put(out, &t[..h]);
-    let m = put_head_with_state(&mut out[n..], &t[h..s], state);
+    let m = heads::put_with_state(&mut out[n..], &t[h..s], state);
     let k = n + m;
     let i = writer::put(&mut out[k..], &t[s..g]);
     k + i

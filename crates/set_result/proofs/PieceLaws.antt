@@ -1,18 +1,22 @@
 -- The pieces of a table with one target set, and their lengths.
-use Prim.Native.Nat.{ℕ, _+_, _-_}
+use Prim.Native.Nat.{ℕ, _+_, _-_, _≤_}
 use mathlib.Core.Path.{_≡_, refl, sym, ap, ap₂, _∙_}
 use mathlib.Core.List.{List, _∷_, _++_, append-assoc}
 use native.Mathlib.Omega.{arith}
 use lib.ListN.{length, drop, length-append, length-drop}
-use Rattle.xliff.specs.Bytes.{two, gather}
+use Rattle.xliff.specs.Bytes.{gather}
 use Rattle.xliff.specs.Item.{Content}
 use Rattle.xliff.specs.Unit.{target, Part, XliffUnit, with-state}
-use Rattle.xliff.specs.Encode.{record-bytes, head-bytes, content-bytes, target-records, part-records, spell, encode}
+use Rattle.xliff.specs.Encode.{target-head, record-bytes, head-bytes, content-bytes, target-records, part-records, spell, encode}
 use Rattle.xliff.specs.Parse.{unit}
 use Rattle.xliff.specs.Focus.{here, focus, with-parts}
 use Rattle.xliff.specs.SetTarget.{new-order, set-focus, set-unit}
 use Rattle.xliff.specs.Good.{bytes-of, opened, closed}
 use Rattle.xliff.proofs.unit.Pieces.{spell-append, part-bytes, bytes-append, table-pieces}
+use Rattle.xliff.proofs.lists.Slices.{tail-is}
+use Rattle.writer.specs.Pieces.{rest}
+use Rattle.writer.proofs.RunLaws.{Pieces}
+use Rattle.heads.proofs.HeadLaws.{target-long as head-long}
 use Rattle.part_at.specs.declared.PartPlace.{PartPlace}
 use Rattle.part_at.specs.Stands.{PartStands}
 use Rattle.removed_target.specs.Removed.{to-source}
@@ -24,8 +28,7 @@ unfolding spell gather target-records content-bytes
 target-is q xs = refl
 
 pub target-long : (q : ℕ) (s : List ℕ) → length (target-bytes q s) ≡ 4 + length s
-unfolding record-bytes two
-target-long q s = omega arith
+target-long q s = omega (arith, length-append (record-bytes (target-head q)) s, head-long q)
 
 module _ (u : XliffUnit) (st q : ℕ) (xs : Content) (b : List Part) (p : Part) (a : List Part) where
   abbrev w : List ℕ
@@ -68,6 +71,33 @@ module _ (t : List ℕ) (b : List Part) (p : Part) (a : List Part) (place : Part
         target-long q c,
         length-drop (place .end) t,
       )
+
+-- what is written piece by piece, and room for it
+module _ (t : List ℕ) (b : List Part) (p : Part) (a : List Part) (place : PartPlace) (s : PartStands t b p a place) (st q : ℕ) (c : List ℕ) where
+  abbrev all : List ℕ
+  all = (to-source st (unit t) b p ++ target-bytes q c) ++ rest (place .end) t
+
+  abbrev pub pieces-by : {w : List ℕ} → w ≡ all → Pieces w
+  pieces-by e = record { first = to-source st (unit t) b p; second = target-bytes q c; third = rest (place .end) t; all = e }
+
+  pub set-room : (o : List ℕ) → size-with t place c ≤ length o → length all ≤ length o
+  set-room o h =
+      omega (
+        arith,
+        length-append (to-source st (unit t) b p ++ target-bytes q c) (rest (place .end) t),
+        length-append (to-source st (unit t) b p) (target-bytes q c),
+        to-source-long t b p a place s st,
+        target-long q c,
+        ap length (tail-is (place .end) t),
+        length-drop (place .end) t,
+      )
+
+  pub target-room : (l : List ℕ) → length (target-bytes q c) ≤ length l → 4 + length c ≤ length l
+  target-room l h = omega (arith, target-long q c)
+
+  pub set-all : (xs : Content) → content-bytes xs ≡ c → encode (unit-with (unit t) st q xs b p a) ≡ all
+  set-all xs is =
+      sym (ap (λ (r : List ℕ). (to-source st (unit t) b p ++ target-bytes q c) ++ r) (tail-is (place .end) t) ∙ set-is t b p a place s st q xs c is)
 
 -- the result by the number of the part
 pub set-unit-is : (u : XliffUnit) (n st q : ℕ) (xs : Content) (b : List Part) (p : Part) (a : List Part) → focus (u .parts) n ≡ here b p a

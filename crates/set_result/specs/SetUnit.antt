@@ -10,7 +10,7 @@ use Rattle.xliff.specs.Parse.{unit}
 use Rattle.xliff.specs.Focus.{with-parts}
 use Rattle.part_at.specs.declared.PartPlace.{PartPlace}
 use Rattle.part_at.specs.Stands.{PartStands, Standing}
-use Rattle.removed_target.specs.Removed.{Written}
+use Rattle.writer.specs.Pieces.{Written}
 
 -- TG with the order q, then the bytes s
 abbrev pub target-bytes : ℕ → List ℕ → List ℕ

@@ -1,23 +1,11 @@
 // The table that a setting of a target results in, and its limits.
 use part_at::PartPlace;
-ghost use Prim.Native.Nat.{_+_, _≤_};
+ghost use Prim.Native.Nat.{_≤_};
 ghost use lib.ListN.{length};
 ghost use Rattle.cut.specs.Halves.{Some};
-ghost use Rattle.removed_target.specs.Removed.{Written};
 ghost use Rattle.part_at.specs.Stands.{Checked};
-ghost use Rattle.set_result.specs.SetUnit.{target-bytes, Room, Wrote};
+ghost use Rattle.set_result.specs.SetUnit.{Room, Wrote};
 ghost use Rattle.set_result.specs.Counts.{RecordsAre, OldRecordsAre, TooLargeIs};
-
-// TG with this order, then a content.
-fn put_target(out: &mut [u8], order: u16, content: &[u8]) -> usize
-    requires { ⌜ 4 + length (now content) ≤ length (now out) ⌝ }
-    ensures { λ r. ⌜ Written (target-bytes order (now (content .entry))) (now (out .entry)) r (now (out .exit)) ⌝ }
-{
-    let m = writer::put_mark(out, 0, b"TG");
-    let n = writer::put_number(out, m, order);
-    let k = writer::put(&mut out[n..], content);
-    n + k
-}
 
 // The table with this state of the part at `place`, and a target of this order and content.
 pub fn put_set(
@@ -33,7 +21,7 @@ pub fn put_set(
 {
     let e = place.end;
     let n = removed_target::put_to_source(out, t, place, state);
-    let m = put_target(&mut out[n..], order, content);
+    let m = heads::put_target(&mut out[n..], order, content);
     let k = n + m;
     let i = writer::put(&mut out[k..], &t[e..]);
     k + i
@@ -59,7 +47,7 @@ fn old_records(t: &[u8], place: PartPlace) -> usize
     ensures { λ r. ⌜ OldRecordsAre (now (t .entry)) place r ⌝ }
 {
     if place.has_target {
-        let from = place.target + 4;
+        let from = place.target + marks::TARGET_WIDTH;
         let to = place.end;
         return 1 + count_records(&t[from..to]);
     }
@@ -76,6 +64,6 @@ pub fn is_too_large(t: &[u8], place: PartPlace, content: &[u8], room: usize) -> 
     }
     let old = old_records(t, place);
     let records = record_count::count_records(t) + 1 + count_records(content) - old;
-    let bytes = place.target + 4 + content.len() + (t.len() - place.end);
+    let bytes = place.target + marks::TARGET_WIDTH + content.len() + (t.len() - place.end);
     (room < bytes) | ((8192 < bytes) | (1024 < records))
 }

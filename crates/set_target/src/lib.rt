@@ -47,7 +47,7 @@ fn old_from(place: PartPlace) -> usize
     ensures { λ r. ⌜ r ≡ old-from place ⌝ }
 {
     if place.has_target {
-        place.target + 4
+        place.target + marks::TARGET_WIDTH
     } else {
         place.source
     }
@@ -107,15 +107,14 @@ fn set_judged(
     }
 }
 
-// Whether the state fits the part: an ignorable's head has 4 bytes, a segment's 6.
+// Whether the state fits the part: a segment has one, an ignorable none.
 fn state_fits(place: PartPlace, state: u8) -> bool
-    requires { ⌜ place .head ≤ place .source ⌝ }
     ensures { λ r. ⌜ StateFits place state r ⌝ }
 {
-    if place.source - place.head < 6 {
-        return state == b'-';
+    if place.segment {
+        return (state == b'I') | ((state == b'T') | ((state == b'R') | (state == b'F')));
     }
-    (state == b'I') | ((state == b'T') | ((state == b'R') | (state == b'F')))
+    state == b'-'
 }
 
 fn set_there(

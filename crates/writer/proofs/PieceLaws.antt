@@ -1,13 +1,13 @@
 -- Laws of pieces in an output.
 use Prim.Native.Nat.{ℕ, suc, _+_, _-_, _<_, _≤_}
-use mathlib.Core.Path.{_≡_, sym, ap, _∙_}
+use mathlib.Core.Path.{_≡_, _∙_}
 use mathlib.Core.List.{List, [], _∷_, _++_, append-assoc, append-nil}
 use native.Mathlib.Numerals.{add-one}
 use native.Mathlib.Omega.{arith}
 use lib.ListN.{length, take, drop, getD, set, length-drop, length-append, drop-of-length-le}
 use lib.Seq.{take-length, take-suc, drop-cons, set-at, length-take-le, append-snoc, drop-drop, take-append-seam, drop-append-seam, drop-append-add, set-split}
 use Rattle.writer.specs.Pieces.{lead, overlay}
-use Rattle.xliff.proofs.lists.Slices.{tail-is, tail-room}
+use Rattle.xliff.proofs.lists.Slices.{tail-is}
 
 -- nothing is behind `&s[n..]`
 pub tail-ends : (n : ℕ) (s : List ℕ) → drop (length s - n) (drop n s) ≡ []
@@ -34,25 +34,9 @@ two-back out a b xs ys n e f g =
     tail-back xs b ys n g
     ∙ rw (e, f, take-append-seam, drop-append-seam, drop-drop, length-append, append-assoc)
 
--- three pieces
-pub three-back : (o a b c l y z : List ℕ) (n e : ℕ) → n ≡ length a → l ≡ lead a o → y ≡ lead b (take (length l - n) (drop n l)) → e ≡ n + length b
-    → z ≡ lead c (take (length (take n l ++ (y ++ drop (length l - n) (drop n l))) - e) (drop e (take n l ++ (y ++ drop (length l - n) (drop n l)))))
-    → take e (take n l ++ (y ++ drop (length l - n) (drop n l))) ++ (z ++ drop (length (take n l ++ (y ++ drop (length l - n) (drop n l))) - e) (drop e (take n l ++ (y ++ drop (length l - n) (drop n l)))))
-    ≡ lead ((a ++ b) ++ c) o
-three-back o a b c l y z n e h k u v w =
-    two-back o (a ++ b) c (take n l ++ (y ++ drop (length l - n) (drop n l))) z e
-    (v ∙ ap (λ (m : ℕ). m + length b) h ∙ sym (length-append a b)) (two-back o a b l y n h k u) w
-
+-- the output keeps its length
 pub lead-length : (a o : List ℕ) → length a ≤ length o → length (lead a o) ≡ length o
 lead-length a o h = omega (arith, length-append a (drop (length a) o), length-drop (length a) o)
-
--- and room for the third
-pub three-room : (o a b l y : List ℕ) (n e m : ℕ) → n ≡ length a → l ≡ lead a o → y ≡ lead b (take (length l - n) (drop n l)) → e ≡ n + length b → e + m ≤ length o
-    → m ≤ length (take (length (take n l ++ (y ++ drop (length l - n) (drop n l))) - e) (drop e (take n l ++ (y ++ drop (length l - n) (drop n l)))))
-three-room o a b l y n e m h k u v w =
-    let x : length (take n l ++ (y ++ drop (length l - n) (drop n l))) ≡ length o =
-    ap length (two-back o a b l y n h k u) ∙ lead-length (a ++ b) o (omega (arith, length-append a b)) in
-    tail-room (take n l ++ (y ++ drop (length l - n) (drop n l))) e m (omega arith)
 
 -- a piece written directly behind what stands at the head
 pub over-lead : (out p q l : List ℕ) (at : ℕ) → l ≡ lead p out → at ≡ length p → overlay l at q ≡ lead (p ++ q) out

@@ -1,15 +1,8 @@
-use Rattle.halves_of_part.proofs.PartLaws.{present, absent-first, target-first, as-tail}
-use Rattle.xliff.proofs.lists.Slices.{tail-room}
-use Rattle.writer.proofs.PieceLaws.{two-back}
-use Rattle.writer.specs.Pieces.{lead}
-use Rattle.xliff.specs.Split.{first-items}
-use Rattle.xliff.specs.Encode.{content-bytes}
-use mathlib.Core.List.{List}
-use mathlib.Core.Path.{sym, _∙_, ap}
-use Prim.Native.Nat.{ℕ, _-_}
+use Rattle.halves_of_part.proofs.PartLaws.{no-first, target-first, room-of-head}
+use Rattle.part_contents.proofs.TargetLaws.{present}
+use Rattle.writer.proofs.RunLaws.{first-room, second-start, second-room, two-fit, both-wrote}
 use native.Mathlib.Omega.{arith}
-use lib.Seq.{length-take-le}
-use lib.ListN.{length, take, length-append}
+use mathlib.Core.Path.{refl}
 use borrow.Author.Needs.{needs}
 use Rattle.halves_of_part.proofs.put_target_first.Statement.{statement}
 use Rattle.halves_of_part.proofs.put_target_first.Tie as tie
@@ -18,34 +11,27 @@ use Rattle.halves_of_part.proofs.put_target_first.Tie as tie
 returns : tie.Need-returns
 returns c =
     let args = c .before .before .before .args in
-    λ g is.
-    let e = absent-first (args .t .now) (args .k) g (c .if1 .taken) is in
-    (sym (ap length e), sym (ap (λ (l : List ℕ). lead l (args .out .now)) e))
+    λ g is. no-first (args .t .now) (args .k) (args .out .now) g (c .if1 .taken) is
 
--- src/lib.rt:14:30
-slice-aggregate-put : tie.Need-slice-aggregate-put
-slice-aggregate-put c =
-    let start = c .before .before .before .before .before in
-    let t = start .args .t .now in
-    let (g, is, room) = start .pre in
-    let p = present t g (c .before .before .if1 .left) is in
-    let t4 = length-take-le 4 t (p .least) in
-    sym t4
+-- src/lib.rt:14:41
+order-of-requires : tie.Need-order-of-requires
+order-of-requires c κs =
+    let start = c .before .before .before .before in
+    let (g, is, rises, room) = start .pre in
+    let p = present (start .args .t .now) g (c .before .if1 .left) is in
+    p .least
 
 -- src/lib.rt:14:9
-put-requires : tie.Need-put-requires
-put-requires c κs =
+put-target-head-requires : tie.Need-put-target-head-requires
+put-target-head-requires c κs =
     let start = c .before .before .before .before .before in
     let args = start .args in
     let t = args .t .now in
-    let k = args .k in
-    let (g, is, room) = start .pre in
+    let out = args .out .now in
+    let (g, is, rises, room) = start .pre in
     let p = present t g (c .before .before .if1 .left) is in
-    let e = target-first t k g p in
-    let l = ap length e in
-    let a = length-append (take 4 t) (content-bytes (first-items k (p .items))) in
-    let t4 = length-take-le 4 t (p .least) in
-    omega arith
+    room-of-head (c .order-of .result) out
+    (first-room (target-first t g p (args .k) (c .order-of .result) (c .order-of .ensures)) out room)
 
 -- src/lib.rt:15:28
 sub-put-first : tie.Need-sub-put-first
@@ -54,15 +40,12 @@ sub-put-first c =
     let start = after-if1 .before .before .before in
     let args = start .args in
     let t = args .t .now in
-    let k = args .k in
     let if1 = after-if1 .if1 in
-    let (g, is, room) = start .pre in
+    let order-of = c .before .before .before .order-of in
+    let (g, is, rises, room) = start .pre in
     let p = present t g (if1 .left) is in
-    let e = target-first t k g p in
-    let l = ap length e in
-    let a = length-append (take 4 t) (content-bytes (first-items k (p .items))) in
-    let t4 = length-take-le 4 t (p .least) in
-    omega (arith, c .before .before .put .ensures .0)
+    second-start (target-first t g p (args .k) (order-of .result) (order-of .ensures)) (args .out .now) room
+    (c .before .before .put-target-head .ensures)
 
 -- src/lib.rt:15:28
 part-put-first-start : tie.Need-part-put-first-start
@@ -71,15 +54,12 @@ part-put-first-start c =
     let start = after-if1 .before .before .before in
     let args = start .args in
     let t = args .t .now in
-    let k = args .k in
     let if1 = after-if1 .if1 in
-    let (g, is, room) = start .pre in
+    let order-of = c .before .before .before .order-of in
+    let (g, is, rises, room) = start .pre in
     let p = present t g (if1 .left) is in
-    let e = target-first t k g p in
-    let l = ap length e in
-    let a = length-append (take 4 t) (content-bytes (first-items k (p .items))) in
-    let t4 = length-take-le 4 t (p .least) in
-    omega (arith, c .before .before .put .ensures .0)
+    second-start (target-first t g p (args .k) (order-of .result) (order-of .ensures)) (args .out .now) room
+    (c .before .before .put-target-head .ensures)
 
 -- src/lib.rt:15:43
 sub-put-first-2 : tie.Need-sub-put-first-2
@@ -87,7 +67,7 @@ sub-put-first-2 c =
     let after-if1 = c .before .before .before .before .before .before in
     let start = after-if1 .before .before .before in
     let if1 = after-if1 .if1 in
-    let (g, is, room) = start .pre in
+    let (g, is, rises, room) = start .pre in
     let p = present (start .args .t .now) g (if1 .left) is in
     p .least
 
@@ -96,91 +76,68 @@ part-put-first-start-2 : tie.Need-part-put-first-start-2
 part-put-first-start-2 c =
     let after-if1 = c .before .before .before .before .before .before in
     let start = after-if1 .before .before .before in
-    let args = start .args in
-    let t = args .t .now in
-    let k = args .k in
     let if1 = after-if1 .if1 in
-    let (g, is, room) = start .pre in
-    let p = present t g (if1 .left) is in
-    let e = target-first t k g p in
-    let l = ap length e in
-    let a = length-append (take 4 t) (content-bytes (first-items k (p .items))) in
-    let t4 = length-take-le 4 t (p .least) in
+    let (g, is, rises, room) = start .pre in
+    let p = present (start .args .t .now) g (if1 .left) is in
     omega (arith, p .least)
 
 -- src/lib.rt:15:9
 put-first-requires : tie.Need-put-first-requires
 put-first-requires c κs =
-    let after-if1 = c .before .before .before .before .before .before .before in
-    let start = after-if1 .before .before .before in
+    let after-order-of = c .before .before .before .before .before in
+    let start = after-order-of .before .before .before .before .before in
     let args = start .args in
     let t = args .t .now in
-    let k = args .k in
-    let if1 = after-if1 .if1 in
-    let put = c .before .before .before .before .put in
-    let (g, is, room) = start .pre in
-    let p = present t g (if1 .left) is in
-    let the-content-bytes = content-bytes (first-items k (p .items)) in
-    let e = target-first t k g p in
-    let l = ap length e in
-    let a = length-append (take 4 t) the-content-bytes in
-    let t4 = length-take-le 4 t (p .least) in (
+    let if1 = after-order-of .before .before .if1 in
+    let order-of = after-order-of .order-of in
+    let put-target-head = c .before .before .before .before .put-target-head in
+    let (g, is, rises, room) = start .pre in
+    let p = present t g (if1 .left) is in (
       p .items,
-      as-tail t 4 (p .items) (p .holds),
-      tail-room (put .last .0) (put .result) (length the-content-bytes) (omega (arith, put .ensures .0)),
+      p .holds,
+      second-room (target-first t g p (args .k) (order-of .result) (order-of .ensures)) (args .out .now) room
+          (put-target-head .ensures),
     )
 
 -- src/lib.rt:16:5
 add-result : tie.Need-add-result
 add-result c =
-    let after-put = c .before .before .before .before .before .before .before in
-    let start = after-put .before .before .before .before .before .before in
+    let after-put-target-head = c .before .before .before .before .before .before .before in
+    let start = after-put-target-head .before .before .before .before .before .before in
     let args = start .args in
     let t = args .t .now in
-    let k = args .k in
-    let if1 = after-put .before .before .before .if1 in
-    let put = after-put .put in
-    let (g, is, room) = start .pre in
+    let if1 = after-put-target-head .before .before .before .if1 in
+    let order-of = after-put-target-head .before .order-of in
+    let put-target-head = after-put-target-head .put-target-head in
+    let (g, is, rises, room) = start .pre in
     let p = present t g (if1 .left) is in
-    let e = target-first t k g p in
-    let l = ap length e in
-    let a = length-append (take 4 t) (content-bytes (first-items k (p .items))) in
-    let t4 = length-take-le 4 t (p .least) in
-    let m = c .before .before .put-first .ensures (p .items) (as-tail t 4 (p .items) (p .holds)) in
-    omega (arith, put .ensures .0, m .0)
+    omega (
+      arith,
+      two-fit (target-first t g p (args .k) (order-of .result) (order-of .ensures)) (args .out .now) room
+          (put-target-head .ensures) (c .before .before .put-first .ensures (p .items) (p .holds)),
+    )
 
 -- src/lib.rt:7:1
 returns-2 : tie.Need-returns-2
 returns-2 c =
-    let after-put = c .before .before .before .before .before .before .before in
-    let args = after-put .before .before .before .before .before .before .args in
+    let after-put-target-head = c .before .before .before .before .before .before .before in
+    let args = after-put-target-head .before .before .before .before .before .before .args in
     let t = args .t .now in
-    let k = args .k in
-    let out = args .out .now in
-    let if1 = after-put .before .before .before .if1 in
-    let put = after-put .put in
-    let put-first = c .before .before .put-first in
+    let if1 = after-put-target-head .before .before .before .if1 in
+    let order-of = after-put-target-head .before .order-of in
+    let put-target-head = after-put-target-head .put-target-head in
     λ g is.
     let p = present t g (if1 .left) is in
-    let the-content-bytes = content-bytes (first-items k (p .items)) in
-    let e = target-first t k g p in
-    let l = ap length e in
-    let a = length-append (take 4 t) the-content-bytes in
-    let t4 = length-take-le 4 t (p .least) in
-    let m = put-first .ensures (p .items) (as-tail t 4 (p .items) (p .holds)) in (
-      omega (arith, put .ensures .0, m .0),
-      two-back out (take 4 t) the-content-bytes (put .last .0) (put-first .last .0) (put .result) (put .ensures .0)
-          (put .ensures .1) (m .1)
-          ∙ ap (λ (l : List ℕ). lead l out) (sym e),
-    )
+    both-wrote (target-first t g p (args .k) (order-of .result) (order-of .ensures)) (args .out .now)
+    (put-target-head .ensures) (c .before .before .put-first .ensures (p .items) (p .holds)) refl
 
 pub put-target-first-spec : {M : Type 1} → statement M
 put-target-first-spec =
     tie.close
     (tie.spec
     returns
-    slice-aggregate-put
-    put-requires
+    order-of-requires
+    put-target-head-requires
     sub-put-first
     part-put-first-start
     -- by search: part-put-first-end 15:28

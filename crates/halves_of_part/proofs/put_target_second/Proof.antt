@@ -1,15 +1,9 @@
-use Rattle.halves_of_part.proofs.PartLaws.{present, absent-second, target-second, as-tail, next-head, order-is, next-over}
-use Rattle.xliff.proofs.lists.Slices.{tail-room}
-use Rattle.writer.proofs.PieceLaws.{two-back}
-use Rattle.writer.specs.Pieces.{lead}
-use Rattle.xliff.specs.Split.{second-items}
-use Rattle.xliff.specs.Encode.{content-bytes}
-use mathlib.Core.List.{List}
-use mathlib.Core.Path.{sym, _∙_, ap}
-use Prim.Native.Nat.{ℕ, _-_, _+_, suc}
+use Prim.Native.Nat.{_+_}
+use Rattle.halves_of_part.proofs.PartLaws.{no-second, target-second, order-rises, room-of-head}
+use Rattle.part_contents.proofs.TargetLaws.{present}
+use Rattle.writer.proofs.RunLaws.{first-room, second-start, second-room, two-fit, both-wrote}
 use native.Mathlib.Omega.{arith}
-use lib.Seq.{length-take-le}
-use lib.ListN.{length, length-append}
+use mathlib.Core.Path.{refl}
 use borrow.Author.Needs.{needs}
 use Rattle.halves_of_part.proofs.put_target_second.Statement.{statement}
 use Rattle.halves_of_part.proofs.put_target_second.Tie as tie
@@ -18,234 +12,151 @@ use Rattle.halves_of_part.proofs.put_target_second.Tie as tie
 returns : tie.Need-returns
 returns c =
     let args = c .before .before .before .args in
-    λ g is.
-    let e = absent-second (args .t .now) (args .k) g (c .if1 .taken) is in
-    (sym (ap length e), sym (ap (λ (l : List ℕ). lead l (args .out .now)) e))
+    λ g is. no-second (args .t .now) (args .k) (args .out .now) g (c .if1 .taken) is
 
--- src/lib.rt:39:30
-slice-aggregate-put : tie.Need-slice-aggregate-put
-slice-aggregate-put c =
-    let start = c .before .before .before .before .before in
-    let t = start .args .t .now in
-    let (g, is, room) = start .pre in
-    let p = present t g (c .before .before .if1 .left) is in
-    let t4 = length-take-le 4 t (p .least) in
-    sym t4
+-- src/lib.rt:39:41
+order-of-requires : tie.Need-order-of-requires
+order-of-requires c κs =
+    let start = c .before .before .before .before in
+    let (g, is, rises, room) = start .pre in
+    let p = present (start .args .t .now) g (c .before .if1 .left) is in
+    p .least
 
--- src/lib.rt:39:9
-put-requires : tie.Need-put-requires
-put-requires c κs =
+-- src/lib.rt:39:41
+add-put-target-head : tie.Need-add-put-target-head
+add-put-target-head c =
     let start = c .before .before .before .before .before in
     let args = start .args in
     let t = args .t .now in
-    let k = args .k in
-    let (g, is, room) = start .pre in
+    let (g, is, rises, room) = start .pre in
     let p = present t g (c .before .before .if1 .left) is in
-    let e = target-second t k g p in
-    let l = ap length e in
-    let a = length-append (next-head (suc (p .order))) (content-bytes (second-items k (p .items))) in
-    let t4 = length-take-le 4 t (p .least) in
-    omega arith
+    omega (arith, order-rises t g p (args .k) (c .order-of .result) (c .order-of .ensures) rises)
 
--- src/lib.rt:40:40
-number-of-requires : tie.Need-number-of-requires
-number-of-requires c κs =
+-- src/lib.rt:39:9
+put-target-head-requires : tie.Need-put-target-head-requires
+put-target-head-requires c κs =
+    let start = c .before .before .before .before .before in
+    let args = start .args in
+    let t = args .t .now in
+    let out = args .out .now in
+    let (g, is, rises, room) = start .pre in
+    let p = present t g (c .before .before .if1 .left) is in
+    room-of-head (c .order-of .result + 1) out
+    (first-room (target-second t g p (args .k) (c .order-of .result) (c .order-of .ensures)) out room)
+
+-- src/lib.rt:40:29
+sub-put-second : tie.Need-sub-put-second
+sub-put-second c =
+    let after-if1 = c .before .before .before .before .before in
+    let start = after-if1 .before .before .before in
+    let args = start .args in
+    let t = args .t .now in
+    let if1 = after-if1 .if1 in
+    let order-of = c .before .before .before .order-of in
+    let (g, is, rises, room) = start .pre in
+    let p = present t g (if1 .left) is in
+    second-start (target-second t g p (args .k) (order-of .result) (order-of .ensures)) (args .out .now) room
+    (c .before .before .put-target-head .ensures)
+
+-- src/lib.rt:40:29
+part-put-second-start : tie.Need-part-put-second-start
+part-put-second-start c =
+    let after-if1 = c .before .before .before .before .before in
+    let start = after-if1 .before .before .before in
+    let args = start .args in
+    let t = args .t .now in
+    let if1 = after-if1 .if1 in
+    let order-of = c .before .before .before .order-of in
+    let (g, is, rises, room) = start .pre in
+    let p = present t g (if1 .left) is in
+    second-start (target-second t g p (args .k) (order-of .result) (order-of .ensures)) (args .out .now) room
+    (c .before .before .put-target-head .ensures)
+
+-- src/lib.rt:40:44
+sub-put-second-2 : tie.Need-sub-put-second-2
+sub-put-second-2 c =
     let after-if1 = c .before .before .before .before .before .before in
     let start = after-if1 .before .before .before in
     let if1 = after-if1 .if1 in
-    let (g, is, room) = start .pre in
+    let (g, is, rises, room) = start .pre in
     let p = present (start .args .t .now) g (if1 .left) is in
     p .least
 
--- src/lib.rt:40:40
-add-put-number : tie.Need-add-put-number
-add-put-number c =
-    let after-if1 = c .before .before .before .before .before .before .before in
-    let start = after-if1 .before .before .before in
-    let args = start .args in
-    let t = args .t .now in
-    let k = args .k in
-    let if1 = after-if1 .if1 in
-    let (g, is, room) = start .pre in
-    let p = present t g (if1 .left) is in
-    let e = target-second t k g p in
-    let l = ap length e in
-    let a = length-append (next-head (suc (p .order))) (content-bytes (second-items k (p .items))) in
-    let t4 = length-take-le 4 t (p .least) in
-    let nn = c .number-of .ensures ∙ order-is t g p in
-    omega (arith, p .small)
-
--- src/lib.rt:40:9
-put-number-requires : tie.Need-put-number-requires
-put-number-requires c κs =
-    let after-if1 = c .before .before .before .before .before .before .before in
-    let start = after-if1 .before .before .before in
-    let args = start .args in
-    let t = args .t .now in
-    let k = args .k in
-    let if1 = after-if1 .if1 in
-    let (g, is, room) = start .pre in
-    let p = present t g (if1 .left) is in
-    let e = target-second t k g p in
-    let l = ap length e in
-    let a = length-append (next-head (suc (p .order))) (content-bytes (second-items k (p .items))) in
-    let t4 = length-take-le 4 t (p .least) in
-    omega arith
-
--- src/lib.rt:41:29
-sub-put-second : tie.Need-sub-put-second
-sub-put-second c =
-    let after-put = c .before .before .before .before .before .before .before in
-    let start = after-put .before .before .before .before .before .before in
-    let args = start .args in
-    let t = args .t .now in
-    let k = args .k in
-    let if1 = after-put .before .before .before .if1 in
-    let put = after-put .put in
-    let (g, is, room) = start .pre in
-    let p = present t g (if1 .left) is in
-    let e = target-second t k g p in
-    let l = ap length e in
-    let a = length-append (next-head (suc (p .order))) (content-bytes (second-items k (p .items))) in
-    let t4 = length-take-le 4 t (p .least) in
-    omega (arith, put .ensures .0)
-
--- src/lib.rt:41:29
-part-put-second-start : tie.Need-part-put-second-start
-part-put-second-start c =
-    let after-put = c .before .before .before .before .before .before .before in
-    let start = after-put .before .before .before .before .before .before in
-    let args = start .args in
-    let t = args .t .now in
-    let k = args .k in
-    let if1 = after-put .before .before .before .if1 in
-    let put = after-put .put in
-    let (g, is, room) = start .pre in
-    let p = present t g (if1 .left) is in
-    let e = target-second t k g p in
-    let l = ap length e in
-    let a = length-append (next-head (suc (p .order))) (content-bytes (second-items k (p .items))) in
-    let t4 = length-take-le 4 t (p .least) in
-    omega (arith, put .ensures .0)
-
--- src/lib.rt:41:44
-sub-put-second-2 : tie.Need-sub-put-second-2
-sub-put-second-2 c =
-    let after-if1 = c .before .before .before .before .before .before .before .before .before .before .before in
-    let start = after-if1 .before .before .before in
-    let if1 = after-if1 .if1 in
-    let (g, is, room) = start .pre in
-    let p = present (start .args .t .now) g (if1 .left) is in
-    p .least
-
--- src/lib.rt:41:44
+-- src/lib.rt:40:44
 part-put-second-start-2 : tie.Need-part-put-second-start-2
 part-put-second-start-2 c =
-    let after-if1 = c .before .before .before .before .before .before .before .before .before .before .before in
+    let after-if1 = c .before .before .before .before .before .before in
     let start = after-if1 .before .before .before in
-    let args = start .args in
-    let t = args .t .now in
-    let k = args .k in
     let if1 = after-if1 .if1 in
-    let (g, is, room) = start .pre in
-    let p = present t g (if1 .left) is in
-    let e = target-second t k g p in
-    let l = ap length e in
-    let a = length-append (next-head (suc (p .order))) (content-bytes (second-items k (p .items))) in
-    let t4 = length-take-le 4 t (p .least) in
+    let (g, is, rises, room) = start .pre in
+    let p = present (start .args .t .now) g (if1 .left) is in
     omega (arith, p .least)
 
--- src/lib.rt:41:9
+-- src/lib.rt:40:9
 put-second-requires : tie.Need-put-second-requires
 put-second-requires c κs =
-    let after-put = c .before .before .before .before .before .before .before .before .before in
-    let start = after-put .before .before .before .before .before .before in
+    let after-order-of = c .before .before .before .before .before in
+    let start = after-order-of .before .before .before .before .before in
     let args = start .args in
     let t = args .t .now in
-    let k = args .k in
-    let if1 = after-put .before .before .before .if1 in
-    let put = after-put .put in
-    let put-number = c .before .before .before .before .put-number in
-    let (g, is, room) = start .pre in
-    let p = present t g (if1 .left) is in
-    let the-content-bytes = content-bytes (second-items k (p .items)) in
-    let e = target-second t k g p in
-    let l = ap length e in
-    let a = length-append (next-head (suc (p .order))) the-content-bytes in
-    let t4 = length-take-le 4 t (p .least) in (
+    let if1 = after-order-of .before .before .if1 in
+    let order-of = after-order-of .order-of in
+    let put-target-head = c .before .before .before .before .put-target-head in
+    let (g, is, rises, room) = start .pre in
+    let p = present t g (if1 .left) is in (
       p .items,
-      as-tail t 4 (p .items) (p .holds),
-      tail-room (put-number .last .0) (put .result) (length the-content-bytes) (omega (arith, put .ensures .0)),
+      p .holds,
+      second-room (target-second t g p (args .k) (order-of .result) (order-of .ensures)) (args .out .now) room
+          (put-target-head .ensures),
     )
 
--- src/lib.rt:42:5
+-- src/lib.rt:41:5
 add-result : tie.Need-add-result
 add-result c =
-    let after-put = c .before .before .before .before .before .before .before .before .before .before .before
-    .before in
-    let start = after-put .before .before .before .before .before .before in
+    let after-put-target-head = c .before .before .before .before .before .before .before in
+    let start = after-put-target-head .before .before .before .before .before .before in
     let args = start .args in
     let t = args .t .now in
-    let k = args .k in
-    let if1 = after-put .before .before .before .if1 in
-    let put = after-put .put in
-    let (g, is, room) = start .pre in
+    let if1 = after-put-target-head .before .before .before .if1 in
+    let order-of = after-put-target-head .before .order-of in
+    let put-target-head = after-put-target-head .put-target-head in
+    let (g, is, rises, room) = start .pre in
     let p = present t g (if1 .left) is in
-    let e = target-second t k g p in
-    let l = ap length e in
-    let a = length-append (next-head (suc (p .order))) (content-bytes (second-items k (p .items))) in
-    let t4 = length-take-le 4 t (p .least) in
-    let m = c .before .before .put-second .ensures (p .items) (as-tail t 4 (p .items) (p .holds)) in
-    omega (arith, put .ensures .0, m .0)
+    omega (
+      arith,
+      two-fit (target-second t g p (args .k) (order-of .result) (order-of .ensures)) (args .out .now) room
+          (put-target-head .ensures) (c .before .before .put-second .ensures (p .items) (p .holds)),
+    )
 
 -- src/lib.rt:32:1
 returns-2 : tie.Need-returns-2
 returns-2 c =
-    let after-put-number = c .before .before .before .before .before .before .before in
-    let after-put = after-put-number .before .before .before .before .before in
-    let args = after-put .before .before .before .before .before .before .args in
+    let after-put-target-head = c .before .before .before .before .before .before .before in
+    let args = after-put-target-head .before .before .before .before .before .before .args in
     let t = args .t .now in
-    let k = args .k in
-    let out = args .out .now in
-    let if1 = after-put .before .before .before .if1 in
-    let put = after-put .put in
-    let number-of = after-put-number .before .number-of in
-    let put-number = after-put-number .put-number in
-    let put-second = c .before .before .put-second in
+    let if1 = after-put-target-head .before .before .before .if1 in
+    let order-of = after-put-target-head .before .order-of in
+    let put-target-head = after-put-target-head .put-target-head in
     λ g is.
     let p = present t g (if1 .left) is in
-    let the-content-bytes = content-bytes (second-items k (p .items)) in
-    let e = target-second t k g p in
-    let l = ap length e in
-    let a = length-append (next-head (suc (p .order))) the-content-bytes in
-    let t4 = length-take-le 4 t (p .least) in
-    let nn = number-of .ensures ∙ order-is t g p in
-    let m = put-second .ensures (p .items) (as-tail t 4 (p .items) (p .holds)) in (
-      omega (arith, put .ensures .0, m .0),
-      two-back out (next-head (suc (p .order))) the-content-bytes (put-number .last .0) (put-second .last .0)
-          (put .result) (put .ensures .0 ∙ t4)
-          (next-over t g p out (put .last .0) (put-number .last .0) (number-of .result + 1) (omega arith)
-          (put .ensures .1) (put-number .ensures .1)) (m .1)
-          ∙ ap (λ (l : List ℕ). lead l out) (sym e),
-    )
+    both-wrote (target-second t g p (args .k) (order-of .result) (order-of .ensures)) (args .out .now)
+    (put-target-head .ensures) (c .before .before .put-second .ensures (p .items) (p .holds)) refl
 
 pub put-target-second-spec : {M : Type 1} → statement M
 put-target-second-spec =
     tie.close
     (tie.spec
     returns
-    slice-aggregate-put
-    put-requires
-    number-of-requires
-    add-put-number
-    put-number-requires
+    order-of-requires
+    add-put-target-head
+    put-target-head-requires
     sub-put-second
     part-put-second-start
-    -- by search: part-put-second-end 41:29
+    -- by search: part-put-second-end 40:29
     (λ c. search needs)
     sub-put-second-2
     part-put-second-start-2
-    -- by search: part-put-second-end-2 41:44
+    -- by search: part-put-second-end-2 40:44
     (λ c. search needs)
     put-second-requires
     add-result

@@ -1,192 +1,227 @@
-use Rattle.joined_part.proofs.HeadLaws.{two-ignorables, segment-second, segment-first, two-segments, is-six}
-use Rattle.joined_part.specs.Heads.{segmentWith}
-use Rattle.writer.specs.Pieces.{lead}
-use Rattle.xliff.specs.Join.{earliest, dash}
-use lib.Dec.{eqb}
-use lib.ListN.{length, getD}
+use Rattle.joined_part.proofs.HeadLaws.{both-segments, first-segment, second-segment, no-segment, segment-room, segment-wrote}
+use Rattle.heads.proofs.HeadLaws.{some-segment}
+use Rattle.writer.specs.Pieces.{Written}
+use Rattle.xliff.specs.Encode.{head-bytes}
 use native.Mathlib.Omega.{arith}
-use mathlib.Core.Path.{sym, _∙_, ap, ap₂}
+use lib.ListN.{length}
 use mathlib.Core.List.{List}
-use mathlib.Core.Bool.{_&&_}
+use mathlib.Core.Path.{sym, ap, subst, _∙_}
 use Prim.Native.Nat.{ℕ}
 use borrow.Author.Needs.{needs}
 use Rattle.joined_part.proofs.put_joined_head.Statement.{statement}
 use Rattle.joined_part.proofs.put_joined_head.Tie as tie
 
--- src/lib.rt:55:13
-put-requires : tie.Need-put-requires
-put-requires c κs =
-    let start = c .before .before .before .before .before .before in
-    omega (
-      arith,
-      ap length (two-ignorables (start .args .h .now) (start .args .i .now) (c .before .before .if1 .taken)
-          (c .before .if2 .taken)),
-      start .pre .2,
-    )
+-- src/lib.rt:54:8
+is-segment-requires : tie.Need-is-segment-requires
+is-segment-requires c κs =
+    let pre = c .before .before .before .pre in
+    let (a, b, ea, eb, room) = pre in
+    (a, ea)
 
 -- src/lib.rt:55:13
-returns : tie.Need-returns
-returns c =
-    let after-if1 = c .before .before .before .before .before in
-    let args = after-if1 .before .before .before .before .args in
-    let h = args .h .now in
-    let i = args .i .now in
-    let if1 = after-if1 .if1 in
-    let if2 = c .before .before .before .before .if2 in
-    let the-two-ignorables = two-ignorables h i (if1 .taken) (if2 .taken) in
-    let put = c .before .before .put in (
-      put .ensures .0 ∙ ap length (sym the-two-ignorables),
-      put .ensures .1 ∙ ap (λ (l : List ℕ). lead l (args .out .now)) (sym the-two-ignorables),
-    )
+segment-of-requires : tie.Need-segment-of-requires
+segment-of-requires c κs =
+    let start = c .before .before .before .before .before in
+    let (a, b, ea, eb, room) = start .pre in
+    some-segment (start .args .h .now) a ea (sym (c .before .is-segment .ensures a ea) ∙ c .if1 .taken)
 
--- src/lib.rt:57:9
+-- src/lib.rt:56:12
+is-segment-requires-2 : tie.Need-is-segment-requires-2
+is-segment-requires-2 c κs =
+    let pre = c .before .before .before .before .before .before .pre in
+    let (a, b, ea, eb, room) = pre in
+    (b, eb)
+
+-- src/lib.rt:57:17
+segment-of-requires-2 : tie.Need-segment-of-requires-2
+segment-of-requires-2 c κs =
+    let start = c .before .before .before .before .before .before .before .before in
+    let (a, b, ea, eb, room) = start .pre in
+    some-segment (start .args .i .now) b eb (sym (c .before .is-segment2 .ensures b eb) ∙ c .if2 .taken)
+
+-- src/lib.rt:58:13
 put-segment-requires : tie.Need-put-segment-requires
 put-segment-requires c κs =
-    let after-if1 = c .before .before .before .before .before in
-    let start = after-if1 .before .before .before .before in
+    let after-segment-of = c .before .before .before .before .before in
+    let start = after-segment-of .before .before .before .before .before .before in
     let args = start .args in
-    let h = args .h .now in
-    let i = args .i .now in
-    let pre = start .pre in
-    let if1 = after-if1 .if1 in
-    let if2 = c .before .before .before .before .if2 in (
-      pre .1,
-      omega (
-        arith,
-        is-six h i i (dash (eqb (getD i 4 0) 45)) (getD i 5 0) (pre .1)
-            (segment-second h i (if1 .taken) (if2 .left)),
-        pre .2,
-      ),
-    )
+    let is-segment = after-segment-of .before .before .is-segment in
+    let if1 = after-segment-of .before .if1 in
+    let segment-of = after-segment-of .segment-of in
+    let is-segment2 = c .before .before .before .before .is-segment2 in
+    let if2 = c .before .before .before .if2 in
+    let segment-of2 = c .before .before .segment-of2 in
+    let (a, b, ea, eb, room) = start .pre in
+    segment-room a b (c .joined-segment .result)
+    (both-segments (args .h .now) (args .i .now) a b ea eb (sym (is-segment .ensures a ea) ∙ if1 .taken)
+    (sym (is-segment2 .ensures b eb) ∙ if2 .taken) (segment-of .result) (segment-of2 .result)
+    (c .joined-segment .result) (segment-of .ensures) (segment-of2 .ensures) (c .joined-segment .ensures))
+    (args .out .now) room
 
--- src/lib.rt:57:9
-returns-2 : tie.Need-returns-2
-returns-2 c =
-    let after-if2 = c .before .before .before .before .before .before .before in
-    let start = after-if2 .before .before .before .before .before in
-    let args = start .args in
-    let h = args .h .now in
-    let i = args .i .now in
-    let if1 = after-if2 .before .if1 in
-    let if2 = after-if2 .if2 in
-    let the-segment-second = segment-second h i (if1 .taken) (if2 .left) in
-    let dash-if = c .before .before .before .before .dash-if in
-    let put-segment = c .before .before .put-segment in (
-      put-segment .ensures .0
-          ∙ sym (is-six h i i (dash (eqb (getD i 4 0) 45)) (getD i 5 0) (start .pre .1) the-segment-second),
-      put-segment .ensures .1
-          ∙ ap (λ (l : List ℕ). lead l (args .out .now))
-          (ap (λ (k : ℕ). segmentWith i k (getD i 5 0)) (dash-if .ensures) ∙ sym the-segment-second),
-    )
+-- src/lib.rt:58:13
+returns : tie.Need-returns
+returns c =
+    let after-segment-of2 = c .before .before .before .before .before in
+    let after-is-segment = after-segment-of2 .before .before .before .before .before in
+    let args = after-is-segment .before .before .before .before .args in
+    let is-segment = after-is-segment .is-segment in
+    let if1 = after-segment-of2 .before .before .before .before .if1 in
+    let segment-of = after-segment-of2 .before .before .before .segment-of in
+    let is-segment2 = after-segment-of2 .before .before .is-segment2 in
+    let if2 = after-segment-of2 .before .if2 in
+    let segment-of2 = after-segment-of2 .segment-of2 in
+    let joined-segment = c .before .before .before .joined-segment in
+    let put-segment = c .before .before .put-segment in
+    λ a b ea eb.
+    segment-wrote a b (joined-segment .result)
+    (both-segments (args .h .now) (args .i .now) a b ea eb (sym (is-segment .ensures a ea) ∙ if1 .taken)
+    (sym (is-segment2 .ensures b eb) ∙ if2 .taken) (segment-of .result) (segment-of2 .result)
+    (joined-segment .result) (segment-of .ensures) (segment-of2 .ensures) (joined-segment .ensures))
+    (args .out .now) (put-segment .last .0) (put-segment .result) (put-segment .ensures)
 
 -- src/lib.rt:60:9
 put-segment-requires-2 : tie.Need-put-segment-requires-2
 put-segment-requires-2 c κs =
     let after-if1 = c .before .before .before .before .before in
-    let start = after-if1 .before .before .before .before in
+    let start = after-if1 .before .before .before .before .before in
     let args = start .args in
-    let h = args .h .now in
-    let i = args .i .now in
-    let pre = start .pre in
+    let is-segment = after-if1 .before .is-segment in
     let if1 = after-if1 .if1 in
-    let if3 = c .before .before .before .before .if3 in (
-      pre .0,
-      omega (
-        arith,
-        is-six h i h (dash (eqb (getD h 4 0) 45)) (getD h 5 0) (pre .0)
-            (segment-first h i (if1 .left) (if3 .taken)),
-        pre .2,
-      ),
-    )
+    let segment-of = c .before .before .before .before .segment-of in
+    let is-segment2 = c .before .before .before .is-segment2 in
+    let (a, b, ea, eb, room) = start .pre in
+    segment-room a b (c .joined-segment2 .result)
+    (first-segment (args .h .now) (args .i .now) a b ea (sym (is-segment .ensures a ea) ∙ if1 .taken)
+    (sym (is-segment2 .ensures b eb) ∙ c .before .before .if2 .left) (segment-of .result)
+    (c .joined-segment2 .result) (segment-of .ensures) (c .joined-segment2 .ensures)) (args .out .now) room
 
 -- src/lib.rt:60:9
-returns-3 : tie.Need-returns-3
-returns-3 c =
-    let after-if3 = c .before .before .before .before .before .before .before in
-    let start = after-if3 .before .before .before .before .before in
-    let args = start .args in
-    let h = args .h .now in
-    let i = args .i .now in
-    let if1 = after-if3 .before .if1 in
-    let if3 = after-if3 .if3 in
-    let the-segment-first = segment-first h i (if1 .left) (if3 .taken) in
-    let dash-if2 = c .before .before .before .before .dash-if2 in
-    let put-segment2 = c .before .before .put-segment2 in (
-      put-segment2 .ensures .0
-          ∙ sym (is-six h i h (dash (eqb (getD h 4 0) 45)) (getD h 5 0) (start .pre .0) the-segment-first),
-      put-segment2 .ensures .1
-          ∙ ap (λ (l : List ℕ). lead l (args .out .now))
-          (ap (λ (k : ℕ). segmentWith h k (getD h 5 0)) (dash-if2 .ensures) ∙ sym the-segment-first),
-    )
+returns-2 : tie.Need-returns-2
+returns-2 c =
+    let after-if2 = c .before .before .before .before .before in
+    let args = after-if2 .before .before .before .before .before .before .before .before .args in
+    let is-segment = after-if2 .before .before .before .before .is-segment in
+    let if1 = after-if2 .before .before .before .if1 in
+    let segment-of = after-if2 .before .before .segment-of in
+    let is-segment2 = after-if2 .before .is-segment2 in
+    let if2 = after-if2 .if2 in
+    let joined-segment2 = c .before .before .before .joined-segment2 in
+    let put-segment2 = c .before .before .put-segment2 in
+    λ a b ea eb.
+    segment-wrote a b (joined-segment2 .result)
+    (first-segment (args .h .now) (args .i .now) a b ea (sym (is-segment .ensures a ea) ∙ if1 .taken)
+    (sym (is-segment2 .ensures b eb) ∙ if2 .left) (segment-of .result) (joined-segment2 .result)
+    (segment-of .ensures) (joined-segment2 .ensures)) (args .out .now) (put-segment2 .last .0)
+    (put-segment2 .result) (put-segment2 .ensures)
 
--- src/lib.rt:62:5
+-- src/lib.rt:62:8
+is-segment-requires-3 : tie.Need-is-segment-requires-3
+is-segment-requires-3 c κs =
+    let pre = c .before .before .before .before .before .pre in
+    let (a, b, ea, eb, room) = pre in
+    (b, eb)
+
+-- src/lib.rt:63:13
+segment-of-requires-3 : tie.Need-segment-of-requires-3
+segment-of-requires-3 c κs =
+    let start = c .before .before .before .before .before .before .before in
+    let (a, b, ea, eb, room) = start .pre in
+    some-segment (start .args .i .now) b eb (sym (c .before .is-segment3 .ensures b eb) ∙ c .if3 .taken)
+
+-- src/lib.rt:64:9
 put-segment-requires-3 : tie.Need-put-segment-requires-3
 put-segment-requires-3 c κs =
-    let after-if3 = c .before .before .before .before .before .before .before in
-    let start = after-if3 .before .before .before .before .before in
+    let after-if1 = c .before .before .before .before .before in
+    let start = after-if1 .before .before .before .before .before in
     let args = start .args in
-    let h = args .h .now in
-    let i = args .i .now in
-    let pre = start .pre in
-    let if1 = after-if3 .before .if1 in
-    let if3 = after-if3 .if3 in (
-      pre .0,
-      omega (
-        arith,
-        is-six h i h (dash (eqb (getD h 4 0) 45 && eqb (getD i 4 0) 45)) (earliest (getD h 5 0) (getD i 5 0))
-            (pre .0) (two-segments h i (if1 .left) (if3 .left)),
-        pre .2,
-      ),
+    let is-segment = after-if1 .before .is-segment in
+    let if1 = after-if1 .if1 in
+    let is-segment3 = c .before .before .before .before .is-segment3 in
+    let if3 = c .before .before .before .if3 in
+    let segment-of3 = c .before .before .segment-of3 in
+    let (a, b, ea, eb, room) = start .pre in
+    segment-room a b (c .joined-segment3 .result)
+    (second-segment (args .h .now) (args .i .now) a b eb (sym (is-segment .ensures a ea) ∙ if1 .left)
+    (sym (is-segment3 .ensures b eb) ∙ if3 .taken) (segment-of3 .result) (c .joined-segment3 .result)
+    (segment-of3 .ensures) (c .joined-segment3 .ensures)) (args .out .now) room
+
+-- src/lib.rt:64:9
+returns-3 : tie.Need-returns-3
+returns-3 c =
+    let after-segment-of3 = c .before .before .before .before .before in
+    let args = after-segment-of3 .before .before .before .before .before .before .before .before .args in
+    let is-segment = after-segment-of3 .before .before .before .before .is-segment in
+    let if1 = after-segment-of3 .before .before .before .if1 in
+    let is-segment3 = after-segment-of3 .before .before .is-segment3 in
+    let if3 = after-segment-of3 .before .if3 in
+    let segment-of3 = after-segment-of3 .segment-of3 in
+    let joined-segment3 = c .before .before .before .joined-segment3 in
+    let put-segment3 = c .before .before .put-segment3 in
+    λ a b ea eb.
+    segment-wrote a b (joined-segment3 .result)
+    (second-segment (args .h .now) (args .i .now) a b eb (sym (is-segment .ensures a ea) ∙ if1 .left)
+    (sym (is-segment3 .ensures b eb) ∙ if3 .taken) (segment-of3 .result) (joined-segment3 .result)
+    (segment-of3 .ensures) (joined-segment3 .ensures)) (args .out .now) (put-segment3 .last .0)
+    (put-segment3 .result) (put-segment3 .ensures)
+
+-- src/lib.rt:66:5
+put-requires : tie.Need-put-requires
+put-requires c κs =
+    let start = c .before .before .before .before .before .before .before .before in
+    let is-segment = c .before .before .before .before .is-segment in
+    let if1 = c .before .before .before .if1 in
+    let (a, b, ea, eb, room) = start .pre in
+    omega (
+      arith,
+      ap length (no-segment (start .args .h .now) (start .args .i .now) a b ea
+          (sym (is-segment .ensures a ea) ∙ if1 .left)
+          (sym (c .before .before .is-segment3 .ensures b eb) ∙ c .before .if3 .left)),
     )
 
--- src/lib.rt:49:1
+-- src/lib.rt:50:1
 returns-4 : tie.Need-returns-4
 returns-4 c =
-    let after-dash-if3 = c .before .before .before .before .before .before in
-    let after-if1 = after-dash-if3 .before .before .before .before .before in
-    let start = after-if1 .before .before .before .before in
-    let args = start .args in
-    let h = args .h .now in
-    let i = args .i .now in
-    let if1 = after-if1 .if1 in
-    let if3 = after-dash-if3 .before .before .before .before .if3 in
-    let the-two-segments = two-segments h i (if1 .left) (if3 .left) in
-    let dash-if3 = after-dash-if3 .dash-if3 in
-    let earliest-of = c .before .before .before .earliest-of in
-    let put-segment3 = c .before .before .put-segment3 in (
-      put-segment3 .ensures .0
-          ∙ sym (is-six h i h (dash (eqb (getD h 4 0) 45 && eqb (getD i 4 0) 45))
-          (earliest (getD h 5 0) (getD i 5 0)) (start .pre .0) the-two-segments),
-      put-segment3 .ensures .1
-          ∙ ap (λ (l : List ℕ). lead l (args .out .now))
-          (ap₂ (λ (k m : ℕ). segmentWith h k m) (dash-if3 .ensures) (earliest-of .ensures) ∙ sym the-two-segments),
-    )
+    let after-is-segment3 = c .before .before .before .before .before in
+    let args = after-is-segment3 .before .before .before .before .before .before .args in
+    let is-segment = after-is-segment3 .before .before .is-segment in
+    let if1 = after-is-segment3 .before .if1 in
+    let is-segment3 = after-is-segment3 .is-segment3 in
+    let if3 = c .before .before .before .before .if3 in
+    let put = c .before .before .put in
+    λ a b ea eb.
+    subst (λ (x : List ℕ). Written x (args .out .now) (put .result) (put .last .0))
+    (no-segment (args .h .now) (args .i .now) a b ea (sym (is-segment .ensures a ea) ∙ if1 .left)
+    (sym (is-segment3 .ensures b eb) ∙ if3 .left)) (put .ensures)
 
 pub put-joined-head-spec : {M : Type 1} → statement M
 put-joined-head-spec =
     tie.close
     (tie.spec
-    put-requires
-    -- by search: same-length 55:13
+    is-segment-requires
+    segment-of-requires
+    is-segment-requires-2
+    segment-of-requires-2
+    -- by search: joined-segment-requires 58:44
+    (λ c κs. search needs)
+    put-segment-requires
+    -- by search: same-length 58:13
     (λ c. search needs)
     returns
-    -- by search: shared-slice-read-dash-if 57:44, dash-if-requires 57:36, shared-slice-read-put-segment 57:59
-    (λ c. search needs) (λ c κs. search needs) (λ c. search needs)
-    put-segment-requires
-    -- by search: same-length-2 57:9
+    -- by search: joined-segment-requires-2 60:40
+    (λ c κs. search needs)
+    put-segment-requires-2
+    -- by search: same-length-2 60:9
     (λ c. search needs)
     returns-2
-    -- by search: shared-slice-read-dash-if-2 60:44, dash-if-requires-2 60:36, shared-slice-read-put-segment-2 60:59
-    (λ c. search needs) (λ c κs. search needs) (λ c. search needs)
-    put-segment-requires-2
-    -- by search: same-length-3 60:9
-    (λ c. search needs)
-    returns-3
-    -- by search: shared-slice-read-dash-if-3 65:18, shared-slice-read-dash-if-4 65:35, dash-if-requires-3 65:9,
-    -- shared-slice-read-earliest-of 66:21, shared-slice-read-earliest-of-2 66:27, earliest-of-requires 66:9
-    (λ c. search needs) (λ c. search needs) (λ c κs. search needs) (λ c. search needs) (λ c. search needs)
+    is-segment-requires-3
+    segment-of-requires-3
+    -- by search: joined-segment-requires-3 64:40
     (λ c κs. search needs)
     put-segment-requires-3
-    -- by search: same-length-4 49:1
+    -- by search: same-length-3 64:9
+    (λ c. search needs)
+    returns-3
+    put-requires
+    -- by search: same-length-4 50:1
     (λ c. search needs)
     returns-4)

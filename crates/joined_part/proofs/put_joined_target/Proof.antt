@@ -1,308 +1,276 @@
-use Rattle.joined_part.proofs.TargetLaws.{
-  target-long,
-  renumber-long,
-  no-targets,
-  second-target,
-  first-target,
-  both-targets,
-  both-long,
-  both-room,
-  both-wrote,
-}
-use Rattle.xliff.proofs.lists.Slices.{tail-room}
-use Rattle.writer.proofs.PieceLaws.{two-back}
-use Rattle.writer.specs.Pieces.{lead, overlay, numberBytes}
-use Rattle.xliff.specs.Encode.{content-bytes}
-use lib.Seq.{length-take-le}
-use lib.ListN.{length, take, drop}
+use Rattle.joined_part.proofs.TargetLaws.{neither-wrote, first-alone, second-alone, both-pieces, contents-room, alone-room, alone-wrote, room-of-head}
+use Rattle.joined_part.specs.Joined.{target-bytes}
+use Rattle.part_contents.proofs.TargetLaws.{present}
+use Rattle.writer.specs.Pieces.{rest}
+use Rattle.writer.proofs.RunLaws.{first-room, second-start, second-room, two-fit, both-wrote}
 use native.Mathlib.Omega.{arith}
-use mathlib.Core.Path.{sym, _∙_, ap}
-use mathlib.Core.List.{List, _++_}
-use Prim.Native.Nat.{ℕ, _-_}
+use mathlib.Core.Path.{refl}
 use borrow.Author.Needs.{needs}
 use Rattle.joined_part.proofs.put_joined_target.Statement.{statement}
 use Rattle.joined_part.proofs.put_joined_target.Tie as tie
 
--- src/lib.rt:87:13
+-- src/lib.rt:76:13
 returns : tie.Need-returns
 returns c =
     let args = c .before .before .before .before .before .args in
     λ g k a b.
-    let e = no-targets (args .order) (args .g .now) (args .k .now) g k a b (c .before .if1 .taken)
-    (c .if2 .taken) in
-    (sym (ap length e), sym (ap (λ (l : List ℕ). lead l (args .out .now)) e))
+    neither-wrote (args .order) (args .g .now) (args .k .now) g k a b (c .before .if1 .taken) (c .if2 .taken)
+    (args .out .now)
 
--- src/lib.rt:89:9
+-- src/lib.rt:78:46
+sub-put-target : tie.Need-sub-put-target
+sub-put-target c =
+    let start = c .before .before .before .before .before .before in
+    let (g, k, a, b, small, room) = start .pre in
+    (present (start .args .k .now) k (c .before .if2 .left) b) .least
+
+-- src/lib.rt:78:46
+part-put-target-start : tie.Need-part-put-target-start
+part-put-target-start c =
+    let start = c .before .before .before .before .before .before in
+    let (g, k, a, b, small, room) = start .pre in
+    omega (arith, (present (start .args .k .now) k (c .before .if2 .left) b) .least)
+
+-- src/lib.rt:78:9
 put-target-requires : tie.Need-put-target-requires
 put-target-requires c κs =
-    let start = c .before .before .before .before .before .before in
+    let start = c .before .before .before .before .before .before .before in
     let args = start .args in
-    let k₀ = args .k .now in
     let order = args .order in
-    let if2 = c .before .if2 in
+    let k₀ = args .k .now in
+    let if1 = c .before .before .before .if1 in
     let (g, k, a, b, small, room) = start .pre in
-    let l = target-long k₀ k b (if2 .left) in
-    let e = second-target order (args .g .now) k₀ g k a b (c .before .before .if1 .taken) (if2 .left) in
-    (l, omega (arith, ap length e, renumber-long k₀ order l))
+    alone-room order (rest 4 k₀) (target-bytes order g k)
+    (second-alone order (args .g .now) k₀ g k a b (if1 .taken) (present k₀ k (c .before .before .if2 .left) b))
+    (args .out .now) room
 
--- src/lib.rt:89:9
+-- src/lib.rt:78:9
 returns-2 : tie.Need-returns-2
 returns-2 c =
-    let after-if1 = c .before .before .before .before .before in
-    let args = after-if1 .before .before .before .before .args in
-    let k₀ = args .k .now in
+    let after-if2 = c .before .before .before .before .before in
+    let args = after-if2 .before .before .before .before .before .args in
     let order = args .order in
-    let if1 = after-if1 .if1 in
-    let if2 = c .before .before .before .before .if2 in
+    let k₀ = args .k .now in
+    let if1 = after-if2 .before .if1 in
+    let if2 = after-if2 .if2 in
     let put-target = c .before .before .put-target in
     λ g k a b.
-    let l = target-long k₀ k b (if2 .left) in
-    let e = second-target order (args .g .now) k₀ g k a b (if1 .taken) (if2 .left) in (
-      put-target .ensures .0 ∙ sym (ap length e ∙ renumber-long k₀ order l),
-      put-target .ensures .1 ∙ ap (λ (l : List ℕ). lead l (args .out .now)) (sym e),
-    )
+    alone-wrote order (rest 4 k₀) (target-bytes order g k)
+    (second-alone order (args .g .now) k₀ g k a b (if1 .taken) (present k₀ k (if2 .left) b)) (args .out .now)
+    (put-target .last .0) (put-target .result) (put-target .ensures)
 
--- src/lib.rt:92:9
+-- src/lib.rt:81:46
+sub-put-target-2 : tie.Need-sub-put-target-2
+sub-put-target-2 c =
+    let start = c .before .before .before .before .before .before in
+    let (g, k, a, b, small, room) = start .pre in
+    (present (start .args .g .now) g (c .before .before .if1 .left) a) .least
+
+-- src/lib.rt:81:46
+part-put-target-start-2 : tie.Need-part-put-target-start-2
+part-put-target-start-2 c =
+    let start = c .before .before .before .before .before .before in
+    let (g, k, a, b, small, room) = start .pre in
+    omega (arith, (present (start .args .g .now) g (c .before .before .if1 .left) a) .least)
+
+-- src/lib.rt:81:9
 put-target-requires-2 : tie.Need-put-target-requires-2
 put-target-requires-2 c κs =
-    let start = c .before .before .before .before .before .before in
+    let start = c .before .before .before .before .before .before .before in
     let args = start .args in
-    let g₀ = args .g .now in
     let order = args .order in
-    let if1 = c .before .before .if1 in
+    let g₀ = args .g .now in
+    let if1 = c .before .before .before .if1 in
     let (g, k, a, b, small, room) = start .pre in
-    let l = target-long g₀ g a (if1 .left) in
-    let e = first-target order g₀ (args .k .now) g k a b (if1 .left) (c .before .if3 .taken) in
-    (l, omega (arith, ap length e, renumber-long g₀ order l))
+    alone-room order (rest 4 g₀) (target-bytes order g k)
+    (first-alone order g₀ (args .k .now) g k a b (present g₀ g (if1 .left) a) (c .before .before .if3 .taken))
+    (args .out .now) room
 
--- src/lib.rt:92:9
+-- src/lib.rt:81:9
 returns-3 : tie.Need-returns-3
 returns-3 c =
-    let after-if1 = c .before .before .before .before .before in
-    let args = after-if1 .before .before .before .before .args in
-    let g₀ = args .g .now in
+    let after-if3 = c .before .before .before .before .before in
+    let args = after-if3 .before .before .before .before .before .args in
     let order = args .order in
-    let if1 = after-if1 .if1 in
-    let if3 = c .before .before .before .before .if3 in
+    let g₀ = args .g .now in
+    let if1 = after-if3 .before .if1 in
+    let if3 = after-if3 .if3 in
     let put-target2 = c .before .before .put-target2 in
     λ g k a b.
-    let l = target-long g₀ g a (if1 .left) in
-    let e = first-target order g₀ (args .k .now) g k a b (if1 .left) (if3 .taken) in (
-      put-target2 .ensures .0 ∙ sym (ap length e ∙ renumber-long g₀ order l),
-      put-target2 .ensures .1 ∙ ap (λ (l : List ℕ). lead l (args .out .now)) (sym e),
-    )
+    alone-wrote order (rest 4 g₀) (target-bytes order g k)
+    (first-alone order g₀ (args .k .now) g k a b (present g₀ g (if1 .left) a) (if3 .taken)) (args .out .now)
+    (put-target2 .last .0) (put-target2 .result) (put-target2 .ensures)
 
--- src/lib.rt:94:29
-slice-aggregate-put-target : tie.Need-slice-aggregate-put-target
-slice-aggregate-put-target c =
-    let start = c .before .before .before .before .before .before .before in
-    let g₀ = start .args .g .now in
-    let if1 = c .before .before .before .if1 in
-    let (g, k, a, b, small, room) = start .pre in
-    let lg = target-long g₀ g a (if1 .left) in
-    sym (length-take-le 4 g₀ lg)
-
--- src/lib.rt:94:9
-put-target-requires-3 : tie.Need-put-target-requires-3
-put-target-requires-3 c κs =
-    let start = c .before .before .before .before .before .before .before in
+-- src/lib.rt:83:9
+put-target-head-requires : tie.Need-put-target-head-requires
+put-target-head-requires c κs =
+    let start = c .before .before .before .before .before .before in
     let args = start .args in
-    let g₀ = args .g .now in
-    let k₀ = args .k .now in
-    let order = args .order in
-    let if1 = c .before .before .before .if1 in
-    let if3 = c .before .before .if3 in
-    let (g, k, a, b, small, room) = start .pre in
-    let lg = target-long g₀ g a (if1 .left) in
-    let lk = target-long k₀ k b (if3 .left) in
-    let v = both-targets order g₀ k₀ g k a b (if1 .left) (if3 .left) in
-    let h = both-long order g₀ k₀ g k v lg in
-    let lt = length-take-le 4 g₀ lg in
-    (omega (arith, lt), omega (arith, lt, h .1))
-
--- src/lib.rt:95:40
-sub-put-joined : tie.Need-sub-put-joined
-sub-put-joined c =
-    let after-if3 = c .before .before .before .before .before in
-    let start = after-if3 .before .before .before .before .before in
-    let args = start .args in
-    let g₀ = args .g .now in
-    let k₀ = args .k .now in
-    let order = args .order in
-    let if1 = after-if3 .before .if1 in
-    let if3 = after-if3 .if3 in
-    let (g, k, a, b, small, room) = start .pre in
-    let lg = target-long g₀ g a (if1 .left) in
-    let lk = target-long k₀ k b (if3 .left) in
-    let v = both-targets order g₀ k₀ g k a b (if1 .left) (if3 .left) in
-    let h = both-long order g₀ k₀ g k v lg in
-    let lt = length-take-le 4 g₀ lg in
-    omega (arith, lt, h .1, c .before .before .put-target3 .ensures .0)
-
--- src/lib.rt:95:40
-part-put-joined-start : tie.Need-part-put-joined-start
-part-put-joined-start c =
-    let after-if3 = c .before .before .before .before .before in
-    let start = after-if3 .before .before .before .before .before in
-    let args = start .args in
-    let g₀ = args .g .now in
-    let k₀ = args .k .now in
-    let order = args .order in
-    let if1 = after-if3 .before .if1 in
-    let if3 = after-if3 .if3 in
-    let (g, k, a, b, small, room) = start .pre in
-    let lg = target-long g₀ g a (if1 .left) in
-    let lk = target-long k₀ k b (if3 .left) in
-    let v = both-targets order g₀ k₀ g k a b (if1 .left) (if3 .left) in
-    let h = both-long order g₀ k₀ g k v lg in
-    let lt = length-take-le 4 g₀ lg in
-    omega (arith, lt, h .1, c .before .before .put-target3 .ensures .0)
-
--- src/lib.rt:95:55
-sub-put-joined-2 : tie.Need-sub-put-joined-2
-sub-put-joined-2 c =
-    let after-if1 = c .before .before .before .before .before .before .before in
-    let start = after-if1 .before .before .before .before in
-    let if1 = after-if1 .if1 in
-    let (g, k, a, b, small, room) = start .pre in
-    let lg = target-long (start .args .g .now) g a (if1 .left) in
-    omega (arith, lg)
-
--- src/lib.rt:95:55
-part-put-joined-start-2 : tie.Need-part-put-joined-start-2
-part-put-joined-start-2 c =
-    let after-if1 = c .before .before .before .before .before .before .before in
-    let start = after-if1 .before .before .before .before in
-    let if1 = after-if1 .if1 in
-    let (g, k, a, b, small, room) = start .pre in
-    let lg = target-long (start .args .g .now) g a (if1 .left) in
-    omega (arith, lg)
-
--- src/lib.rt:95:64
-sub-put-joined-3 : tie.Need-sub-put-joined-3
-sub-put-joined-3 c =
-    let after-if3 = c .before .before .before .before .before .before .before in
-    let start = after-if3 .before .before .before .before .before in
-    let if3 = after-if3 .if3 in
-    let (g, k, a, b, small, room) = start .pre in
-    let lk = target-long (start .args .k .now) k b (if3 .left) in
-    omega (arith, lk)
-
--- src/lib.rt:95:64
-part-put-joined-start-3 : tie.Need-part-put-joined-start-3
-part-put-joined-start-3 c =
-    let after-if3 = c .before .before .before .before .before .before .before in
-    let start = after-if3 .before .before .before .before .before in
-    let if3 = after-if3 .if3 in
-    let (g, k, a, b, small, room) = start .pre in
-    let lk = target-long (start .args .k .now) k b (if3 .left) in
-    omega (arith, lk)
-
--- src/lib.rt:95:9
-put-joined-requires : tie.Need-put-joined-requires
-put-joined-requires c κs =
-    let after-put-target3 = c .before .before .before .before .before in
-    let start = after-put-target3 .before .before .before .before .before .before .before .before in
-    let args = start .args in
-    let g₀ = args .g .now in
-    let k₀ = args .k .now in
-    let order = args .order in
-    let if1 = after-put-target3 .before .before .before .before .if1 in
-    let if3 = after-put-target3 .before .before .before .if3 in
-    let put-target3 = after-put-target3 .put-target3 in
-    let (g, k, a, b, small, room) = start .pre in
-    let lg = target-long g₀ g a (if1 .left) in
-    let lk = target-long k₀ k b (if3 .left) in
-    let v = both-targets order g₀ k₀ g k a b (if1 .left) (if3 .left) in
-    let h = both-long order g₀ k₀ g k v lg in
-    let lt = length-take-le 4 g₀ lg in
-    both-room order g₀ k₀ g k v
-    (take (length (put-target3 .last .0) - put-target3 .result) (drop (put-target3 .result) (put-target3 .last .0)))
-    small (tail-room (put-target3 .last .0) (put-target3 .result) (length (content-bytes (v .xs ++ v .ys)))
-    (omega (arith, lt, h .1, put-target3 .ensures .0)))
-
--- src/lib.rt:96:5
-add-result : tie.Need-add-result
-add-result c =
-    let after-put-target3 = c .before .before .before .before .before .before .before .before in
-    let start = after-put-target3 .before .before .before .before .before .before .before .before in
-    let args = start .args in
-    let g₀ = args .g .now in
-    let k₀ = args .k .now in
-    let order = args .order in
-    let if1 = after-put-target3 .before .before .before .before .if1 in
-    let if3 = after-put-target3 .before .before .before .if3 in
-    let put-target3 = after-put-target3 .put-target3 in
-    let put-joined = c .before .before .put-joined in
-    let (g, k, a, b, small, room) = start .pre in
-    let lg = target-long g₀ g a (if1 .left) in
-    let lk = target-long k₀ k b (if3 .left) in
-    let v = both-targets order g₀ k₀ g k a b (if1 .left) (if3 .left) in
-    let h = both-long order g₀ k₀ g k v lg in
-    let lt = length-take-le 4 g₀ lg in
-    let w = both-wrote order g₀ k₀ g k v
-    (take (length (put-target3 .last .0) - put-target3 .result) (drop (put-target3 .result) (put-target3 .last .0)))
-    (put-joined .result) (put-joined .last .0) (put-joined .ensures) in
-    omega (arith, lt, h .1, put-target3 .ensures .0, w .0)
-
--- src/lib.rt:81:1
-returns-4 : tie.Need-returns-4
-returns-4 c =
-    let after-put-target3 = c .before .before .before .before .before .before .before .before in
-    let args = after-put-target3 .before .before .before .before .before .before .before .before .args in
-    let g₀ = args .g .now in
-    let k₀ = args .k .now in
     let order = args .order in
     let out = args .out .now in
-    let if1 = after-put-target3 .before .before .before .before .if1 in
-    let if3 = after-put-target3 .before .before .before .if3 in
-    let put-target3 = after-put-target3 .put-target3 in
-    let put-joined = c .before .before .put-joined in
-    λ g k a b.
-    let lg = target-long g₀ g a (if1 .left) in
-    let lk = target-long k₀ k b (if3 .left) in
-    let v = both-targets order g₀ k₀ g k a b (if1 .left) (if3 .left) in
-    let h = both-long order g₀ k₀ g k v lg in
-    let lt = length-take-le 4 g₀ lg in
-    let w = both-wrote order g₀ k₀ g k v
-    (take (length (put-target3 .last .0) - put-target3 .result) (drop (put-target3 .result) (put-target3 .last .0)))
-    (put-joined .result) (put-joined .last .0) (put-joined .ensures) in (
-      omega (arith, lt, h .1, put-target3 .ensures .0, w .0),
-      two-back out (overlay (take 4 g₀) 2 (numberBytes order)) (content-bytes (v .xs ++ v .ys))
-          (put-target3 .last .0) (put-joined .last .0) (put-target3 .result)
-          (omega (arith, lt, h .0, put-target3 .ensures .0)) (put-target3 .ensures .1) (w .1)
-          ∙ ap (λ (l : List ℕ). lead l out) (sym (v .bytes)),
+    let g₀ = args .g .now in
+    let k₀ = args .k .now in
+    let (g, k, a, b, small, room) = start .pre in
+    room-of-head order out (first-room
+    (both-pieces order g₀ k₀ g k (present g₀ g (c .before .before .if1 .left) a)
+    (present k₀ k (c .before .if3 .left) b)) out room)
+
+-- src/lib.rt:85:9
+sub-put-joined : tie.Need-sub-put-joined
+sub-put-joined c =
+    let after-if1 = c .before .before .before .before .before in
+    let start = after-if1 .before .before .before .before in
+    let args = start .args in
+    let g₀ = args .g .now in
+    let k₀ = args .k .now in
+    let if1 = after-if1 .if1 in
+    let if3 = c .before .before .before .before .if3 in
+    let (g, k, a, b, small, room) = start .pre in
+    second-start (both-pieces (args .order) g₀ k₀ g k (present g₀ g (if1 .left) a) (present k₀ k (if3 .left) b))
+    (args .out .now) room (c .before .before .put-target-head .ensures)
+
+-- src/lib.rt:85:9
+part-put-joined-start : tie.Need-part-put-joined-start
+part-put-joined-start c =
+    let after-if1 = c .before .before .before .before .before in
+    let start = after-if1 .before .before .before .before in
+    let args = start .args in
+    let g₀ = args .g .now in
+    let k₀ = args .k .now in
+    let if1 = after-if1 .if1 in
+    let if3 = c .before .before .before .before .if3 in
+    let (g, k, a, b, small, room) = start .pre in
+    second-start (both-pieces (args .order) g₀ k₀ g k (present g₀ g (if1 .left) a) (present k₀ k (if3 .left) b))
+    (args .out .now) room (c .before .before .put-target-head .ensures)
+
+-- src/lib.rt:86:9
+sub-put-joined-2 : tie.Need-sub-put-joined-2
+sub-put-joined-2 c =
+    let after-if1 = c .before .before .before .before .before .before in
+    let start = after-if1 .before .before .before .before in
+    let if1 = after-if1 .if1 in
+    let (g, k, a, b, small, room) = start .pre in
+    (present (start .args .g .now) g (if1 .left) a) .least
+
+-- src/lib.rt:86:9
+part-put-joined-start-2 : tie.Need-part-put-joined-start-2
+part-put-joined-start-2 c =
+    let after-if1 = c .before .before .before .before .before .before in
+    let start = after-if1 .before .before .before .before in
+    let if1 = after-if1 .if1 in
+    let (g, k, a, b, small, room) = start .pre in
+    omega (arith, (present (start .args .g .now) g (if1 .left) a) .least)
+
+-- src/lib.rt:87:9
+sub-put-joined-3 : tie.Need-sub-put-joined-3
+sub-put-joined-3 c =
+    let after-if3 = c .before .before .before .before .before .before in
+    let start = after-if3 .before .before .before .before .before in
+    let if3 = after-if3 .if3 in
+    let (g, k, a, b, small, room) = start .pre in
+    (present (start .args .k .now) k (if3 .left) b) .least
+
+-- src/lib.rt:87:9
+part-put-joined-start-3 : tie.Need-part-put-joined-start-3
+part-put-joined-start-3 c =
+    let after-if3 = c .before .before .before .before .before .before in
+    let start = after-if3 .before .before .before .before .before in
+    let if3 = after-if3 .if3 in
+    let (g, k, a, b, small, room) = start .pre in
+    omega (arith, (present (start .args .k .now) k (if3 .left) b) .least)
+
+-- src/lib.rt:84:9
+put-joined-requires : tie.Need-put-joined-requires
+put-joined-requires c κs =
+    let after-put-target-head = c .before .before .before .before .before in
+    let start = after-put-target-head .before .before .before .before .before .before .before in
+    let args = start .args in
+    let order = args .order in
+    let g₀ = args .g .now in
+    let k₀ = args .k .now in
+    let if1 = after-put-target-head .before .before .before .if1 in
+    let if3 = after-put-target-head .before .before .if3 in
+    let put-target-head = after-put-target-head .put-target-head in
+    let (g, k, a, b, small, room) = start .pre in
+    contents-room order g₀ k₀ g k (present g₀ g (if1 .left) a) (present k₀ k (if3 .left) b)
+    (rest (put-target-head .result) (put-target-head .last .0)) small
+    (second-room (both-pieces order g₀ k₀ g k (present g₀ g (if1 .left) a) (present k₀ k (if3 .left) b))
+    (args .out .now) room (put-target-head .ensures))
+
+-- src/lib.rt:89:5
+add-result : tie.Need-add-result
+add-result c =
+    let after-put-target-head = c .before .before .before .before .before .before .before .before in
+    let start = after-put-target-head .before .before .before .before .before .before .before in
+    let args = start .args in
+    let g₀ = args .g .now in
+    let k₀ = args .k .now in
+    let if1 = after-put-target-head .before .before .before .if1 in
+    let if3 = after-put-target-head .before .before .if3 in
+    let put-target-head = after-put-target-head .put-target-head in
+    let (g, k, a, b, small, room) = start .pre in
+    omega (
+      arith,
+      two-fit (both-pieces (args .order) g₀ k₀ g k (present g₀ g (if1 .left) a) (present k₀ k (if3 .left) b))
+          (args .out .now) room (put-target-head .ensures)
+          (c .before .before .put-joined .ensures ((present g₀ g (if1 .left) a) .items)
+          ((present k₀ k (if3 .left) b) .items) ((present g₀ g (if1 .left) a) .holds)
+          ((present k₀ k (if3 .left) b) .holds)),
     )
+
+-- src/lib.rt:70:1
+returns-4 : tie.Need-returns-4
+returns-4 c =
+    let after-put-target-head = c .before .before .before .before .before .before .before .before in
+    let args = after-put-target-head .before .before .before .before .before .before .before .args in
+    let g₀ = args .g .now in
+    let k₀ = args .k .now in
+    let if1 = after-put-target-head .before .before .before .if1 in
+    let if3 = after-put-target-head .before .before .if3 in
+    let put-target-head = after-put-target-head .put-target-head in
+    λ g k a b.
+    both-wrote (both-pieces (args .order) g₀ k₀ g k (present g₀ g (if1 .left) a) (present k₀ k (if3 .left) b))
+    (args .out .now) (put-target-head .ensures)
+    (c .before .before .put-joined .ensures ((present g₀ g (if1 .left) a) .items)
+    ((present k₀ k (if3 .left) b) .items) ((present g₀ g (if1 .left) a) .holds)
+    ((present k₀ k (if3 .left) b) .holds)) refl
 
 pub put-joined-target-spec : {M : Type 1} → statement M
 put-joined-target-spec =
     tie.close
     (tie.spec
     returns
+    sub-put-target
+    part-put-target-start
+    -- by search: part-put-target-end 78:46
+    (λ c. search needs)
     put-target-requires
-    -- by search: same-length 89:9
+    -- by search: same-length 78:9
     (λ c. search needs)
     returns-2
+    sub-put-target-2
+    part-put-target-start-2
+    -- by search: part-put-target-end-2 81:46
+    (λ c. search needs)
     put-target-requires-2
-    -- by search: same-length-2 92:9
+    -- by search: same-length-2 81:9
     (λ c. search needs)
     returns-3
-    slice-aggregate-put-target
-    put-target-requires-3
+    put-target-head-requires
     sub-put-joined
     part-put-joined-start
-    -- by search: part-put-joined-end 95:40
+    -- by search: part-put-joined-end 85:9
     (λ c. search needs)
     sub-put-joined-2
     part-put-joined-start-2
-    -- by search: part-put-joined-end-2 95:55
+    -- by search: part-put-joined-end-2 86:9
     (λ c. search needs)
     sub-put-joined-3
     part-put-joined-start-3
-    -- by search: part-put-joined-end-3 95:64
+    -- by search: part-put-joined-end-3 87:9
     (λ c. search needs)
     put-joined-requires
     add-result
-    -- by search: same-length-3 81:1
+    -- by search: same-length-3 70:1
     (λ c. search needs)
     returns-4)

@@ -1,37 +1,71 @@
-use Rattle.part_at.proofs.SpanLaws.{source-content, part-target, part-spans}
+use Rattle.part_at.proofs.SpanLaws.{source-content, head-within, some-head, part-target, part-spans}
+use native.Mathlib.Omega.{arith}
 use borrow.Author.Needs.{needs}
 use Rattle.part_at.proofs.part_from.Statement.{statement}
 use Rattle.part_at.proofs.part_from.Tie as tie
 
--- src/lib.rt:127:9
+-- src/lib.rt:131:37
+sub-is-segment : tie.Need-sub-is-segment
+sub-is-segment c =
+    let args = c .before .before .args in
+    head-within (args .t .now) (args .at) (c .after .result) (c .after .ensures) (c .before .before .pre) .0
+
+-- src/lib.rt:131:37
+part-is-segment-start : tie.Need-part-is-segment-start
+part-is-segment-start c =
+    let args = c .before .before .args in
+    let z = head-within (args .t .now) (args .at) (c .after .result) (c .after .ensures) (c .before .before .pre) in
+    omega (arith, z .0, z .1)
+
+-- src/lib.rt:131:37
+part-is-segment-end : tie.Need-part-is-segment-end
+part-is-segment-end c =
+    let args = c .before .before .args in
+    head-within (args .t .now) (args .at) (c .after .result) (c .after .ensures) (c .before .before .pre) .1
+
+-- src/lib.rt:131:9
+is-segment-requires : tie.Need-is-segment-requires
+is-segment-requires c κs =
+    let args = c .before .before .before .args in
+    let after = c .before .after in
+    some-head (args .t .now) (args .at) (after .result) (after .ensures) (c .before .before .before .pre)
+
+-- src/lib.rt:132:9
 content-end-requires : tie.Need-content-end-requires
 content-end-requires c κs =
-    let args = c .before .before .args in
-    source-content (args .t .now) (args .at) (c .after .result) (c .after .ensures) (c .before .before .pre)
-
--- src/lib.rt:128:5
-target-place-requires : tie.Need-target-place-requires
-target-place-requires c κs =
-    let start = c .before .before .before in
-    let after = c .before .after in
-    part-target (start .args .t .now) (start .args .at) (after .result) (after .ensures) (c .content-end .result)
-    (c .content-end .ensures) (start .pre)
-
--- src/lib.rt:122:1
-returns : tie.Need-returns
-returns c =
     let args = c .before .before .before .before .args in
     let after = c .before .before .after in
+    source-content (args .t .now) (args .at) (after .result) (after .ensures) (c .before .before .before .before .pre)
+
+-- src/lib.rt:133:5
+target-place-requires : tie.Need-target-place-requires
+target-place-requires c κs =
+    let args = c .before .before .before .before .before .args in
+    let after = c .before .before .before .after in
+    part-target (args .t .now) (args .at) (after .result) (after .ensures) (c .content-end .result)
+    (c .content-end .ensures) (c .before .before .before .before .before .pre)
+
+-- src/lib.rt:126:1
+returns : tie.Need-returns
+returns c =
+    let args = c .before .before .before .before .before .before .args in
+    let after = c .before .before .before .before .after in
+    let is-segment = c .before .before .is-segment in
     let content-end = c .before .content-end in
     part-spans (args .t .now) (args .at) (after .result) (after .ensures) (content-end .result)
-    (content-end .ensures) _ (c .target-place .ensures)
+    (content-end .ensures) (is-segment .result) (is-segment .ensures) (c .target-place .result)
+    (c .target-place .ensures)
 
 pub part-from-spec : {M : Type 1} → statement M
 part-from-spec =
     tie.close
     (tie.spec
-    -- by search: after-requires 126:9
+    -- by search: after-requires 130:9
     (λ c κs. search needs)
+    sub-is-segment
+    part-is-segment-start
+    part-is-segment-end
+    is-segment-requires
     content-end-requires
     target-place-requires
     returns)

@@ -41,6 +41,7 @@ returns c =
       refl,
       refl,
       refl,
+      refl,
       with-target (args .t .now) (args .target) (known-at .result) (known-at .ensures) (width-of .result)
           (width-of .ensures) _ (sym (order-of .ensures) ∙ c .before .before .q .given .1) refl
           (c .content-end .ensures),
@@ -52,6 +53,7 @@ returns-2 c =
     let args = c .before .before .before .before .before .before .args in
     let known-at = c .before .before .before .before .known-at in
     let width-of = c .before .before .before .width-of in (
+      refl,
       refl,
       refl,
       refl,

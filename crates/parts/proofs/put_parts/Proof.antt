@@ -144,12 +144,10 @@ same-length c = c .before .loop .inv .1
 returns : tie.Need-returns Inv-loop μ-loop
 returns c =
     let args = c .before .before .before .before .args in
-    let loop = c .before .loop in (
-      omega arith,
-      λ ps o.
-          written-end (args .t .now) (moved (args .up) (args .q)) ps (args .out .now) (loop .at) (loop .out)
-          (loop .inv .2 ps o) (c .loop-test .left) o,
-    )
+    let loop = c .before .loop in
+    λ ps o.
+    written-end (args .t .now) (moved (args .up) (args .q)) ps (args .out .now) (loop .at) (loop .out)
+    (loop .inv .2 ps o) (c .loop-test .left) (loop .inv .0) o
 
 pub put-parts-spec : {M : Type 1} → statement M
 put-parts-spec =

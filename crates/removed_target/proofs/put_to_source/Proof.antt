@@ -1,12 +1,13 @@
-use mathlib.Core.Path.{sym}
+use Rattle.removed_target.proofs.RemovedLaws.{lead-long, source-pieces, source-room, head-room}
+use Rattle.writer.proofs.RunLaws.{first-room, second-start, second-room, two-fit, third-start, third-room, three-fit, all-wrote}
 use native.Mathlib.Omega.{arith}
-use Rattle.removed_target.proofs.WriteLaws.{first-fits, first-within, second-fits, second-ends, second-long, third-fits, third-ends, source-wrote}
-use Rattle.removed_target.proofs.RemovedLaws.{in-order, lead-long}
+use Rattle.writer.specs.Pieces.{rest}
+use mathlib.Core.Path.{sym}
 use borrow.Author.Needs.{needs}
 use Rattle.removed_target.proofs.put_to_source.Statement.{statement}
 use Rattle.removed_target.proofs.put_to_source.Tie as tie
 
--- src/lib.rt:29:30
+-- src/lib.rt:16:30
 slice-aggregate-put : tie.Need-slice-aggregate-put
 slice-aggregate-put c =
     let start = c .before .before .before .before in
@@ -14,49 +15,64 @@ slice-aggregate-put c =
     let (b, p, a, s) = st in
     sym (lead-long (start .args .t .now) b p a (start .args .place) s)
 
--- src/lib.rt:29:9
+-- src/lib.rt:16:9
 put-requires : tie.Need-put-requires
 put-requires c κs =
     let start = c .before .before .before .before in
     let args = start .args in
+    let t = args .t .now in
+    let place = args .place in
+    let state = args .state in
+    let out = args .out .now in
     let (st, room) = start .pre in
     let (b, p, a, s) = st in
-    first-fits (args .t .now) b p a (args .place) s (args .out .now) room
+    first-room (source-pieces t b p a place s state) out (source-room t b p a place s state out room)
 
--- src/lib.rt:30:33
-sub-put-head-with-state : tie.Need-sub-put-head-with-state
-sub-put-head-with-state c =
+-- src/lib.rt:17:35
+sub-put-with-state : tie.Need-sub-put-with-state
+sub-put-with-state c =
     let start = c .before .before .before .before .before .before .before in
     let args = start .args in
-    let put = c .before .before .put in
+    let t = args .t .now in
+    let place = args .place in
+    let state = args .state in
+    let out = args .out .now in
     let (st, room) = start .pre in
     let (b, p, a, s) = st in
-    first-within (args .t .now) b p a (args .place) s (args .out .now) room (put .last .0) (put .result)
-    (put .ensures)
+    second-start (source-pieces t b p a place s state) out (source-room t b p a place s state out room)
+    (c .before .before .put .ensures)
 
--- src/lib.rt:30:33
-part-put-head-with-state-start : tie.Need-part-put-head-with-state-start
-part-put-head-with-state-start c =
+-- src/lib.rt:17:35
+part-put-with-state-start : tie.Need-part-put-with-state-start
+part-put-with-state-start c =
     let start = c .before .before .before .before .before .before .before in
     let args = start .args in
-    let put = c .before .before .put in
+    let t = args .t .now in
+    let place = args .place in
+    let state = args .state in
+    let out = args .out .now in
     let (st, room) = start .pre in
     let (b, p, a, s) = st in
-    first-within (args .t .now) b p a (args .place) s (args .out .now) room (put .last .0) (put .result)
-    (put .ensures)
+    second-start (source-pieces t b p a place s state) out (source-room t b p a place s state out room)
+    (c .before .before .put .ensures)
 
--- src/lib.rt:30:9
-put-head-with-state-requires : tie.Need-put-head-with-state-requires
-put-head-with-state-requires c κs =
+-- src/lib.rt:17:9
+put-with-state-requires : tie.Need-put-with-state-requires
+put-with-state-requires c κs =
     let start = c .before .before .before .before .before .before .before .before .before in
     let args = start .args in
+    let t = args .t .now in
+    let place = args .place in
+    let state = args .state in
+    let out = args .out .now in
     let put = c .before .before .before .before .put in
     let (st, room) = start .pre in
     let (b, p, a, s) = st in
-    second-fits (args .t .now) b p a (args .place) s (args .out .now) room (put .last .0) (put .result)
-    (put .ensures)
+    head-room t b p a place s state (rest (put .result) (put .last .0))
+    (second-room (source-pieces t b p a place s state) out (source-room t b p a place s state out room)
+    (put .ensures))
 
--- src/lib.rt:31:13
+-- src/lib.rt:18:13
 add-k : tie.Need-add-k
 add-k c =
     let after-put = c .before .before .before .before .before .before .before in
@@ -64,18 +80,18 @@ add-k c =
     let args = start .args in
     let t = args .t .now in
     let place = args .place in
+    let state = args .state in
+    let out = args .out .now in
     let put = after-put .put in
-    let put-head-with-state = c .before .before .put-head-with-state in
     let (st, room) = start .pre in
     let (b, p, a, s) = st in
-    let z = in-order t b p a place s in
     omega (
       arith,
-      second-ends t b p a place s (args .out .now) room (put .last .0) (put .result) (put .ensures) (args .state)
-          (put-head-with-state .last .0) (put-head-with-state .result) (put-head-with-state .ensures),
+      two-fit (source-pieces t b p a place s state) out (source-room t b p a place s state out room) (put .ensures)
+          (c .before .before .put-with-state .ensures (p .head) (sym (s .head .is))),
     )
 
--- src/lib.rt:32:25
+-- src/lib.rt:19:25
 sub-put : tie.Need-sub-put
 sub-put c =
     let after-put = c .before .before .before .before .before .before .before in
@@ -83,22 +99,15 @@ sub-put c =
     let args = start .args in
     let t = args .t .now in
     let place = args .place in
-    let out = args .out .now in
     let state = args .state in
+    let out = args .out .now in
     let put = after-put .put in
-    let put-head-with-state = c .before .before .put-head-with-state in
     let (st, room) = start .pre in
     let (b, p, a, s) = st in
-    let z = in-order t b p a place s in
-    omega (
-      arith,
-      second-ends t b p a place s out room (put .last .0) (put .result) (put .ensures) state
-          (put-head-with-state .last .0) (put-head-with-state .result) (put-head-with-state .ensures),
-      second-long t b p a place s out room (put .last .0) (put .result) (put .ensures) state
-          (put-head-with-state .last .0) (put-head-with-state .result) (put-head-with-state .ensures),
-    )
+    third-start (source-pieces t b p a place s state) out (source-room t b p a place s state out room)
+    (put .ensures) (c .before .before .put-with-state .ensures (p .head) (sym (s .head .is)))
 
--- src/lib.rt:32:25
+-- src/lib.rt:19:25
 part-put-start : tie.Need-part-put-start
 part-put-start c =
     let after-put = c .before .before .before .before .before .before .before in
@@ -106,71 +115,64 @@ part-put-start c =
     let args = start .args in
     let t = args .t .now in
     let place = args .place in
-    let out = args .out .now in
     let state = args .state in
+    let out = args .out .now in
     let put = after-put .put in
-    let put-head-with-state = c .before .before .put-head-with-state in
     let (st, room) = start .pre in
     let (b, p, a, s) = st in
-    let z = in-order t b p a place s in
-    omega (
-      arith,
-      second-ends t b p a place s out room (put .last .0) (put .result) (put .ensures) state
-          (put-head-with-state .last .0) (put-head-with-state .result) (put-head-with-state .ensures),
-      second-long t b p a place s out room (put .last .0) (put .result) (put .ensures) state
-          (put-head-with-state .last .0) (put-head-with-state .result) (put-head-with-state .ensures),
-    )
+    third-start (source-pieces t b p a place s state) out (source-room t b p a place s state out room)
+    (put .ensures) (c .before .before .put-with-state .ensures (p .head) (sym (s .head .is)))
 
--- src/lib.rt:32:9
+-- src/lib.rt:19:9
 put-requires-2 : tie.Need-put-requires-2
 put-requires-2 c κs =
     let after-put = c .before .before .before .before .before .before .before .before .before in
     let start = after-put .before .before .before .before .before in
     let args = start .args in
+    let t = args .t .now in
+    let place = args .place in
+    let state = args .state in
+    let out = args .out .now in
     let put = after-put .put in
-    let put-head-with-state = c .before .before .before .before .put-head-with-state in
+    let put-with-state = c .before .before .before .before .put-with-state in
     let (st, room) = start .pre in
     let (b, p, a, s) = st in
-    third-fits (args .t .now) b p a (args .place) s (args .out .now) room (put .last .0) (put .result)
-    (put .ensures) (args .state) (put-head-with-state .last .0) (put-head-with-state .result)
-    (put-head-with-state .ensures)
+    third-room (source-pieces t b p a place s state) out (source-room t b p a place s state out room) (put .ensures)
+    (put-with-state .ensures (p .head) (sym (s .head .is)))
 
--- src/lib.rt:33:5
+-- src/lib.rt:20:5
 add-result : tie.Need-add-result
 add-result c =
-    let after-put-head-with-state = c .before .before .before .before .before .before .before in
-    let after-put = after-put-head-with-state .before .before .before .before .before in
+    let after-put-with-state = c .before .before .before .before .before .before .before in
+    let after-put = after-put-with-state .before .before .before .before .before in
     let start = after-put .before .before .before .before .before in
     let args = start .args in
     let t = args .t .now in
     let place = args .place in
+    let state = args .state in
+    let out = args .out .now in
     let put = after-put .put in
-    let put-head-with-state = after-put-head-with-state .put-head-with-state in
-    let put2 = c .before .before .put2 in
+    let put-with-state = after-put-with-state .put-with-state in
     let (st, room) = start .pre in
     let (b, p, a, s) = st in
-    let z = in-order t b p a place s in
     omega (
       arith,
-      third-ends t b p a place s (args .out .now) room (put .last .0) (put .result) (put .ensures) (args .state)
-          (put-head-with-state .last .0) (put-head-with-state .result) (put-head-with-state .ensures)
-          (put2 .last .0) (put2 .result) (put2 .ensures),
+      three-fit (source-pieces t b p a place s state) out (source-room t b p a place s state out room)
+          (put .ensures) (put-with-state .ensures (p .head) (sym (s .head .is)))
+          (c .before .before .put2 .ensures .0),
     )
 
--- src/lib.rt:22:1
+-- src/lib.rt:9:1
 returns : tie.Need-returns
 returns c =
-    let after-put-head-with-state = c .before .before .before .before .before .before .before in
-    let after-put = after-put-head-with-state .before .before .before .before .before in
-    let start = after-put .before .before .before .before .before in
-    let args = start .args in
+    let after-put-with-state = c .before .before .before .before .before .before .before in
+    let after-put = after-put-with-state .before .before .before .before .before in
+    let args = after-put .before .before .before .before .before .args in
     let put = after-put .put in
-    let put-head-with-state = after-put-head-with-state .put-head-with-state in
-    let put2 = c .before .before .put2 in
+    let put-with-state = after-put-with-state .put-with-state in
     λ b p a s.
-    source-wrote (args .t .now) b p a (args .place) s (args .out .now) (start .pre .1) (put .last .0) (put .result)
-    (put .ensures) (args .state) (put-head-with-state .last .0) (put-head-with-state .result)
-    (put-head-with-state .ensures) (put2 .last .0) (put2 .result) (put2 .ensures)
+    all-wrote (source-pieces (args .t .now) b p a (args .place) s (args .state)) (args .out .now) (put .ensures)
+    (put-with-state .ensures (p .head) (sym (s .head .is))) (c .before .before .put2 .ensures)
 
 pub put-to-source-spec : {M : Type 1} → statement M
 put-to-source-spec =
@@ -178,19 +180,19 @@ put-to-source-spec =
     (tie.spec
     slice-aggregate-put
     put-requires
-    sub-put-head-with-state
-    part-put-head-with-state-start
-    -- by search: part-put-head-with-state-end 30:33, sub-put-head-with-state-2 30:48,
-    -- part-put-head-with-state-start-2 30:48, part-put-head-with-state-end-2 30:48
+    sub-put-with-state
+    part-put-with-state-start
+    -- by search: part-put-with-state-end 17:35, sub-put-with-state-2 17:50, part-put-with-state-start-2 17:50,
+    -- part-put-with-state-end-2 17:50
     (λ c. search needs) (λ c. search needs) (λ c. search needs) (λ c. search needs)
-    put-head-with-state-requires
+    put-with-state-requires
     add-k
     sub-put
     part-put-start
-    -- by search: part-put-end 32:25, sub-put-2 32:40, part-put-start-2 32:40, part-put-end-2 32:40
+    -- by search: part-put-end 19:25, sub-put-2 19:40, part-put-start-2 19:40, part-put-end-2 19:40
     (λ c. search needs) (λ c. search needs) (λ c. search needs) (λ c. search needs)
     put-requires-2
     add-result
-    -- by search: same-length 22:1
+    -- by search: same-length 9:1
     (λ c. search needs)
     returns)

@@ -1,153 +1,198 @@
+use Rattle.set_result.proofs.PieceLaws.{pieces-by, set-room, target-room, set-all}
+use Rattle.writer.proofs.RunLaws.{second-start, second-room, two-fit, third-start, third-room, three-fit, all-wrote}
+use Rattle.writer.specs.Pieces.{rest}
 use native.Mathlib.Omega.{arith}
-use Rattle.set_result.proofs.WriteLaws.{source-within, target-fits, target-within, rest-fits, all-within, set-wrote}
+use mathlib.Core.Path.{refl}
 use borrow.Author.Needs.{needs}
 use Rattle.set_result.proofs.put_set.Statement.{statement}
 use Rattle.set_result.proofs.put_set.Tie as tie
 
--- src/lib.rt:36:24
+-- src/lib.rt:24:31
 sub-put-target : tie.Need-sub-put-target
 sub-put-target c =
     let start = c .before .before .before .before .before .before .before in
     let args = start .args in
-    let put-to-source = c .before .before .put-to-source in
+    let t = args .t .now in
+    let place = args .place in
+    let state = args .state in
+    let order = args .order in
+    let content = args .content .now in
+    let out = args .out .now in
     let (st, room) = start .pre in
     let (b, p, a, s) = st in
-    source-within (args .t .now) b p a (args .place) s (args .content .now) (args .out .now) room (args .state)
-    (put-to-source .last .0) (put-to-source .result) (put-to-source .ensures)
+    second-start (pieces-by t b p a place s state order content refl) out
+    (set-room t b p a place s state order content out room) (c .before .before .put-to-source .ensures b p a s)
 
--- src/lib.rt:36:24
+-- src/lib.rt:24:31
 part-put-target-start : tie.Need-part-put-target-start
 part-put-target-start c =
     let start = c .before .before .before .before .before .before .before in
     let args = start .args in
-    let put-to-source = c .before .before .put-to-source in
+    let t = args .t .now in
+    let place = args .place in
+    let state = args .state in
+    let order = args .order in
+    let content = args .content .now in
+    let out = args .out .now in
     let (st, room) = start .pre in
     let (b, p, a, s) = st in
-    source-within (args .t .now) b p a (args .place) s (args .content .now) (args .out .now) room (args .state)
-    (put-to-source .last .0) (put-to-source .result) (put-to-source .ensures)
+    second-start (pieces-by t b p a place s state order content refl) out
+    (set-room t b p a place s state order content out room) (c .before .before .put-to-source .ensures b p a s)
 
--- src/lib.rt:36:9
+-- src/lib.rt:24:9
 put-target-requires : tie.Need-put-target-requires
 put-target-requires c κs =
     let start = c .before .before .before .before .before .before .before .before in
     let args = start .args in
+    let t = args .t .now in
+    let place = args .place in
+    let state = args .state in
+    let order = args .order in
+    let content = args .content .now in
+    let out = args .out .now in
     let put-to-source = c .before .before .before .put-to-source in
     let (st, room) = start .pre in
     let (b, p, a, s) = st in
-    target-fits (args .t .now) b p a (args .place) s (args .content .now) (args .out .now) room (args .state)
-    (put-to-source .last .0) (put-to-source .result) (put-to-source .ensures)
+    target-room t b p a place s state order content (rest (put-to-source .result) (put-to-source .last .0))
+    (second-room (pieces-by t b p a place s state order content refl) out
+    (set-room t b p a place s state order content out room) (put-to-source .ensures b p a s))
 
--- src/lib.rt:37:13
+-- src/lib.rt:25:13
 add-k : tie.Need-add-k
 add-k c =
     let after-put-to-source = c .before .before .before .before .before .before in
     let start = after-put-to-source .before .before .before .before .before in
     let args = start .args in
+    let t = args .t .now in
+    let place = args .place in
+    let state = args .state in
+    let order = args .order in
+    let content = args .content .now in
+    let out = args .out .now in
     let put-to-source = after-put-to-source .put-to-source in
-    let put-target = c .before .before .put-target in
     let (st, room) = start .pre in
     let (b, p, a, s) = st in
     omega (
       arith,
-      target-within (args .t .now) b p a (args .place) s (args .content .now) (args .out .now) room (args .state)
-          (put-to-source .last .0) (put-to-source .result) (put-to-source .ensures) (args .order)
-          (put-target .last .0) (put-target .result) (put-target .ensures) .1,
+      two-fit (pieces-by t b p a place s state order content refl) out
+          (set-room t b p a place s state order content out room) (put-to-source .ensures b p a s)
+          (c .before .before .put-target .ensures),
     )
 
--- src/lib.rt:38:25
+-- src/lib.rt:26:25
 sub-put : tie.Need-sub-put
 sub-put c =
     let after-put-to-source = c .before .before .before .before .before .before in
     let start = after-put-to-source .before .before .before .before .before in
     let args = start .args in
+    let t = args .t .now in
+    let place = args .place in
+    let state = args .state in
+    let order = args .order in
+    let content = args .content .now in
+    let out = args .out .now in
     let put-to-source = after-put-to-source .put-to-source in
-    let put-target = c .before .before .put-target in
     let (st, room) = start .pre in
     let (b, p, a, s) = st in
-    target-within (args .t .now) b p a (args .place) s (args .content .now) (args .out .now) room (args .state)
-    (put-to-source .last .0) (put-to-source .result) (put-to-source .ensures) (args .order) (put-target .last .0)
-    (put-target .result) (put-target .ensures) .0
+    third-start (pieces-by t b p a place s state order content refl) out
+    (set-room t b p a place s state order content out room) (put-to-source .ensures b p a s)
+    (c .before .before .put-target .ensures)
 
--- src/lib.rt:38:25
+-- src/lib.rt:26:25
 part-put-start : tie.Need-part-put-start
 part-put-start c =
     let after-put-to-source = c .before .before .before .before .before .before in
     let start = after-put-to-source .before .before .before .before .before in
     let args = start .args in
+    let t = args .t .now in
+    let place = args .place in
+    let state = args .state in
+    let order = args .order in
+    let content = args .content .now in
+    let out = args .out .now in
     let put-to-source = after-put-to-source .put-to-source in
-    let put-target = c .before .before .put-target in
     let (st, room) = start .pre in
     let (b, p, a, s) = st in
-    target-within (args .t .now) b p a (args .place) s (args .content .now) (args .out .now) room (args .state)
-    (put-to-source .last .0) (put-to-source .result) (put-to-source .ensures) (args .order) (put-target .last .0)
-    (put-target .result) (put-target .ensures) .0
+    third-start (pieces-by t b p a place s state order content refl) out
+    (set-room t b p a place s state order content out room) (put-to-source .ensures b p a s)
+    (c .before .before .put-target .ensures)
 
--- src/lib.rt:38:9
+-- src/lib.rt:26:9
 put-requires : tie.Need-put-requires
 put-requires c κs =
     let after-put-to-source = c .before .before .before .before .before .before .before .before in
     let start = after-put-to-source .before .before .before .before .before in
     let args = start .args in
+    let t = args .t .now in
+    let place = args .place in
+    let state = args .state in
+    let order = args .order in
+    let content = args .content .now in
+    let out = args .out .now in
     let put-to-source = after-put-to-source .put-to-source in
     let put-target = c .before .before .before .before .put-target in
     let (st, room) = start .pre in
     let (b, p, a, s) = st in
-    rest-fits (args .t .now) b p a (args .place) s (args .content .now) (args .out .now) room (args .state)
-    (put-to-source .last .0) (put-to-source .result) (put-to-source .ensures) (args .order) (put-target .last .0)
-    (put-target .result) (put-target .ensures)
+    third-room (pieces-by t b p a place s state order content refl) out
+    (set-room t b p a place s state order content out room) (put-to-source .ensures b p a s) (put-target .ensures)
 
--- src/lib.rt:39:5
+-- src/lib.rt:27:5
 add-result : tie.Need-add-result
 add-result c =
     let after-put-target = c .before .before .before .before .before .before .before in
     let start = after-put-target .before .before .before .before .before .before .before .before .before in
     let args = start .args in
+    let t = args .t .now in
+    let place = args .place in
+    let state = args .state in
+    let order = args .order in
+    let content = args .content .now in
+    let out = args .out .now in
     let put-to-source = after-put-target .before .before .before .before .put-to-source in
     let put-target = after-put-target .put-target in
-    let put = c .before .before .put in
     let (st, room) = start .pre in
     let (b, p, a, s) = st in
     omega (
       arith,
-      all-within (args .t .now) b p a (args .place) s (args .content .now) (args .out .now) room (args .state)
-          (put-to-source .last .0) (put-to-source .result) (put-to-source .ensures) (args .order)
-          (put-target .last .0) (put-target .result) (put-target .ensures) (put .last .0) (put .result)
-          (put .ensures),
+      three-fit (pieces-by t b p a place s state order content refl) out
+          (set-room t b p a place s state order content out room) (put-to-source .ensures b p a s)
+          (put-target .ensures) (c .before .before .put .ensures .0),
     )
 
--- src/lib.rt:23:1
+-- src/lib.rt:11:1
 returns : tie.Need-returns
 returns c =
     let after-put-target = c .before .before .before .before .before .before .before in
-    let start = after-put-target .before .before .before .before .before .before .before .before .before in
-    let args = start .args in
+    let args = after-put-target .before .before .before .before .before .before .before .before .before .args in
+    let t = args .t .now in
+    let place = args .place in
+    let state = args .state in
+    let order = args .order in
+    let content = args .content .now in
     let put-to-source = after-put-target .before .before .before .before .put-to-source in
     let put-target = after-put-target .put-target in
-    let put = c .before .before .put in
     λ b p a s xs is.
-    set-wrote (args .t .now) b p a (args .place) s (args .content .now) (args .out .now) (start .pre .1)
-    (args .state) (put-to-source .last .0) (put-to-source .result) (put-to-source .ensures) (args .order)
-    (put-target .last .0) (put-target .result) (put-target .ensures) (put .last .0) (put .result) (put .ensures) xs
-    is
+    all-wrote (pieces-by t b p a place s state order content (set-all t b p a place s state order content xs is))
+    (args .out .now) (put-to-source .ensures b p a s) (put-target .ensures) (c .before .before .put .ensures)
 
 pub put-set-spec : {M : Type 1} → statement M
 put-set-spec =
     tie.close
     (tie.spec
-    -- by search: put-to-source-requires 35:9
+    -- by search: put-to-source-requires 23:9
     (λ c κs. search needs)
     sub-put-target
     part-put-target-start
-    -- by search: part-put-target-end 36:24
+    -- by search: part-put-target-end 24:31
     (λ c. search needs)
     put-target-requires
     add-k
     sub-put
     part-put-start
-    -- by search: part-put-end 38:25, sub-put-2 38:40, part-put-start-2 38:40, part-put-end-2 38:40
+    -- by search: part-put-end 26:25, sub-put-2 26:40, part-put-start-2 26:40, part-put-end-2 26:40
     (λ c. search needs) (λ c. search needs) (λ c. search needs) (λ c. search needs)
     put-requires
     add-result
-    -- by search: same-length 23:1
+    -- by search: same-length 11:1
     (λ c. search needs)
     returns)

@@ -1,0 +1,82 @@
+use Rattle.heads.proofs.HeadLaws.{target-long, target-pieces, target-room}
+use Rattle.writer.proofs.RunLaws.{second-start, second-room, two-fit, both-wrote}
+use native.Mathlib.Omega.{arith}
+use mathlib.Core.Path.{refl}
+use borrow.Author.Needs.{needs}
+use Rattle.heads.proofs.put_target.Statement.{statement}
+use Rattle.heads.proofs.put_target.Tie as tie
+
+-- src/lib.rt:123:25
+sub-put : tie.Need-sub-put
+sub-put c =
+    let start = c .before .before .before .before .before .before in
+    let args = start .args in
+    let order = args .order in
+    let content = args .content .now in
+    let out = args .out .now in
+    second-start (target-pieces order content) out (target-room order content out (start .pre))
+    (c .before .before .put-target-head .ensures)
+
+-- src/lib.rt:123:25
+part-put-start : tie.Need-part-put-start
+part-put-start c =
+    let start = c .before .before .before .before .before .before in
+    let args = start .args in
+    let order = args .order in
+    let content = args .content .now in
+    let out = args .out .now in
+    second-start (target-pieces order content) out (target-room order content out (start .pre))
+    (c .before .before .put-target-head .ensures)
+
+-- src/lib.rt:123:9
+put-requires : tie.Need-put-requires
+put-requires c κs =
+    let start = c .before .before .before .before .before .before .before in
+    let args = start .args in
+    let order = args .order in
+    let content = args .content .now in
+    let out = args .out .now in
+    let put-target-head = c .before .before .before .put-target-head in
+    second-room (target-pieces order content) out (target-room order content out (start .pre))
+    (put-target-head .ensures)
+
+-- src/lib.rt:124:5
+add-result : tie.Need-add-result
+add-result c =
+    let after-put-target-head = c .before .before .before .before .before .before in
+    let start = after-put-target-head .before .before .before .before in
+    let args = start .args in
+    let order = args .order in
+    let content = args .content .now in
+    let out = args .out .now in
+    let put-target-head = after-put-target-head .put-target-head in
+    omega (
+      arith,
+      two-fit (target-pieces order content) out (target-room order content out (start .pre))
+          (put-target-head .ensures) (c .before .before .put .ensures),
+    )
+
+-- src/lib.rt:118:1
+returns : tie.Need-returns
+returns c =
+    let after-put-target-head = c .before .before .before .before .before .before in
+    let args = after-put-target-head .before .before .before .before .args in
+    let put-target-head = after-put-target-head .put-target-head in
+    both-wrote (target-pieces (args .order) (args .content .now)) (args .out .now) (put-target-head .ensures)
+    (c .before .before .put .ensures) refl
+
+pub put-target-spec : {M : Type 1} → statement M
+put-target-spec =
+    tie.close
+    (tie.spec
+    -- by search: put-target-head-requires 122:9
+    (λ c κs. search needs)
+    sub-put
+    part-put-start
+    -- by search: part-put-end 123:25
+    (λ c. search needs)
+    put-requires
+    add-result
+    -- by search: same-length 118:1
+    (λ c. search needs)
+    returns)

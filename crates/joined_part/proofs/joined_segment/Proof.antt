@@ -1,0 +1,19 @@
+use Rattle.joined_part.proofs.HeadLaws.{two-joined}
+use mathlib.Core.Path.{refl}
+use borrow.Author.Needs.{needs}
+use Rattle.joined_part.proofs.joined_segment.Statement.{statement}
+use Rattle.joined_part.proofs.joined_segment.Tie as tie
+
+-- src/lib.rt:37:1
+returns : tie.Need-returns
+returns c =
+    let args = c .before .before .before .before .args in
+    two-joined (args .x) (args .y) _ refl (c .before .dash-if .ensures) (c .earliest-of .ensures)
+
+pub joined-segment-spec : {M : Type 1} → statement M
+joined-segment-spec =
+    tie.close
+    (tie.spec
+    -- by search: dash-if-requires 40:9, earliest-of-requires 41:9
+    (λ c κs. search needs) (λ c κs. search needs)
+    returns)
