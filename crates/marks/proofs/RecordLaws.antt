@@ -1,7 +1,7 @@
 -- What is read of a good record by its mark: how many bytes it takes, and its number at an offset.
-use Prim.Native.Nat.{ℕ, suc, _+_, _*_}
+use Prim.Native.Nat.{ℕ, suc, _+_, _*_, _≤_}
 use mathlib.Core.Path.{_≡_, refl, sym, ap, ap₂, _∙_}
-use mathlib.Core.List.{List, _++_}
+use mathlib.Core.List.{List, [], _∷_, _++_}
 use native.Mathlib.Omega.{arith}
 use lib.ListN.{length, getD, drop}
 use lib.Seq.{getD-drop}
@@ -52,3 +52,10 @@ unfolding two-at
 number-there t at i =
     let next : at + suc i ≡ suc (at + i) = omega arith in
     sym (ap₂ (λ (a b : ℕ). a * 256 + b) (getD-drop at t i 0) (getD-drop at t (suc i) 0 ∙ ap (λ (k : ℕ). getD t k 0) next))
+
+-- the mark of bytes is that of the bytes with more behind them
+pub mark-front : (l s : List ℕ) → 2 ≤ length l → mark-at (l ++ s) ≡ mark-at l
+unfolding mark-at
+mark-front [] s h = absurd (let y : ⊥ = omega arith in y)
+mark-front (a ∷ []) s h = absurd (let y : ⊥ = omega arith in y)
+mark-front (a ∷ b ∷ l) s h = refl

@@ -1,17 +1,21 @@
 -- A walk over the records of a content: one further, the end, a search; what marks say.
 use Rattle.xliff.specs.Good.{GoodItem}
-use Prim.Native.Nat.{ℕ, _+_, _<_, _≤_}
+use Prim.Native.Nat.{ℕ, _+_, _-_, _<_, _≤_}
 use mathlib.Core.Path.{_≡_, refl, sym, ap, _∙_}
 use mathlib.Core.Bool.{Bool, true, false, _&&_, _||_}
 use mathlib.Core.List.{List, [], _∷_, _++_, map}
-use lib.ListN.{length, drop}
+use native.Mathlib.Omega.{arith}
+use lib.ListN.{length, take, drop}
 use lib.Dec.{eqb}
 use Rattle.xliff.specs.Bytes.{two, four, two-at, any}
 use Rattle.xliff.specs.Item.{Item, Content, start, end, form-P, form-S, text, character, standalone, isolated, pair, annotation-start, annotation-end, mark, id-of}
 use Rattle.xliff.specs.Encode.{Record, text-run, inline, code-bytes, field-bytes, record-bytes, spell}
 use Rattle.xliff.specs.Parse.{is, mark-of, mark-at, reading, take-record, size-of}
 use Rattle.xliff.proofs.lists.Tests.{two-value, and-false}
-use Rattle.walker.specs.Offsets.{WidthAt}
+use Rattle.marks.specs.Marks.{meaning}
+use Rattle.marks.specs.declared.Mark.{Mark}
+use Rattle.marks.proofs.RecordLaws.{mark-front}
+use Rattle.walker.specs.Offsets.{MarkAt, WidthAt}
 use Rattle.walk.specs.Kept.{kept-item, kept-text, Of, items, Inline, an-item, a-text, InPart, item-in, text-in, InContent, Rest}
 use Rattle.walk.specs.Marks.{number, kindAt, kind, opposite, is-other, has-other}
 use Rattle.walk.proofs.RecordLaws.{record-least, size-there, width-there, NextOf, next-of, none-left}
@@ -90,6 +94,11 @@ rest-end c at rs h m = none-left Inline InContent parted inline-in c at rs h m
 -- the first record of a content that is not empty
 pub first-of : (c : List ℕ) (rs : List Record) → 0 < length c → Of c rs → Next c 0 (size-of (mark-at c) c) rs
 first-of c rs h o = next-of Inline InContent parted inline-in c 0 (size-of (mark-at c) c) rs h (rest-start c rs o) (size-there c 0)
+
+-- the mark read at the offset is that of the record
+pub next-mark : (c : List ℕ) (at w : ℕ) (rs : List Record) (n : Next c at w rs) (m : Mark) → MarkAt c at m → meaning m ≡ mark-at (take (at + w - at) (drop at c))
+next-mark c at w rs n m e =
+    e ∙ ap mark-at (n .bytes) ∙ mark-front (record-bytes (n .first)) (spell (n .others)) (omega (arith, n .width, n .least)) ∙ ap mark-at (sym (n .slice))
 
 -- Whether a content passes: a search over its records that stops at the first that lets it pass
 pub record Searched (f : Content → Bool) (c : List ℕ) (rs : List Record) (at : ℕ) : Type 0 where
