@@ -91,60 +91,82 @@ next c at w rs h m k = next-of Inline InContent parted inline-in c at w rs h m (
 pub rest-end : (c : List ℕ) (at : ℕ) (rs : List Record) → length c ≤ at → Rest c at rs → rs ≡ []
 rest-end c at rs h m = none-left Inline InContent parted inline-in c at rs h m
 
--- the first record of a content that is not empty
-pub first-of : (c : List ℕ) (rs : List Record) → 0 < length c → Of c rs → Next c 0 (size-of (mark-at c) c) rs
-first-of c rs h o = next-of Inline InContent parted inline-in c 0 (size-of (mark-at c) c) rs h (rest-start c rs o) (size-there c 0)
+-- the same, the width by the mark
+pub first-of : (c : List ℕ) (at : ℕ) (rs : List Record) → at < length c → Rest c at rs → Next c at (size-of (mark-at (drop at c)) (drop at c)) rs
+first-of c at rs h m = next-of Inline InContent parted inline-in c at (size-of (mark-at (drop at c)) (drop at c)) rs h m (size-there c at)
 
 -- the mark read at the offset is that of the record
 pub next-mark : (c : List ℕ) (at w : ℕ) (rs : List Record) (n : Next c at w rs) (m : Mark) → MarkAt c at m → meaning m ≡ mark-at (take (at + w - at) (drop at c))
 next-mark c at w rs n m e =
     e ∙ ap mark-at (n .bytes) ∙ mark-front (record-bytes (n .first)) (spell (n .others)) (omega (arith, n .width, n .least)) ∙ ap mark-at (sym (n .slice))
 
--- Whether a content passes: a search over its records that stops at the first that lets it pass
-pub record Searched (f : Content → Bool) (c : List ℕ) (rs : List Record) (at : ℕ) : Type 0 where
+-- The walk that looks for an item that passes a test p
+pub record Searched (p : Item → Bool) (c : List ℕ) (rs : List Record) (at : ℕ) : Type 0 where
   pub after : List Record
   pub rest : Rest c at after
-  pub same : f (items rs) ≡ f (items after)
+  pub same : any p (items rs) ≡ any p (items after)
 
-module _ (f : Content → Bool) (c : List ℕ) (rs : List Record) where
-  pub search-start : Of c rs → Searched f c rs 0
-  search-start o = record { after = rs; rest = rest-start c rs o; same = refl }
+pub search-start : (p : Item → Bool) (c : List ℕ) (rs : List Record) → Of c rs → Searched p c rs 0
+search-start p c rs o = record { after = rs; rest = rest-start c rs o; same = refl }
 
-  -- b: whether the next record does
-  module _ (at w : ℕ) (m : Searched f c rs at) (n : Next c at w (m .after)) (b : Bool) (step : f (items (m .after)) ≡ b || f (items (n .others))) where
-    pub search-found : b ≡ true → true ≡ f (items rs)
-    search-found e = sym (m .same ∙ step ∙ ap (λ (d : Bool). d || f (items (n .others))) e)
+pub search-end : (p : Item → Bool) (c : List ℕ) (rs : List Record) (at : ℕ) → length c ≤ at → Searched p c rs at → false ≡ any p (items rs)
+unfolding any reading
+search-end p c rs at h m = sym (m .same ∙ ap (λ (l : List Record). any p (items l)) (rest-end c at (m .after) h (m .rest)))
 
-    pub search-on : b ≡ false → Searched f c rs (at + w)
-    search-on e = record { after = n .others; rest = n .rest; same = m .same ∙ step ∙ ap (λ (d : Bool). d || f (items (n .others))) e }
+-- no text passes p, and a test q of bytes is p at each good record
+module _ (p : Item → Bool) (q : List ℕ → Bool) (no-text : (c : ℕ) → p (text c) ≡ false)
+    (texts : (cs s : List ℕ) → q (record-bytes (text-run cs) ++ s) ≡ false)
+    (others : (x : Item) (s : List ℕ) → GoodItem x → q (record-bytes (inline x) ++ s) ≡ p x) where
+  pub any-texts : (cs : List ℕ) (ys : Content) → any p (map text cs ++ ys) ≡ any p ys
+  unfolding any
+  any-texts [] ys = refl
+  any-texts (c ∷ cs) ys = rw (no-text c) (any-texts cs ys)
 
-  pub search-end : (at : ℕ) → f (items []) ≡ false → length c ≤ at → Searched f c rs at → false ≡ f (items rs)
-  search-end at e h m = sym (m .same ∙ ap (λ (l : List Record). f (items l)) (rest-end c at (m .after) h (m .rest)) ∙ e)
+  any-first : (r : Record) (rs : List Record) (s : List ℕ) → Inline r → any p (items (r ∷ rs)) ≡ q (record-bytes r ++ s) || any p (items rs)
+  unfolding any reading take-record
+  any-first (inline x) rs s (an-item g) = rw (others x s g)
+  any-first (text-run cs) rs s (a-text a l) = any-texts cs (items rs) ∙ rw (texts cs s)
 
--- texts have no other half
-pub texts-other : (k i : ℕ) (cs : List ℕ) (ys : Content) → has-other k i (map text cs ++ ys) ≡ has-other k i ys
-unfolding has-other any
-texts-other k i [] ys = refl
-texts-other k i (c ∷ cs) ys = rw (no-opposite k) (texts-other k i cs ys)
+  any-step : (c : List ℕ) (at w : ℕ) (rs : List Record) (n : Next c at w rs) → any p (items rs) ≡ q (drop at c) || any p (items (n .others))
+  any-step c at w rs n =
+      ap (λ (l : List Record). any p (items l)) (n .all) ∙ any-first (n .first) (n .others) (spell (n .others)) (n .good)
+      ∙ ap (λ (l : List ℕ). q l || any p (items (n .others))) (sym (n .bytes))
 
-text-false : (k : ℕ) (e : Bool) (cs s : List ℕ) → opposite k (kindAt (record-bytes (text-run cs) ++ s)) && e ≡ false
-text-false k e cs s = ap (λ (n : ℕ). opposite k n && e) (text-kind s cs) ∙ ap (λ (b : Bool). b && e) (no-opposite k)
+  -- the walk stops, or goes on
+  module _ (c : List ℕ) (rs : List Record) (at w : ℕ) (m : Searched p c rs at) (n : Next c at w (m .after)) where
+    step : (b : Bool) → q (drop at c) ≡ b → any p (items rs) ≡ b || any p (items (n .others))
+    step b e = m .same ∙ any-step c at w (m .after) n ∙ ap (λ (d : Bool). d || any p (items (n .others))) e
 
-pub first-other : (k i : ℕ) (r : Record) (rs : List Record) (s : List ℕ) → Inline r
-    → has-other k i (items (r ∷ rs)) ≡ opposite k (kindAt (record-bytes r ++ s)) && eqb i (number (record-bytes r ++ s)) || has-other k i (items rs)
-unfolding has-other any reading take-record
-first-other k i (inline x) rs s (an-item g) = rw (item-other s k i x g)
-first-other k i (text-run cs) rs s (a-text a l) =
-    texts-other k i cs (items rs)
-    ∙ sym (ap (λ (b : Bool). b || has-other k i (items rs)) (text-false k (eqb i (number (record-bytes (text-run cs) ++ s))) cs s))
+    pub search-found : q (drop at c) ≡ true → true ≡ any p (items rs)
+    search-found e = sym (step true e)
 
-pub other-step : (k i : ℕ) (c : List ℕ) (at w : ℕ) (rs : List Record) (n : Next c at w rs)
-    → has-other k i (items rs) ≡ opposite k (kindAt (drop at c)) && eqb i (number (drop at c)) || has-other k i (items (n .others))
-other-step k i c at w rs n =
-    ap (λ (l : List Record). has-other k i (items l)) (n .all)
-    ∙ first-other k i (n .first) (n .others) (spell (n .others)) (n .good)
-    ∙ ap (λ (l : List ℕ). opposite k (kindAt l) && eqb i (number l) || has-other k i (items (n .others))) (sym (n .bytes))
+    pub search-on : q (drop at c) ≡ false → Searched p c rs (at + w)
+    search-on e = record { after = n .others; rest = n .rest; same = step false e }
 
-pub none-other : (k i : ℕ) → has-other k i (items []) ≡ false
-unfolding has-other any reading
-none-other k i = refl
+-- the other half of a kind and id
+module _ (k i : ℕ) where
+  abbrev other-bytes : List ℕ → Bool
+  other-bytes l = opposite k (kindAt l) && eqb i (number l)
+
+  text-false : (c : ℕ) → is-other k i (text c) ≡ false
+  text-false c = rw (no-opposite k)
+
+  text-bytes-false : (cs s : List ℕ) → other-bytes (record-bytes (text-run cs) ++ s) ≡ false
+  text-bytes-false cs s = rw (text-kind s cs, no-opposite k)
+
+  -- texts have none
+  pub texts-other : (cs : List ℕ) (ys : Content) → has-other k i (map text cs ++ ys) ≡ has-other k i ys
+  unfolding has-other
+  texts-other cs ys = any-texts (is-other k i) other-bytes text-false text-bytes-false (λ x s g. item-other s k i x g) cs ys
+
+  module _ (c : List ℕ) (rs : List Record) (at w : ℕ) (m : Searched (is-other k i) c rs at) (n : Next c at w (m .after)) where
+    pub other-found : other-bytes (drop at c) ≡ true → true ≡ has-other k i (items rs)
+    unfolding has-other
+    other-found e = search-found (is-other k i) other-bytes text-false text-bytes-false (λ x s g. item-other s k i x g) c rs at w m n e
+
+    pub other-on : other-bytes (drop at c) ≡ false → Searched (is-other k i) c rs (at + w)
+    other-on e = search-on (is-other k i) other-bytes text-false text-bytes-false (λ x s g. item-other s k i x g) c rs at w m n e
+
+  pub other-none : (c : List ℕ) (rs : List Record) (at : ℕ) → length c ≤ at → Searched (is-other k i) c rs at → false ≡ has-other k i (items rs)
+  unfolding has-other
+  other-none c rs at h m = search-end (is-other k i) c rs at h m

@@ -5,14 +5,14 @@ use native.Mathlib.Omega.{arith}
 use lib.ListN.{length}
 use Rattle.xliff.specs.Encode.{Record}
 use Rattle.walk.specs.Kept.{Of}
-use Rattle.walk.specs.Marks.{has-other}
-use Rattle.walk.proofs.WalkLaws.{next, Searched, search-start, search-found, search-on, search-end, other-step, none-other}
+use Rattle.walk.specs.Marks.{is-other}
+use Rattle.walk.proofs.WalkLaws.{next, Searched, search-start, other-found, other-on, other-none}
 use borrow.Author.Needs.{needs}
 use Rattle.walk.proofs.has_other.Statement.{statement}
 use Rattle.walk.proofs.has_other.Tie as tie
 
 abbrev Inv-loop : tie.InvT-loop
-Inv-loop c kind id at₀ at = (at ≤ length c) × ((rs : List Record) → Of c rs → Searched (has-other kind id) c rs at)
+Inv-loop c kind id at₀ at = (at ≤ length c) × ((rs : List Record) → Of c rs → Searched (is-other kind id) c rs at)
 
 abbrev μ-loop : tie.MeasureT-loop
 μ-loop c kind id at₀ at = length c - at
@@ -21,7 +21,7 @@ abbrev μ-loop : tie.MeasureT-loop
 loop-holds : tie.Need-loop-holds Inv-loop μ-loop
 loop-holds c =
     let args = c .before .args in
-    (omega arith, λ rs o. search-start (has-other (args .kind) (args .id)) (args .c .now) rs o)
+    (omega arith, λ rs o. search-start (is-other (args .kind) (args .id)) (args .c .now) rs o)
 
 -- the next record ends within the content
 add-next : tie.Need-add-next Inv-loop μ-loop
@@ -61,7 +61,7 @@ returns c =
     let c₀ = args .c .now in
     let m = loop .inv .1 rs o in
     let n = next c₀ (loop .at) _ (m .after) loop-test (m .rest) (width-at .ensures) in
-    search-found _ c₀ rs (loop .at) _ m n _ (other-step (args .kind) (args .id) c₀ (loop .at) _ (m .after) n) (sym (other-at .ensures) ∙ if1)
+    other-found (args .kind) (args .id) c₀ rs (loop .at) _ m n (sym (other-at .ensures) ∙ if1)
 
 -- the walk goes on
 loop-less : tie.Need-loop-less Inv-loop μ-loop
@@ -94,7 +94,7 @@ loop-again c =
       λ rs o.
           let m = loop .inv .1 rs o in
           let n = next c₀ at-now _ (m .after) loop-test (m .rest) (width-at .ensures) in
-          search-on _ c₀ rs at-now _ m n _ (other-step (args .kind) (args .id) c₀ at-now _ (m .after) n) (sym (other-at .ensures) ∙ if1),
+          other-on (args .kind) (args .id) c₀ rs at-now _ m n (sym (other-at .ensures) ∙ if1),
     )
 
 -- no record is
@@ -103,7 +103,7 @@ returns-2 c =
     let args = c .before .before .before .args in
     let loop = c .before .loop in
     let loop-test = c .loop-test .left in
-    λ rs o. search-end (has-other (args .kind) (args .id)) (args .c .now) rs (loop .at) (none-other (args .kind) (args .id)) loop-test (loop .inv .1 rs o)
+    λ rs o. other-none (args .kind) (args .id) (args .c .now) rs (loop .at) loop-test (loop .inv .1 rs o)
 
 pub has-other-spec : {M : Type 1} → statement M
 has-other-spec =
