@@ -1,16 +1,17 @@
 -- The code at the head of a good record is the item's, and it has twelve bytes.
 use Rattle.xliff.specs.Good.{GoodItem}
-use Prim.Native.Nat.{ℕ, _≤_}
+use Prim.Native.Nat.{ℕ, _+_, _≤_}
 use mathlib.Core.Path.{_≡_, refl, ap}
 use mathlib.Core.List.{List, _++_}
 use native.Mathlib.Omega.{arith}
-use lib.ListN.{length, length-append}
+use lib.ListN.{length, drop, length-append, length-drop}
 use Rattle.xliff.specs.Bytes.{two, four}
 use Rattle.xliff.specs.Item.{Item, start, end, form-P, form-S, text, character, standalone, isolated, pair, annotation-start, annotation-end, mark}
 use Rattle.xliff.specs.Encode.{Record, text-run, inline, code-bytes, field-bytes, record-bytes}
 use Rattle.xliff.specs.Parse.{is, mark-of, mark-at}
 use Rattle.walk.specs.Kept.{Inline, an-item, a-text}
 use Rattle.walk.specs.Place.{Begins}
+use Rattle.walk.proofs.PlaceLaws.{begins-least}
 use Rattle.codes.specs.Codes.{codeAt, code}
 
 module _ (s : List ℕ) where
@@ -58,3 +59,10 @@ begins-code t (r, s, g, e) h =
     let w : length (record-bytes r) ≡ 12 = code-long r s g (let z : codeAt t ≡ codeAt (record-bytes r ++ s) = ap codeAt e in omega arith) in
     let l : length t ≡ length (record-bytes r ++ s) = ap length e in
     omega (arith, length-append (record-bytes r) s)
+
+-- the record at an offset
+pub begins-there : (c : List ℕ) (at : ℕ) → Begins (drop at c) → at + 4 ≤ length c
+begins-there c at b = omega (arith, begins-least (drop at c) b, length-drop at c)
+
+pub code-there : (c : List ℕ) (at : ℕ) → Begins (drop at c) → 1 ≤ codeAt (drop at c) → at + 12 ≤ length c
+code-there c at b h = omega (arith, begins-code (drop at c) b h, length-drop at c)

@@ -1,1 +1,5 @@
 pub mod CodeLaws
+pub mod SameLaws
+pub mod LostLaws
+pub mod FixedLaws
+pub mod ListLaws

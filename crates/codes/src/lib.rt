@@ -1,13 +1,14 @@
-// Which inline code a record of a good content is: its mark as when flattened.
+// The inline codes of a good content: which code a record is, marks taken as when flattened.
+pub mod fixed;
+pub mod kept;
 use marks::Mark;
 ghost use mathlib.Core.Path.{_≡_};
-ghost use Prim.Native.Nat.{_≤_};
-ghost use lib.ListN.{length};
+ghost use lib.ListN.{drop};
 ghost use Rattle.marks.specs.Marks.{meaning};
 ghost use Rattle.codes.specs.Codes.{codeOf, codeAt};
 
 // The inline code of a mark: 1 PO SC, 2 PC EC, 3 PH, 4 IS, 5 IE; 0 for text, a character or an annotation.
-fn code_by(m: Mark) -> u8
+fn code_of(m: Mark) -> u8
     ensures { λ r. ⌜ r ≡ codeOf (meaning m) ⌝ }
 {
     match m {
@@ -20,10 +21,9 @@ fn code_by(m: Mark) -> u8
     }
 }
 
-// The inline code at the head of `t`.
-pub fn code_of(t: &[u8]) -> u8
-    requires { ⌜ 4 ≤ length (now t) ⌝ }
-    ensures { λ r. ⌜ r ≡ codeAt (now (t .entry)) ⌝ }
+// The inline code that the record at `at` is.
+fn code_at(c: &[u8], at: usize) -> u8
+    ensures { λ r. ⌜ r ≡ codeAt (drop at (now (c .entry))) ⌝ }
 {
-    code_by(marks::mark_of(t))
+    code_of(walker::mark_at(c, at))
 }

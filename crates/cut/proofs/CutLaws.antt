@@ -6,7 +6,7 @@ use mathlib.Core.Bool.{Bool, true, false, _&&_, _||_, cond}
 use mathlib.Core.List.{List, [], _∷_, _++_, map, append-nil}
 use native.Mathlib.Omega.{arith}
 use lib.ListN.{length, getD, take, drop}
-use Rattle.xliff.specs.Bytes.{two, four, any}
+use Rattle.xliff.specs.Bytes.{two, four, any, two-at}
 use Rattle.xliff.specs.Item.{Item, Content, start, end, form-P, form-S, text, character, standalone, isolated, pair, annotation-start, annotation-end, mark, id-of, class, half, alike, other-half, in-form}
 use Rattle.xliff.specs.Encode.{Record, text-run, inline, code-bytes, field-bytes, record-bytes, spell, content-records, content-bytes, item-before}
 use Rattle.xliff.specs.Parse.{Mark, UN, UE, SG, IG, TG, TX, CP, PH, PO, PC, SC, EC, IS, IE, MO, SM, MC, EM, unknown, is, mark-of, mark-at, reading, take-record}
@@ -14,11 +14,10 @@ use Rattle.xliff.specs.Split.{cut-item}
 use Rattle.xliff.proofs.lists.Tests.{two-value, and-false}
 use Rattle.xliff.proofs.unit.Table.{starts-text, content-records-text}
 use Rattle.walk.specs.Kept.{Kept, kept-end, kept-item, kept-text, items, Inline, an-item, a-text}
-use Rattle.walk.specs.Marks.{number, kindAt, kind, is-other, has-other}
-use Rattle.walk.proofs.WalkLaws.{inline-least}
+use Rattle.walk.specs.Marks.{number, kindOf, kindAt, kind, is-other, has-other}
 use Rattle.writer.specs.Pieces.{lead, overlay, numberBytes}
 use Rattle.writer.proofs.PieceLaws.{over-lead, two-back}
-use Rattle.cut.specs.Turned.{turnedMark, turnIf, cut-record, cut-records, One, textPiece}
+use Rattle.cut.specs.Turned.{turnedMark, turnIf, cut-record, cut-records, textPiece}
 
 and-true : (a : Bool) → a && true ≡ a
 and-true true = refl
@@ -82,7 +81,7 @@ no-other i (y ∷ ys) = no-other i ys
 
 -- the test on a record's bytes
 turn-is : (x : Item) (s : List ℕ) (ys : Content) → GoodItem x → has-other (kindAt (record-bytes (inline x) ++ s)) (number (record-bytes (inline x) ++ s)) ys ≡ any (other-half x) ys
-unfolding kindAt mark-at mark-of is record-bytes mark field-bytes code-bytes two four id-of
+unfolding kindAt mark-at mark-of is two-at record-bytes mark field-bytes code-bytes two four id-of
 turn-is (text c) s ys g = absurd g
 turn-is (character c) s ys g = no-other _ ys ∙ sym (any-other (character c) ys ∙ no-other _ ys)
 turn-is (standalone f) s ys g = no-other _ ys ∙ sym (any-other (standalone f) ys ∙ no-other _ ys)
@@ -150,13 +149,23 @@ unfolding kindAt mark-at mark-of is record-bytes two turnIf
 text-stays cs ys = rw (no-other _ ys)
 
 -- one record
-pub cut-one : (r : Record) (ys : Content) → Inline r → turnIf (has-other (kindAt (record-bytes r)) (number (record-bytes r)) ys) (record-bytes r) ≡ record-bytes (cut-record ys r)
+cut-one : (r : Record) (ys : Content) → Inline r → turnIf (has-other (kindAt (record-bytes r)) (number (record-bytes r)) ys) (record-bytes r) ≡ record-bytes (cut-record ys r)
 unfolding cut-item
 cut-one (inline x) ys (an-item g) =
     ap (λ (b : Bool). turnIf b (record-bytes (inline x)))
     (ap (λ (l : List ℕ). has-other (kindAt l) (number l) ys) (sym (append-nil (record-bytes (inline x)))) ∙ turn-is x [] ys g)
     ∙ cut-if x (any (other-half x) ys) g
 cut-one (text-run cs) ys (a-text a l) = text-stays cs ys
+
+-- the bytes that are written, where the record's mark and number are read
+pub cut-written : (r : Record) (qs : List Record) (t o l : List ℕ) (m : Mark) (k i : ℕ) (b : Bool) → Inline r → t ≡ record-bytes r → m ≡ mark-at t
+    → k ≡ kindOf m → i ≡ number t → b ≡ has-other k i (items qs) → l ≡ lead (turnIf b t) o → l ≡ lead (record-bytes (cut-record (items qs) r)) o
+unfolding kindAt
+cut-written r qs t o l m k i b g e mark kind id turn out =
+    let found : b ≡ has-other (kindAt t) (number t) (items qs) = turn ∙ ap₂ (λ (x y : ℕ). has-other x y (items qs)) (kind ∙ ap kindOf mark) id in
+    out ∙ ap (λ (x : Bool). lead (turnIf x t) o) found
+    ∙ ap (λ (x : List ℕ). lead (turnIf (has-other (kindAt x) (number x) (items qs)) x) o) e
+    ∙ ap (λ (x : List ℕ). lead x o) (cut-one r (items qs) g)
 
 pub cut-length : (r : Record) (ys : Content) → Inline r → length (record-bytes (cut-record ys r)) ≡ length (record-bytes r)
 unfolding cut-item
@@ -261,9 +270,6 @@ turned-over (a ∷ b ∷ s) o l n m h e f g =
 pub not-turned : (t o l : List ℕ) → l ≡ lead t o → l ≡ lead (turnIf false t) o
 unfolding turnIf
 not-turned t o l e = e
-
-pub one-least : (t : List ℕ) → One t → 4 ≤ length t
-one-least t (r, g, e) = let l : length t ≡ length (record-bytes r) = ap length e in omega (arith, inline-least r g)
 
 -- three pieces one behind the other
 pub text-over : (t out l m n : List ℕ) (i j : ℕ) → l ≡ overlay out 0 (84 ∷ 88 ∷ []) → i ≡ 0 + 2 → m ≡ overlay l i (numberBytes (length t)) → j ≡ i + 2

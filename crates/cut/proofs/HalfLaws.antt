@@ -15,18 +15,17 @@ use Rattle.xliff.specs.Split.{cut-item, first-items, second-items}
 use Rattle.xliff.proofs.lists.Tests.{map-append}
 use Rattle.xliff.specs.Good.{Allowed, no-text, one-point}
 use Rattle.xliff.proofs.records.Parse.{reading-content, onto}
-use Rattle.walk.specs.Kept.{Kept, kept-end, kept-item, kept-text, Of, Holds, items, an-item}
-use Rattle.walk.specs.Marks.{widthAt, kind, is-other, has-other}
+use Rattle.walker.specs.Offsets.{WidthAt}
+use Rattle.walk.specs.Kept.{Kept, kept-end, kept-item, kept-text, Of, Holds, items, an-item, text-in}
+use Rattle.walk.specs.Marks.{kind, is-other, has-other}
 use Rattle.walk.specs.Place.{Inside, over, between, within, Parted}
 use Rattle.walk.specs.declared.Place.{Place}
-use Rattle.xliff.proofs.lists.Slices.{tail-is, slice-long}
-use Rattle.walk.proofs.WalkLaws.{texts-other, text-width}
+use Rattle.walk.proofs.RecordLaws.{width-there}
+use Rattle.walk.proofs.WalkLaws.{texts-other}
 use Rattle.walk.proofs.TextLaws.{utf8s-append, utf8-some}
 use Rattle.xliff.proofs.unit.Pieces.{spell-append}
 use Rattle.walk.proofs.PlaceLaws.{kept-items, kept-front, kept-back}
-use Rattle.cut.specs.Turned.{cut-record, cut-records, textPiece, CutAll}
-use Rattle.writer.specs.Pieces.{lead}
-use Rattle.writer.proofs.PieceLaws.{two-back}
+use Rattle.cut.specs.Turned.{cut-record, cut-records, textPiece}
 use Rattle.cut.proofs.CutLaws.{any-other, cut-bytes, cut-length}
 
 -- the items of the records of a content
@@ -182,7 +181,7 @@ module _ (k u : ℕ) (us : List ℕ) (v : ℕ) (vs : List ℕ) (a rs : List Reco
 pub record Inner (k : ℕ) (c : List ℕ) (xs : Content) (p : Place) (before after : List Record) : Type 0 where
   pub size : ℕ
   pub others : List Record
-  pub width : widthAt (drop (p .at) c) ≡ 4 + size
+  pub width : (w : ℕ) → WidthAt c (p .at) w → w ≡ 4 + size
   pub less : p .into < size
   pub small : size < 65536
   pub fit : p .at + (4 + size) ≤ length c
@@ -287,14 +286,15 @@ module _ (k : ℕ) (c : List ℕ) (at u : ℕ) (us : List ℕ) (v : ℕ) (vs : L
 
   pub the-inner : Inner k c (items (a ++ (text-run ((u ∷ us) ++ (v ∷ vs)) ∷ rs))) (record { at = at; into = length us′; left = 0 }) a (text-run ((u ∷ us) ++ (v ∷ vs)) ∷ rs)
   the-inner =
+      let kept = text-kept false a ((u ∷ us) ++ (v ∷ vs)) rs (o .0) in
       record {
         size = length whole;
         others = rs;
-        width = ap widthAt from-record ∙ text-width (spell rs) ((u ∷ us) ++ (v ∷ vs)) ∙ record-size;
+        width = λ w h. width-there c at w h (text-run ((u ∷ us) ++ (v ∷ vs))) (spell rs) (text-in (kept .allowed) (kept .small)) from-record ∙ record-size;
         less = omega (arith, whole-size, some-more);
-        small = text-kept false a ((u ∷ us) ++ (v ∷ vs)) rs (o .0) .small;
+        small = kept .small;
         fit = fits-in;
-        rest = (weaken true rs (text-kept false a ((u ∷ us) ++ (v ∷ vs)) rs (o .0) .others), sym from-rest);
+        rest = (weaken true rs (kept .others), sym from-rest);
         first = inner-first k u us v vs a rs (o .0) count
             ∙ ap (λ (l : List ℕ). spell (cut-records (items (text-run ((u ∷ us) ++ (v ∷ vs)) ∷ rs)) a) ++ l)
             (piece (u ∷ us) ∙ ap textPiece (sym (ap (take (length us′)) from-text ∙ take-at us′ (vs′ ++ spell rs) (length us′) refl)));
@@ -402,62 +402,3 @@ module _ (k : ℕ) (c : List ℕ) (xs : Content) (p : Place) (s : Sides k c xs p
       ap length (i .second) ∙ length-append (textPiece (take (i .size - p .into) (drop (p .at + 4 + p .into) c))) (spell (cut-records (items (s .before)) (i .others)))
       ∙ ap₂ _+_ (piece-size (take (i .size - p .into) (drop (p .at + 4 + p .into) c)) ∙ ap (λ (n : ℕ). 4 + n) t) (rest-size i)
       ∙ (let z : 4 + (i .size - p .into) + (length c - (p .at + (4 + i .size))) ≡ length c - p .at - p .into = omega (arith, i .fit, i .less) in z)
-
-pub as-slice : (c : List ℕ) (at : ℕ) (rs : List Record) → Of (drop at c) rs → Of (take (length c - at) (drop at c)) rs
-as-slice c at rs o = subst (λ (l : List ℕ). Of l rs) (sym (tail-is at c)) o
-
-module _ (k : ℕ) (c : List ℕ) (xs : Content) (p : Place) (s : Sides k c xs p) where
-  pub into-fit : p .into ≤ length c - p .at
-  into-fit = by (p .into) refl
-    where
-      by : (n : ℕ) → p .into ≡ n → p .into ≤ length c - p .at
-      by zero e = omega arith
-      by (suc n) e = let i = s .inner (omega arith) in omega (arith, i .fit, i .less)
-
-  pub second-size : length (content-bytes (second-items k xs)) ≡ length c - p .at - p .into
-  second-size = by (p .into) refl
-    where
-      by : (n : ℕ) → p .into ≡ n → length (content-bytes (second-items k xs)) ≡ length c - p .at - p .into
-      by zero e = omega (arith, second-size-0 k c xs p s e)
-      by (suc n) e = second-size-1 k c xs p s (omega arith)
-
--- the records behind the text, where its width is known
-pub rest-at : (k : ℕ) (c : List ℕ) (xs : Content) (p : Place) (a b : List Record) (i : Inner k c xs p a b) (w : ℕ) → w ≡ widthAt (drop (p .at) c) → Of (drop (p .at + w) c) (i .others)
-rest-at k c xs p a b i w e = subst (λ (n : ℕ). Of (drop (p .at + n) c) (i .others)) (sym (e ∙ i .width)) (i .rest)
-
--- the second half written in two pieces: its text, and what is behind the text
-module _ (k : ℕ) (c : List ℕ) (xs : Content) (p : Place) (s : Sides k c xs p) (z : 1 ≤ p .into) (w : ℕ) (e : w ≡ widthAt (drop (p .at) c)) where
-  abbrev the-text : List ℕ
-  the-text = take (p .at + w - (p .at + 4 + p .into)) (drop (p .at + 4 + p .into) c)
-
-  abbrev the-rest : List ℕ
-  the-rest = take (length c - (p .at + w)) (drop (p .at + w) c)
-
-  text-long : length the-text ≡ p .at + w - (p .at + 4 + p .into)
-  text-long = let i = s .inner z in let wi : w ≡ 4 + i .size = e ∙ i .width in slice-long c (p .at + 4 + p .into) (p .at + w) (omega (arith, i .less)) (omega (arith, i .fit))
-
-  rest-long : length the-rest ≡ length c - (p .at + w)
-  rest-long = ap length (tail-is (p .at + w) c) ∙ length-drop (p .at + w) c
-
-  pub second-sum : (n m : ℕ) → n ≡ 4 + length the-text → m ≡ length the-rest → n + m ≡ length c - p .at - p .into
-  second-sum n m f g =
-      let i = s .inner z in
-      let wi : w ≡ 4 + i .size = e ∙ i .width in
-      let a = text-long in
-      let b = rest-long in
-      omega (arith, i .fit, i .less)
-
-  pub second-wrote : (n m : ℕ) (o l y : List ℕ) → n ≡ 4 + length the-text → m ≡ length the-rest → l ≡ lead (textPiece the-text) o
-      → CutAll the-rest (take (p .at) c) (take (length l - n) (drop n l)) y
-      → (n + m ≡ length (content-bytes (second-items k xs))) × (take n l ++ (y ++ drop (length l - n) (drop n l)) ≡ lead (content-bytes (second-items k xs)) o)
-  second-wrote n m o l y f g h u =
-      let i = s .inner z in
-      let wi : w ≡ 4 + i .size = e ∙ i .width in
-      let j : p .at + w - (p .at + 4 + p .into) ≡ i .size - p .into = omega arith in
-      let q : textPiece the-text ++ spell (cut-records (items (s .before)) (i .others)) ≡ content-bytes (second-items k xs) =
-      ap (λ (n : ℕ). textPiece (take n (drop (p .at + 4 + p .into) c)) ++ spell (cut-records (items (s .before)) (i .others))) j ∙ sym (i .second) in (
-        second-sum n m f g ∙ sym (second-size k c xs p s),
-        two-back o (textPiece the-text) (spell (cut-records (items (s .before)) (i .others))) l y n (f ∙ sym (piece-size the-text)) h
-            (u (i .others) (s .before) (as-slice c (p .at + w) (i .others) (rest-at k c xs p (s .before) (s .after) i w e)) (s .front))
-            ∙ ap (λ (l : List ℕ). lead l o) q,
-      )

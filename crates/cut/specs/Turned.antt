@@ -52,10 +52,6 @@ cut-record ys (broken b) = broken b
 abbrev pub cut-records : Content → List Record → List Record
 cut-records ys rs = map (cut-record ys) rs
 
--- t is one record
-abbrev pub One : List ℕ → Type 0
-One t = (r : Record) × Inline r × (t ≡ record-bytes r)
-
 -- the output o has become l: one record, cut; all records of a, cut
 abbrev pub CutOne : List ℕ → List ℕ → List ℕ → List ℕ → Type 0
 CutOne t beyond o l = (r : Record) (qs : List Record) → Inline r → t ≡ record-bytes r → Of beyond qs → l ≡ lead (record-bytes (cut-record (items qs) r)) o

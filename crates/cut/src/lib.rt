@@ -6,7 +6,9 @@ ghost use lib.ListN.{length};
 ghost use Rattle.marks.specs.Marks.{meaning};
 ghost use Rattle.writer.specs.Pieces.{lead};
 ghost use Rattle.walk.specs.Kept.{Fair};
-ghost use Rattle.cut.specs.Turned.{turnedMark, turnIf, One, CutOne, CutAll, textPiece};
+ghost use Rattle.walk.specs.Place.{One};
+ghost use Rattle.cut.specs.Turned.{turnedMark, turnIf, CutOne, CutAll, textPiece};
+ghost use Rattle.xliff.specs.Parse.{mark-at};
 ghost use Rattle.xliff.specs.Split.{first-items, second-items};
 ghost use Rattle.cut.specs.Halves.{Room, Wrote};
 
@@ -32,24 +34,24 @@ fn put_turned_mark(out: &mut [u8], m: Mark)
     }
 }
 
-// A record's bytes at the head of `out`, with the marks of start and end if asked.
-fn put_turned(out: &mut [u8], t: &[u8], turn: bool)
-    requires { ⌜ (4 ≤ length (now t)) × (length (now t) ≤ length (now out)) ⌝ }
+// The bytes of a record of the mark `m` at the head of `out`, with the marks of start and end if asked.
+fn put_turned(out: &mut [u8], m: Mark, t: &[u8], turn: bool)
+    requires { ⌜ (meaning m ≡ mark-at (now t)) × (4 ≤ length (now t)) × (length (now t) ≤ length (now out)) ⌝ }
     ensures { λ r. ⌜ now (out .exit) ≡ lead (turnIf turn (now (t .entry))) (now (out .entry)) ⌝ }
 {
     let n = writer::put(out, t);
     if turn {
-        put_turned_mark(out, marks::mark_of(t));
+        put_turned_mark(out, m);
     }
 }
 
-// One record, turned if its other half stands beyond the cut.
-fn put_cut_one(out: &mut [u8], t: &[u8], beyond: &[u8])
-    requires { ⌜ One (now t) × Fair (now beyond) × (length (now t) ≤ length (now out)) ⌝ }
+// One record of the mark `m`, turned if its other half stands beyond the cut.
+fn put_cut_one(out: &mut [u8], m: Mark, t: &[u8], beyond: &[u8])
+    requires { ⌜ One (now t) × (meaning m ≡ mark-at (now t)) × Fair (now beyond) × (length (now t) ≤ length (now out)) ⌝ }
     ensures { λ r. ⌜ CutOne (now (t .entry)) (now (beyond .entry)) (now (out .entry)) (now (out .exit)) ⌝ }
 {
-    let turn = walk::has_other(beyond, walk::kind_of(t), walk::number_of(t));
-    put_turned(out, t, turn);
+    let turn = walk::has_other(beyond, walk::kind_of(m), marks::number_at(t, 2));
+    put_turned(out, m, t, turn);
 }
 
 // All records of `a`.
@@ -59,9 +61,9 @@ fn put_cut(out: &mut [u8], a: &[u8], beyond: &[u8]) -> usize
 {
     let mut at: usize = 0;
     while at < a.len() {
-        let e = at + walk::width_of(&a[at..]);
-        put_cut_one(&mut out[at..], &a[at..e], beyond);
-        at = e;
+        let next = at + walker::width_at(a, at);
+        put_cut_one(&mut out[at..], walker::mark_at(a, at), &a[at..next], beyond);
+        at = next;
     }
     at
 }
@@ -106,9 +108,9 @@ pub fn put_second(out: &mut [u8], c: &[u8], k: usize) -> usize
     if into == 0 {
         return put_cut(out, &c[at..], &c[..at]);
     }
-    let e = at + walk::width_of(&c[at..]);
+    let next = at + walker::width_at(c, at);
     let s = at + 4 + into;
-    let n = put_text(out, &c[s..e]);
-    let m = put_cut(&mut out[n..], &c[e..], &c[..at]);
+    let n = put_text(out, &c[s..next]);
+    let m = put_cut(&mut out[n..], &c[next..], &c[..at]);
     n + m
 }

@@ -78,10 +78,10 @@ fn set_content(
 {
     let from = old_from(place);
     let to = old_to(place);
-    if kept_codes::is_lost(&table[from..to], content) {
+    if codes::kept::is_lost(&table[from..to], content) {
         return Answer::Refused(18, 0);
     }
-    if fixed_codes::differs(&table[from..to], content) {
+    if codes::fixed::differs(&table[from..to], content) {
         return Answer::Refused(19, 0);
     }
     let order = target_order::new_order(table, n, place);

@@ -1,11 +1,10 @@
--- What is read of a record that is known to be good: its width, its kind, its id. Stepping stones: the laws of proofs/WalkLaws tie them to the items.
-use Prim.Native.Nat.{ℕ, _+_, _*_}
+-- What is read of a record that is known to be good: its kind, its id. Stepping stones: the laws of proofs/WalkLaws tie them to the items.
+use Prim.Native.Nat.{ℕ}
 use mathlib.Core.Bool.{Bool, _&&_, _||_}
 use mathlib.Core.List.{List}
-use lib.ListN.{getD}
 use lib.Dec.{eqb}
-use Rattle.xliff.specs.Bytes.{any}
-use Rattle.xliff.specs.Parse.{Mark, UN, UE, SG, IG, TG, TX, CP, PH, PO, PC, SC, EC, IS, IE, MO, SM, MC, EM, unknown, mark-at, size-of}
+use Rattle.xliff.specs.Bytes.{any, two-at}
+use Rattle.xliff.specs.Parse.{Mark, UN, UE, SG, IG, TG, TX, CP, PH, PO, PC, SC, EC, IS, IE, MO, SM, MC, EM, unknown, mark-at}
 use mathlib.Core.Path.{_≡_}
 use Rattle.xliff.specs.Encode.{Record}
 use Rattle.walk.specs.Kept.{Of, items}
@@ -13,10 +12,7 @@ use Rattle.xliff.specs.Item.{Item, Content, start, end, text, character, standa
 
 -- the number behind the mark
 abbrev pub number : List ℕ → ℕ
-number t = getD t 2 0 * 256 + getD t 3 0
-
-unfoldable pub widthAt : List ℕ → ℕ
-widthAt t = size-of (mark-at t) t
+number t = two-at t 2
 
 -- the halves: 1 PO SC, 2 PC EC, 3 MO SM, 4 MC EM; 0 for all others
 abbrev pub kindOf : Mark → ℕ

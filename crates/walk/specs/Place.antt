@@ -18,13 +18,13 @@ use Rattle.walk.specs.declared.Place.{Place}
 abbrev pub PassedOver : List ℕ → ℕ → Passed → Type 0
 PassedOver t k p = (cs : List ℕ) → Allowed cs → utf8s cs ≡ t → (p .bytes ≡ length (utf8s (take k cs))) × (p .left ≡ k - length cs)
 
--- one record met with k items to pass over: the item stands in it, behind that many bytes of its text; or the record's width, and the items left
+-- one record met with k items to pass over: the item stands in it, behind that many bytes of its text; or the items left
 abbrev pub passText : Passed → ℕ → Pass
-passText p n = cond (ltb (p .bytes) n) (Stop (p .bytes)) (On (4 + n) (p .left))
+passText p n = cond (ltb (p .bytes) n) (Stop (p .bytes)) (On (p .left))
 
-abbrev pub passItem : ℕ → ℕ → Pass
-passItem w zero = Stop 0
-passItem w (suc k) = On w k
+abbrev pub passItem : ℕ → Pass
+passItem zero = Stop 0
+passItem (suc k) = On k
 
 abbrev pub passOf : Record → ℕ → Pass
 passOf (opening c) k = Stop 0
@@ -32,7 +32,7 @@ passOf closing k = Stop 0
 passOf (part-head h) k = Stop 0
 passOf (target-head q) k = Stop 0
 passOf (text-run cs) k = passText (record { bytes = length (utf8s (take k cs)); left = k - length cs }) (length (utf8s cs))
-passOf (inline x) k = passItem (length (record-bytes (inline x))) k
+passOf (inline x) k = passItem k
 passOf ill-text k = Stop 0
 passOf (broken b) k = Stop 0
 
@@ -40,8 +40,12 @@ passOf (broken b) k = Stop 0
 abbrev pub Begins : List ℕ → Type 0
 Begins t = (r : Record) × (s : List ℕ) × Inline r × (t ≡ record-bytes r ++ s)
 
+-- t is one record
+abbrev pub One : List ℕ → Type 0
+One t = (r : Record) × Inline r × (t ≡ record-bytes r)
+
 abbrev pub PassedOne : List ℕ → ℕ → Pass → Type 0
-PassedOne t k p = (r : Record) (s : List ℕ) → Inline r → t ≡ record-bytes r ++ s → p ≡ passOf r k
+PassedOne t k p = (r : Record) → Inline r → t ≡ record-bytes r → p ≡ passOf r k
 
 -- Item number k of records of which n items stand before `after`: bytes into the text that comes next, items that are missing, what comes next
 pub data Inside (k n : ℕ) : ℕ → ℕ → List Record → Type 0 where

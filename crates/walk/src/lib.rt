@@ -7,9 +7,9 @@ ghost use lib.ListN.{length, drop};
 ghost use lib.Dec.{eqb};
 ghost use Rattle.walk.specs.Kept.{Fair};
 ghost use Rattle.marks.specs.Marks.{meaning};
-ghost use Rattle.walk.specs.Marks.{number, widthAt, kindOf, kindAt, opposite, Answers};
+ghost use Rattle.walk.specs.Marks.{number, kindOf, kindAt, opposite, Answers};
 ghost use Rattle.walk.specs.Points.{lead, leads, further, sought};
-ghost use Rattle.walk.specs.Place.{PassedOver, passText, Begins, PassedOne, PlaceOf};
+ghost use Rattle.walk.specs.Place.{PassedOver, passText, One, PassedOne, PlaceOf};
 
 // Where an item begins: its record's offset, the bytes before it in that record's text, the items that are missing.
 pub struct Place {
@@ -18,24 +18,8 @@ pub struct Place {
     pub left: usize,
 }
 
-// The two-byte number behind a mark.
-pub fn number_of(t: &[u8]) -> u16
-    requires { ⌜ 4 ≤ length (now t) ⌝ }
-    ensures { λ r. ⌜ r ≡ number (now (t .entry)) ⌝ }
-{
-    marks::number_at(t, 2)
-}
-
-// The bytes of the record at the head of `t`.
-pub fn width_of(t: &[u8]) -> usize
-    requires { ⌜ 4 ≤ length (now t) ⌝ }
-    ensures { λ r. ⌜ r ≡ widthAt (now (t .entry)) ⌝ }
-{
-    marks::width_of(t)
-}
-
 // Which half of a pair or of an annotation a mark is: 1 and 2 a pair's start and end, 3 and 4 an annotation's, 0 none.
-fn kind_by(m: Mark) -> u8
+pub fn kind_of(m: Mark) -> u8
     ensures { λ r. ⌜ r ≡ kindOf (meaning m) ⌝ }
 {
     match m {
@@ -47,26 +31,18 @@ fn kind_by(m: Mark) -> u8
     }
 }
 
-// Which half the record at the head of `t` is.
-pub fn kind_of(t: &[u8]) -> u8
-    requires { ⌜ 4 ≤ length (now t) ⌝ }
-    ensures { λ r. ⌜ r ≡ kindAt (now (t .entry)) ⌝ }
-{
-    kind_by(marks::mark_of(t))
-}
-
 fn opposite_kinds(a: u8, b: u8) -> bool
     ensures { λ r. ⌜ r ≡ opposite a b ⌝ }
 {
     ((a == 1) & (b == 2)) | ((a == 2) & (b == 1)) | (((a == 3) & (b == 4)) | ((a == 4) & (b == 3)))
 }
 
-// Whether the record at the head of `t` is the other half of one of that kind and id.
-fn other_at(t: &[u8], kind: u8, id: u16) -> bool
-    requires { ⌜ 4 ≤ length (now t) ⌝ }
-    ensures { λ r. ⌜ r ≡ opposite kind (kindAt (now (t .entry))) && eqb id (number (now (t .entry))) ⌝ }
+// Whether the record at `at` is the other half of one of that kind and id.
+fn other_at(c: &[u8], at: usize, kind: u8, id: u16) -> bool
+    requires { ⌜ at + 4 ≤ length (now c) ⌝ }
+    ensures { λ r. ⌜ r ≡ opposite kind (kindAt (drop at (now (c .entry)))) && eqb id (number (drop at (now (c .entry)))) ⌝ }
 {
-    opposite_kinds(kind, kind_of(t)) & (id == number_of(t))
+    opposite_kinds(kind, kind_of(walker::mark_at(c, at))) & (id == marks::number_at(c, at + 2))
 }
 
 // Whether a content has the other half of a record of that kind and id.
@@ -76,10 +52,11 @@ pub fn has_other(c: &[u8], kind: u8, id: u16) -> bool
 {
     let mut at: usize = 0;
     while at < c.len() {
-        if other_at(&c[at..], kind, id) {
+        let next = at + walker::width_at(c, at);
+        if other_at(c, at, kind, id) {
             return true;
         }
-        at += width_of(&c[at..]);
+        at = next;
     }
     false
 }
@@ -166,37 +143,34 @@ fn pass_points(t: &[u8], k: usize) -> Passed
     pass_bytes(t, p.bytes, p.left)
 }
 
-// The item stands in the record met, behind so many bytes of its text; or the record's width, and the items left.
+// The item stands in the record met, behind so many bytes of its text; or the items left.
 enum Pass {
     Stop(usize),
-    On(usize, usize),
+    On(usize),
 }
 
 fn pass_text(p: Passed, n: usize) -> Pass
-    requires { ⌜ n < 65536 ⌝ }
     ensures { λ r. ⌜ r ≡ passText p n ⌝ }
 {
     if p.bytes < n {
         Pass::Stop(p.bytes)
     } else {
-        Pass::On(4 + n, p.left)
+        Pass::On(p.left)
     }
 }
 
-// The record at the head of `t` met with `k` items to pass over.
+// The record `t` met with `k` items to pass over.
 fn pass_one(t: &[u8], k: usize) -> Pass
-    requires { ⌜ Begins (now t) ⌝ }
+    requires { ⌜ One (now t) ⌝ }
     ensures { λ r. ⌜ PassedOne (now (t .entry)) k r ⌝ }
 {
     if marks::marked_by(t, b"TX") {
-        let n = number_of(t) as usize;
-        let e = 4 + n;
-        return pass_text(pass_points(&t[4..e], k), n);
+        return pass_text(pass_points(&t[4..], k), t.len() - 4);
     }
     if k == 0 {
         return Pass::Stop(0);
     }
-    Pass::On(width_of(t), k - 1)
+    Pass::On(k - 1)
 }
 
 // Where item number `k` of a content begins.
@@ -207,7 +181,8 @@ pub fn place_of(c: &[u8], k: usize) -> Place
     let mut at: usize = 0;
     let mut left = k;
     while at < c.len() {
-        match pass_one(&c[at..], left) {
+        let next = at + walker::width_at(c, at);
+        match pass_one(&c[at..next], left) {
             Pass::Stop(into) => {
                 return Place {
                     at: at,
@@ -215,8 +190,8 @@ pub fn place_of(c: &[u8], k: usize) -> Place
                     left: 0,
                 };
             }
-            Pass::On(w, l) => {
-                at += w;
+            Pass::On(l) => {
+                at = next;
                 left = l;
             }
         }

@@ -1,8 +1,11 @@
--- Where the next record of a table stands.
-use Prim.Native.Nat.{ℕ, _+_, _≤_}
+-- What is read of a table at an offset: where the next record stands, a record's mark, how many bytes it takes.
+use Prim.Native.Nat.{ℕ, _+_, _<_, _≤_}
 use mathlib.Core.Path.{_≡_}
 use mathlib.Core.List.{List}
 use lib.ListN.{length, drop}
+use Rattle.xliff.specs.Parse.{mark-at, size-of}
+use Rattle.marks.specs.Marks as marks
+use Rattle.marks.specs.declared.Mark.{Mark}
 use Rattle.table.specs.Known.{Known}
 use Rattle.table.specs.Meaning.{width}
 use Rattle.table.specs.declared.Read.{Read}
@@ -13,3 +16,11 @@ pub record After (t : List ℕ) (at next : ℕ) : Type 0 where
   pub known : Known (drop at t) found
   pub offset : next ≡ at + width found
   pub fits : width found ≤ length (drop at t)
+
+-- the mark at `at`: unknown beyond the end
+abbrev pub MarkAt : List ℕ → ℕ → Mark → Type 0
+MarkAt t at m = marks.meaning m ≡ mark-at (drop at t)
+
+-- how many bytes a record with the mark at `at` takes; 0 where fewer than four bytes are left, in which a text's length would not fit
+abbrev pub WidthAt : List ℕ → ℕ → ℕ → Type 0
+WidthAt t at w = (4 ≤ length (drop at t) → w ≡ size-of (mark-at (drop at t)) (drop at t)) × (length (drop at t) < 4 → w ≡ 0)

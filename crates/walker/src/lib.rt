@@ -7,8 +7,9 @@ ghost use Rattle.xliff.specs.Parse.{read};
 ghost use Rattle.table.specs.Meaning.{meaning, width, body};
 ghost use Rattle.table.specs.Known.{Known};
 ghost use Rattle.glance.specs.Glances.{Glanced};
-ghost use Rattle.walker.specs.Offsets.{After};
+ghost use Rattle.walker.specs.Offsets.{After, MarkAt, WidthAt};
 use glance::Glance;
+use marks::Mark;
 use table::Read;
 
 // Over the lent table: the slice, and the offset of the next record.
@@ -25,6 +26,29 @@ fn after_at(t: &[u8], at: usize) -> usize
         return at;
     }
     at + table::known_width(&t[at..])
+}
+
+// The mark of the record at `at`.
+fn mark_there(t: &[u8], at: usize) -> Mark
+    ensures { λ r. ⌜ MarkAt (now (t .entry)) at r ⌝ }
+{
+    if t.len() < at {
+        return Mark::Unknown;
+    }
+    marks::mark_of(&t[at..])
+}
+
+// How many bytes the record at `at` takes, by its mark; 0 where fewer than four are left.
+fn width_there(t: &[u8], at: usize) -> usize
+    ensures { λ r. ⌜ WidthAt (now (t .entry)) at r ⌝ }
+{
+    if t.len() < at {
+        return 0;
+    }
+    if t.len() - at < 4 {
+        return 0;
+    }
+    marks::width_of(&t[at..])
 }
 
 pub fn new<'a>(table: &'a [u8], next: usize) -> Walker<'a>
@@ -60,6 +84,20 @@ pub fn glance<'a>(w: Walker<'a>) -> Glance
     glance::glance_at(w.table, w.next)
 }
 
+// The mark of the next record.
+pub fn mark<'a>(w: Walker<'a>) -> Mark
+    ensures { λ r. ⌜ MarkAt (now (w .entry .table)) (w .entry .next) r ⌝ }
+{
+    mark_there(w.table, w.next)
+}
+
+// How many bytes the next record takes, by its mark.
+pub fn width<'a>(w: Walker<'a>) -> usize
+    ensures { λ r. ⌜ WidthAt (now (w .entry .table)) (w .entry .next) r ⌝ }
+{
+    width_there(w.table, w.next)
+}
+
 // The walker behind its record, which was read before.
 pub fn passed<'a>(w: Walker<'a>) -> Walker<'a>
     ensures { λ r. ⌜ (r .table ≡ w .entry .table) × After (now (w .entry .table)) (w .entry .next) (r .next) ⌝ }
@@ -87,6 +125,18 @@ pub fn glance_at(t: &[u8], at: usize) -> Glance
     ensures { λ r. ⌜ Glanced (drop at (now (t .entry))) r ⌝ }
 {
     glance(new(t, at))
+}
+
+pub fn mark_at(t: &[u8], at: usize) -> Mark
+    ensures { λ r. ⌜ MarkAt (now (t .entry)) at r ⌝ }
+{
+    mark(new(t, at))
+}
+
+pub fn width_at(t: &[u8], at: usize) -> usize
+    ensures { λ r. ⌜ WidthAt (now (t .entry)) at r ⌝ }
+{
+    width(new(t, at))
 }
 
 pub fn after(t: &[u8], at: usize) -> usize

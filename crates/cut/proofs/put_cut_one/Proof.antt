@@ -1,61 +1,47 @@
-use Rattle.walk.specs.Kept.{items}
-use Rattle.walk.specs.Marks.{kindAt, number, has-other}
-use Rattle.cut.specs.Turned.{turnIf}
-use Rattle.cut.proofs.CutLaws.{cut-one, one-least}
-use Rattle.writer.specs.Pieces.{lead}
-use mathlib.Core.Bool.{Bool}
-use mathlib.Core.List.{List}
-use mathlib.Core.Path.{_∙_, ap, ap₂}
-use Prim.Native.Nat.{ℕ, _-_}
+use Rattle.marks.specs.Marks.{meaning}
+use Rattle.walk.proofs.PlaceLaws.{one-least}
+use Rattle.cut.proofs.CutLaws.{cut-written}
 use borrow.Author.Needs.{needs}
 use Rattle.cut.proofs.put_cut_one.Statement.{statement}
 use Rattle.cut.proofs.put_cut_one.Tie as tie
 
--- src/lib.rt:51:40
-kind-of-requires : tie.Need-kind-of-requires
-kind-of-requires c κs =
-    let start = c .before .before .before in
-    one-least (start .args .t .now) (start .pre .0)
+-- `marks::number_at(t, 2)`: the number is there
+number-at-requires : tie.Need-number-at-requires
+number-at-requires c κs =
+    let args = c .before .before .before .before .args in
+    let pre = c .before .before .before .before .pre in
+    one-least (args .t .now) (pre .0)
 
--- src/lib.rt:51:58
-number-of-requires : tie.Need-number-of-requires
-number-of-requires c κs =
-    let start = c .before .before .before .before in
-    one-least (start .args .t .now) (start .pre .0)
-
--- src/lib.rt:52:5
+-- the mark is that of the record, and there is room
 put-turned-requires : tie.Need-put-turned-requires
 put-turned-requires c κs =
-    let start = c .before .before .before .before .before .before .before in
-    let pre = start .pre in
-    (one-least (start .args .t .now) (pre .0), pre .2)
+    let pre = c .before .before .before .before .before .before .before .pre in
+    let args = c .before .before .before .before .before .before .before .args in
+    (pre .1, one-least (args .t .now) (pre .0), pre .3)
 
--- src/lib.rt:47:1
+-- the record cut
 returns : tie.Need-returns
 returns c =
-    let after-number-of = c .before .before .before .before .before in
-    let args = after-number-of .before .before .before .before .before .args in
-    let kind-of = after-number-of .before .kind-of in
-    let number-of = after-number-of .number-of in
-    let has-other-call = c .before .before .before .before .has-other in
+    let args = c .before .before .before .before .before .before .before .before .before .before .args in
+    let pre = c .before .before .before .before .before .before .before .before .before .before .pre in
+    let kind-of = c .before .before .before .before .before .before .kind-of in
+    let number-at = c .before .before .before .before .before .number-at in
+    let has-other = c .before .before .before .before .has-other in
+    let put-turned = c .before .before .put-turned in
     λ r qs g e o.
-    c .before .before .put-turned .ensures
-    ∙ ap (λ (l : List ℕ). lead l (args .out .now))
-    (ap (λ (b : Bool). turnIf b (args .t .now))
-    (has-other-call .ensures qs o
-    ∙ ap₂ (λ (k i : ℕ). has-other k i (items qs)) (kind-of .ensures) (number-of .ensures))
-    ∙ ap (λ (l : List ℕ). turnIf (has-other (kindAt l) (number l) (items qs)) l) e
-    ∙ cut-one r (items qs) g)
+    cut-written r qs (args .t .now) (args .out .now) (put-turned .last .0) (meaning (args .m)) (kind-of .result) (number-at .result) (has-other .result)
+    g e (pre .1) (kind-of .ensures) (number-at .ensures) (has-other .ensures qs o) (put-turned .ensures)
 
 pub put-cut-one-spec : {M : Type 1} → statement M
 put-cut-one-spec =
     tie.close
     (tie.spec
-    kind-of-requires
-    number-of-requires
-    -- by search: has-other-requires 51:9
+-- by search: kind-of-requires
+    (λ c κs. search needs)
+    number-at-requires
+-- by search: has-other-requires
     (λ c κs. search needs)
     put-turned-requires
-    -- by search: same-length 47:1
+-- by search: same-length
     (λ c. search needs)
     returns)

@@ -1,0 +1,56 @@
+use mathlib.Core.Path.{sym, _∙_}
+use lib.ListN.{drop}
+use lib.Seq.{getD-drop}
+use borrow.Author.Tests.{eq-eqb, ne-eqb}
+use native.Mathlib.Omega.{arith}
+use Rattle.codes.specs.Codes.{codeAt}
+use Rattle.codes.specs.Lost.{nonRemovableAt}
+use Rattle.codes.proofs.CodeLaws.{code-there}
+use borrow.Author.Needs.{needs}
+use Rattle.codes.proofs.kept.is_non_removable.Statement.{statement}
+use Rattle.codes.proofs.kept.is_non_removable.Tie as tie
+
+-- no code
+returns : tie.Need-returns
+unfolding nonRemovableAt
+returns c =
+    let args = c .before .before .before .args in
+    let code-at = c .before .code-at in
+    let if1 = c .if1 .taken in
+    simp (eq-eqb (codeAt (drop (args .at) (args .c .now))) 0 (sym (code-at .ensures) ∙ if1))
+
+-- `at + 9`
+add-result : tie.Need-add-result
+add-result c =
+    let args = c .before .before .before .args in
+    let pre = c .before .before .before .pre in
+    let code-at = c .before .code-at in
+    omega (arith, code-there (args .c .now) (args .at) pre (omega (arith, code-at .ensures)))
+
+-- `c[at + 9]`
+shared-slice-read-result : tie.Need-shared-slice-read-result
+shared-slice-read-result c =
+    let args = c .before .before .before .before .args in
+    let pre = c .before .before .before .before .pre in
+    let code-at = c .before .before .code-at in
+    omega (arith, code-there (args .c .now) (args .at) pre (omega (arith, code-at .ensures)))
+
+-- a code: its canDelete
+returns-2 : tie.Need-returns-2
+unfolding nonRemovableAt
+returns-2 c =
+    let args = c .before .before .before .before .args in
+    let code-at = c .before .before .code-at in
+    let c₀ = args .c .now in
+    simp (ne-eqb (codeAt (drop (args .at) c₀)) 0 (omega (arith, code-at .ensures)), getD-drop (args .at) c₀ 9 0)
+
+pub is-non-removable-spec : {M : Type 1} → statement M
+is-non-removable-spec =
+    tie.close
+    (tie.spec
+-- by search: code-at-requires
+    (λ c κs. search needs)
+    returns
+    add-result
+    shared-slice-read-result
+    returns-2)

@@ -1,2 +1,0 @@
-pub mod FixedLaws
-pub mod ListLaws
