@@ -3,7 +3,7 @@ use borrow.Author.Needs.{needs}
 use Rattle.desk_library.proofs.xliff_desk_check.Statement.{statement}
 use Rattle.desk_library.proofs.xliff_desk_check.Tie as tie
 
--- src/lib.rt:34:1
+-- tell(table_check::check(table), number, value)
 returns : tie.Need-returns
 returns c =
     let check = c .before .before .before .check in
@@ -13,6 +13,6 @@ pub xliff-desk-check-spec : {M : Type 1} → statement M
 xliff-desk-check-spec =
     tie.close
     (tie.spec
-    -- by search: check-requires 38:10, tell-requires 38:5
+    -- by search: check-requires, tell-requires
     (λ c κs. search needs) (λ c κs. search needs)
     returns)

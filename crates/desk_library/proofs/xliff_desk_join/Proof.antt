@@ -3,7 +3,7 @@ use borrow.Author.Needs.{needs}
 use Rattle.desk_library.proofs.xliff_desk_join.Statement.{statement}
 use Rattle.desk_library.proofs.xliff_desk_join.Tie as tie
 
--- src/lib.rt:58:1
+-- tell(a, number, value)
 returns : tie.Need-returns
 returns c =
     let join = c .before .before .before .before .before .join in
@@ -13,6 +13,6 @@ pub xliff-desk-join-spec : {M : Type 1} → statement M
 xliff-desk-join-spec =
     tie.close
     (tie.spec
-    -- by search: join-requires 68:9, tell-requires 69:5, same-length 58:1
+    -- by search: join-requires, tell-requires, same-length
     (λ c κs. search needs) (λ c κs. search needs) (λ c. search needs)
     returns)

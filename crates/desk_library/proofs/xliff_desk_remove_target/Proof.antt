@@ -3,7 +3,7 @@ use borrow.Author.Needs.{needs}
 use Rattle.desk_library.proofs.xliff_desk_remove_target.Statement.{statement}
 use Rattle.desk_library.proofs.xliff_desk_remove_target.Tie as tie
 
--- src/lib.rt:88:1
+-- tell(a, number, value)
 returns : tie.Need-returns
 returns c =
     let remove-target = c .before .before .before .before .before .remove-target in
@@ -13,6 +13,6 @@ pub xliff-desk-remove-target-spec : {M : Type 1} → statement M
 xliff-desk-remove-target-spec =
     tie.close
     (tie.spec
-    -- by search: remove-target-requires 98:9, tell-requires 99:5, same-length 88:1
+    -- by search: remove-target-requires, tell-requires, same-length
     (λ c κs. search needs) (λ c κs. search needs) (λ c. search needs)
     returns)

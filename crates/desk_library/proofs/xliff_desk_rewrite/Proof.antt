@@ -3,7 +3,7 @@ use borrow.Author.Needs.{needs}
 use Rattle.desk_library.proofs.xliff_desk_rewrite.Statement.{statement}
 use Rattle.desk_library.proofs.xliff_desk_rewrite.Tie as tie
 
--- src/lib.rt:102:1
+-- tell(a, number, value)
 returns : tie.Need-returns
 returns c =
     let rewrite = c .before .before .before .before .before .rewrite in
@@ -13,6 +13,6 @@ pub xliff-desk-rewrite-spec : {M : Type 1} → statement M
 xliff-desk-rewrite-spec =
     tie.close
     (tie.spec
-    -- by search: rewrite-requires 114:9, tell-requires 115:5, same-length 102:1
+    -- by search: rewrite-requires, tell-requires, same-length
     (λ c κs. search needs) (λ c κs. search needs) (λ c. search needs)
     returns)

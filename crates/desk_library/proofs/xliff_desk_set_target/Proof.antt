@@ -3,7 +3,7 @@ use borrow.Author.Needs.{needs}
 use Rattle.desk_library.proofs.xliff_desk_set_target.Statement.{statement}
 use Rattle.desk_library.proofs.xliff_desk_set_target.Tie as tie
 
--- src/lib.rt:72:1
+-- tell(a, number, value)
 returns : tie.Need-returns
 returns c =
     let set-target = c .before .before .before .before .before .set-target in
@@ -13,6 +13,6 @@ pub xliff-desk-set-target-spec : {M : Type 1} → statement M
 xliff-desk-set-target-spec =
     tie.close
     (tie.spec
-    -- by search: set-target-requires 84:9, tell-requires 85:5, same-length 72:1
+    -- by search: set-target-requires, tell-requires, same-length
     (λ c κs. search needs) (λ c κs. search needs) (λ c. search needs)
     returns)

@@ -3,7 +3,7 @@ use borrow.Author.Needs.{needs}
 use Rattle.desk_library.proofs.xliff_desk_split.Statement.{statement}
 use Rattle.desk_library.proofs.xliff_desk_split.Tie as tie
 
--- src/lib.rt:41:1
+-- tell(a, number, value)
 returns : tie.Need-returns
 returns c =
     let split = c .before .before .before .before .before .split in
@@ -13,6 +13,6 @@ pub xliff-desk-split-spec : {M : Type 1} → statement M
 xliff-desk-split-spec =
     tie.close
     (tie.spec
-    -- by search: split-requires 54:9, tell-requires 55:5, same-length 41:1
+    -- by search: split-requires, tell-requires, same-length
     (λ c κs. search needs) (λ c κs. search needs) (λ c. search needs)
     returns)

@@ -6,7 +6,7 @@ use borrow.Author.Needs.{needs}
 use Rattle.operations.proofs.perform.Statement.{statement}
 use Rattle.operations.proofs.perform.Tie as tie
 
--- src/lib.rt:37:47
+-- set_content(table, part, state, s, n, out)
 set-content-requires : tie.Need-set-content-requires
 unfolding outcome
 set-content-requires c κs =
@@ -14,7 +14,7 @@ set-content-requires c κs =
     let p = rw (c .before .before .r3 .given .1) at pre in
     omega (arith, p)
 
--- src/lib.rt:22:1
+-- Request::Split(part, source, target, id) => split::split(
 returns : tie.Need-returns
 unfolding outcome
 returns c =
@@ -23,7 +23,7 @@ returns c =
     let l : length out ≡ 8192 = search needs in
     (rw (r .given .1) (rw l at (c .split .ensures)), c .split .kept .1 .1 .1 .1 .1 .0 ∙ l)
 
--- src/lib.rt:22:1
+-- Request::Join(part) => join::join(table, part, out)
 returns-2 : tie.Need-returns-2
 unfolding outcome
 returns-2 c =
@@ -32,7 +32,7 @@ returns-2 c =
     let l : length out ≡ 8192 = search needs in
     (rw (r2 .given .1) (rw l at (c .join .ensures)), c .join .kept .1 .1 .0 ∙ l)
 
--- src/lib.rt:22:1
+-- Request::SetTarget(part, state, n) => set_content(table, part, state, s, n, out)
 returns-3 : tie.Need-returns-3
 unfolding outcome
 returns-3 c =
@@ -41,7 +41,7 @@ returns-3 c =
     let l : length out ≡ 8192 = search needs in
     (rw (r3 .given .1) (rw l at (c .set-content .ensures)), c .set-content .kept .1 .1 .1 .1 .1 .0 ∙ l)
 
--- src/lib.rt:22:1
+-- Request::RemoveTarget(part) => remove_target::remove_target(table, part, out)
 returns-4 : tie.Need-returns-4
 unfolding outcome
 returns-4 c =
@@ -50,7 +50,7 @@ returns-4 c =
     let l : length out ≡ 8192 = search needs in
     (rw (r4 .given .1) (rw l at (c .remove-target .ensures)), c .remove-target .kept .1 .1 .0 ∙ l)
 
--- src/lib.rt:22:1
+-- Request::Rewrite(side, id, form) => rewrite::rewrite(table, side, id, form, out)
 returns-5 : tie.Need-returns-5
 unfolding outcome
 returns-5 c =
@@ -64,11 +64,11 @@ unfolding outcome
 perform-spec =
     tie.close
     (tie.spec
-    -- by search: enum-known-r 28:24, split-requires 28:53, enum-known-r-2 36:23, join-requires 36:32,
-    -- enum-known-r-3 37:28
+    -- by search: enum-known-r, split-requires, enum-known-r-2, join-requires,
+    -- enum-known-r-3
     (λ c. search needs) (λ c κs. search needs) (λ c. search needs) (λ c κs. search needs) (λ c. search needs)
     set-content-requires
-    -- by search: enum-known-r-4 38:31, remove-target-requires 38:40, enum-known-r-5 39:26, rewrite-requires 39:45
+    -- by search: enum-known-r-4, remove-target-requires, enum-known-r-5, rewrite-requires
     (λ c. search needs) (λ c κs. search needs) (λ c. search needs) (λ c κs. search needs)
     returns
     returns-2

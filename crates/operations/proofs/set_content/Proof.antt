@@ -5,7 +5,7 @@ use borrow.Author.Needs.{needs}
 use Rattle.operations.proofs.set_content.Statement.{statement}
 use Rattle.operations.proofs.set_content.Tie as tie
 
--- src/lib.rt:13:1
+-- set_target::set_target(table, part, state, &s[7..e], out)
 returns : tie.Need-returns
 returns c =
     let n = c .before .before .before .before .before .before .before .before .args .n in
@@ -16,8 +16,8 @@ pub set-content-spec : {M : Type 1} → statement M
 set-content-spec =
     tie.close
     (tie.spec
-    -- by search: add-e 17:13, sub-set-target 18:48, part-set-target-start 18:48, part-set-target-end 18:48,
-    -- set-target-requires 18:5, same-length 13:1
+    -- by search: add-e, sub-set-target, part-set-target-start, part-set-target-end,
+    -- set-target-requires, same-length
     (λ c. search needs) (λ c. search needs) (λ c. search needs) (λ c. search needs) (λ c κs. search needs)
     (λ c. search needs)
     returns)

@@ -4,14 +4,14 @@ use borrow.Author.Needs.{needs}
 use Rattle.rewrite.proofs.rewrite_checked.Statement.{statement}
 use Rattle.rewrite.proofs.rewrite_checked.Tie as tie
 
--- src/lib.rt:84:32
+-- rewrite_valid(table, side, id, form, out)
 rewrite-valid-requires : tie.Need-rewrite-valid-requires
 unfolding rewrite
 rewrite-valid-requires c κs =
     let start = c .before .before .before .before .before in
     accepted-none (start .args .table .now) _ (rw (c .before .enum-told .given .1) at (start .pre))
 
--- src/lib.rt:79:1
+-- Answer::Refused(k, at) => Answer::Refused(k, at)
 returns-2 : tie.Need-returns-2
 unfolding rewrite
 returns-2 c =
@@ -26,9 +26,9 @@ unfolding rewrite
 rewrite-checked-spec =
     tie.close
     (tie.spec
-    -- by search: enum-told 84:69
+    -- by search: enum-told
     (λ c. search needs)
     rewrite-valid-requires
-    -- by search: enum-known-a 85:25, same-length 79:1, returns 79:1
+    -- by search: enum-known-a, same-length, returns
     (λ c. search needs) (λ c. search needs) (λ c. search needs)
     returns-2)

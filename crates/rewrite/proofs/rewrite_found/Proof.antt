@@ -6,7 +6,7 @@ use borrow.Author.Needs.{needs}
 use Rattle.rewrite.proofs.rewrite_found.Statement.{statement}
 use Rattle.rewrite.proofs.rewrite_found.Tie as tie
 
--- src/lib.rt:57:45
+-- rewrite_pair(table, is_p, unfit, side, id, form, out)
 rewrite-pair-requires : tie.Need-rewrite-pair-requires
 rewrite-pair-requires c κs =
     let start = c .before .before .before .before .before .before in
@@ -16,7 +16,7 @@ rewrite-pair-requires c κs =
     pair-complete (args .table .now) (args .side) (args .id) (args .form) (pre .0) (found .given .0 .0)
     (found .given .0 .1 .0) (rw (found .given .1) at (pre .1))
 
--- src/lib.rt:45:1
+-- FoundPair::Missing => Answer::Refused(20, 0)
 returns-2 : tie.Need-returns-2
 returns-2 c =
     let start = c .before .before .before .before in
@@ -35,9 +35,9 @@ pub rewrite-found-spec : {M : Type 1} → statement M
 rewrite-found-spec =
     tie.close
     (tie.spec
-    -- by search: enum-known-found 57:29
+    -- by search: enum-known-found
     (λ c. search needs)
     rewrite-pair-requires
-    -- by search: enum-told 58:31, same-length 45:1, returns 45:1
+    -- by search: enum-told, same-length, returns
     (λ c. search needs) (λ c. search needs) (λ c. search needs)
     returns-2)

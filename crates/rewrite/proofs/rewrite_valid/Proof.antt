@@ -10,7 +10,7 @@ use borrow.Author.Needs.{needs}
 use Rattle.rewrite.proofs.rewrite_valid.Statement.{statement}
 use Rattle.rewrite.proofs.rewrite_valid.Tie as tie
 
--- src/lib.rt:67:9
+-- return Answer::Refused(2, 0)
 returns : tie.Need-returns
 returns c =
     let start = c .before .before .before in
@@ -22,7 +22,7 @@ returns c =
     (refused-2 (args .table .now) side (args .id) form (length out) (start .pre)
     (sym (letters-are side form) ∙ c .if1 .taken))
 
--- src/lib.rt:71:9
+-- whole_pair::find(table, side, id)
 find-requires : tie.Need-find-requires
 find-requires c κs =
     let start = c .before .before .before in
@@ -32,7 +32,7 @@ find-requires c κs =
       small-table table pre,
     )
 
--- src/lib.rt:69:5
+-- rewrite_found(table, whole_pair::find(table, side, id), side, id, form, out)
 rewrite-found-requires : tie.Need-rewrite-found-requires
 rewrite-found-requires c κs =
     let start = c .before .before .before .before .before in (
@@ -47,5 +47,5 @@ rewrite-valid-spec =
     returns
     find-requires
     rewrite-found-requires
-    -- by search: same-length 62:1, returns-2 62:1
+    -- by search: same-length, returns-2
     (λ c. search needs) (λ c. search needs))
