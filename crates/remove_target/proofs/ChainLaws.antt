@@ -1,12 +1,10 @@
 -- The refusals of remove target, one after the other.
 use Prim.Native.Nat.{ℕ}
 use mathlib.Core.Path.{_≡_, refl, sym, ap, _∙_}
-use mathlib.Core.Bool.{Bool, true, false, not, cond}
+use mathlib.Core.Bool.{true, false, not}
 use mathlib.Core.List.{List}
 use mathlib.Core.Option.{Option, none}
-use lib.Dec.{eqb}
-use borrow.Author.Tests.{eq-eqb, ne-eqb}
-use Rattle.xliff.specs.Answer.{Refusal, refusal, applies, _then_, of-result, result, refuse, unless}
+use Rattle.xliff.specs.Answer.{Refusal, applies, _then_, of-result, refuse, unless}
 use Rattle.xliff.specs.Unit.{Target, no-target, target, Part, XliffUnit}
 use Rattle.xliff.specs.Encode.{encode}
 use Rattle.xliff.specs.Parse.{unit}
@@ -17,29 +15,10 @@ use Rattle.xliff.specs.RemoveTarget.{remove-unit, lacks-target, remove-refusal,
 use Rattle.outcomes.proofs.OutcomeLaws.{on-passed, applied, passed}
 use Rattle.part_at.specs.declared.PartPlace.{PartPlace}
 use Rattle.part_at.specs.Stands.{TargetStands}
-use Rattle.result_rules.specs.Broken.{broken, judged}
-use Rattle.result_rules.proofs.EndLaws.{judged-15, judged-by, judged-done}
+use Rattle.result_rules.specs.Broken.{judged}
 use Rattle.removed_target.specs.Removed.{removed-unit}
 use Rattle.removed_target.proofs.RemovedLaws.{remove-unit-is}
 use Rattle.remove_target.specs.Ending.{ending}
-
--- the result is judged last
-module _ (room : ℕ) (v : XliffUnit) where
-  abbrev rules : Option Refusal
-  rules = fault-7 (v .parts) then fault-9 (v .parts)
-
-  pub refused-15 : too-large room v ≡ true → ending room v ≡ refuse (record { number = 15; place = 0 })
-  unfolding ending
-  refused-15 x = judged-15 room v rules x
-
-  module _ (x : too-large room v ≡ false) (k : ℕ) (e : broken k ≡ of-result rules) where
-    pub refused-by : (k ≡ 0 → ⊥) → ending room v ≡ refuse (record { number = k; place = 0 })
-    unfolding ending
-    refused-by z = judged-by room v rules x k e z
-
-    pub done : k ≡ 0 → ending room v ≡ result (encode v)
-    unfolding ending
-    done z = judged-done room v rules x k e z
 
 -- a part's place tells whether it has a target
 pub lacks-is : (t : List ℕ) (place : PartPlace) (g : Target) → TargetStands t place g → lacks-target g ≡ not (place .«has_target»)
@@ -70,7 +49,7 @@ module _ (t : List ℕ) (n room : ℕ) (e : table-refusal t ≡ none) where
     refused-20 x = on-focus (here b p a) h ∙ applied 20 (lacks-target (p .target)) rest (encode v) x
 
     pub ends : lacks-target (p .target) ≡ false → remove-target t n room ≡ ending room (removed-unit (unit t) b p a)
-    unfolding remove-refusal ending judged
+    unfolding remove-refusal judged
     ends x =
         on-focus (here b p a) h
         ∙ ap (λ (o : Option Refusal). unless o (encode v)) (passed 20 (lacks-target (p .target)) rest x)

@@ -14,7 +14,7 @@ use Rattle.part_at.specs.Stands.{PartStands}
 use Rattle.removed_target.specs.Removed.{removed-unit}
 
 -- what "15. Then 7, 9." leaves of a result
-unfoldable pub ending : ℕ → XliffUnit → Outcome
+abbrev pub ending : ℕ → XliffUnit → Outcome
 ending room v = judged room v (fault-7 (v .parts) then fault-9 (v .parts))
 
 abbrev pub Ended : List ℕ → PartPlace → Answer → List ℕ → List ℕ → Type 0

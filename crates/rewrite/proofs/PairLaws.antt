@@ -58,7 +58,7 @@ module _ (t : List ℕ) (side i w : ℕ) (r : Ready t side w) where
       by none h k = clash k
       by (some p) h k = record { ready = r; pair = p; found = h; form = ap the-form k; letter = ap the-letter k }
 
-module _ (t : List ℕ) (side i w : ℕ) (formP unfit : Bool) (q : Paired t side i w formP unfit) where
+module _ {t : List ℕ} {side i w : ℕ} {formP unfit : Bool} (q : Paired t side i w formP unfit) where
   pub already-is : alreadyIn w formP ≡ already (form-of w) (q .pair .start)
   unfolding already form-of
   already-is = ap (alreadyIn w) (q .form) ∙ by (eqb w 'P')

@@ -1,8 +1,9 @@
 -- What is a marker, and where.
-use Prim.Native.Nat.{ℕ, _-_}
+use Prim.Native.Nat.{ℕ, _+_, _-_}
 use mathlib.Core.Path.{_≡_}
 use mathlib.Core.Bool.{Bool, false, not, _&&_, _||_, cond}
-use mathlib.Core.List.{List, [], _∷_, map}
+use mathlib.Core.List.{List, [], _∷_, _++_, map}
+use lib.ListN.{length, take}
 use lib.Dec.{eqb}
 use Rattle.xliff.specs.Item.{class}
 use Rattle.xliff.specs.Encode.{unit-records}
@@ -48,3 +49,7 @@ insideSource head inside = eqb head 0 || eqb head 2 && inside
 -- the offsets of the markers of the source sequence, or of the targets of order q
 unfoldable pub offsets : Bool → ℕ → List ℕ → List ℕ
 offsets source q t = places (marks-found source q false 0 (unit-records (unit t)))
+
+-- behind the first m of an array stands a piece, r counts both, and the array is as long as it was
+abbrev pub Appended : List ℕ → List ℕ → ℕ → List ℕ → ℕ → Type 0
+Appended piece out m last r = (take r last ≡ take m out ++ piece) × (r ≡ length piece + m) × (length last ≡ length out)

@@ -1,18 +1,20 @@
-// The offsets of the markers of a sequence.
+// The offsets of the markers of the two sequences, and their keys.
 ghost use mathlib.Core.Path.{_≡_};
 ghost use mathlib.Core.Bool.{true, false, cond};
-ghost use mathlib.Core.List.{[], _∷_, _++_};
+ghost use mathlib.Core.List.{[], _∷_};
 ghost use Prim.Native.Nat.{_+_, _-_, _<_, _≤_};
 ghost use lib.ListN.{length, take};
+ghost use Rattle.xliff.specs.Parse.{unit};
 ghost use Rattle.places.specs.Passes.{Passes};
 ghost use Rattle.places.specs.Markers.{target-offsets};
-ghost use Rattle.sequences.specs.Marks.{insideSource, offsets};
+ghost use Rattle.sequences.specs.Marks.{insideSource, offsets, Appended};
+ghost use Rattle.sequences.specs.Markers.{Markers};
 ghost use Rattle.sequences.specs.Targets.{head-offsets, head-number, of-order, Ordered};
 
 // `at` behind the first `m` of `out`, if asked for; how many there are then.
 pub fn put_if(b: bool, out: &mut [u16], m: usize, at: u16) -> usize
     requires { ⌜ (length (cond b (at ∷ []) []) + m ≤ length (now out)) × (length (now out) ≤ 1024) ⌝ }
-    ensures { λ r. ⌜ (take r (now (out .exit)) ≡ take m (now (out .entry)) ++ cond b (at ∷ []) []) × (r ≡ length (cond b (at ∷ []) []) + m) × (length (now (out .exit)) ≡ length (now (out .entry))) ⌝ }
+    ensures { λ r. ⌜ Appended (cond b (at ∷ []) []) (now (out .entry)) m (now (out .exit)) r ⌝ }
 {
     if b {
         out[m] = at;
@@ -62,8 +64,9 @@ fn target_heads(t: &[u8], heads: &mut [u16]) -> usize
 
 // The markers of the target whose TG is number `i` of the heads, if its order is `q`, behind the first `n`: those up to the next head.
 fn target_markers(t: &[u8], heads: &[u16], i: usize, q: u16, out: &mut [u16], n: usize) -> usize
-    requires { ⌜ Passes (now t) × (length (now t) ≤ 8192) × (now heads ≡ head-offsets (now t)) × (i < length (now heads)) × (length (of-order q (head-number (now t) i)) + n ≤ length (now out)) × (length (now out) ≤ 1024) ⌝ }
-    ensures { λ r. ⌜ (take r (now (out .exit)) ≡ take n (now (out .entry)) ++ of-order q (head-number (now (t .entry)) i)) × (r ≡ length (of-order q (head-number (now (t .entry)) i)) + n) × (length (now (out .exit)) ≡ length (now (out .entry))) ⌝ }
+    requires { ⌜ Passes (now t) × (length (now t) ≤ 8192) × (now heads ≡ head-offsets (now t)) × (i < length (now heads))
+        × (length (of-order q (head-number (now t) i)) + n ≤ length (now out)) × (length (now out) ≤ 1024) ⌝ }
+    ensures { λ r. ⌜ Appended (of-order q (head-number (now (t .entry)) i)) (now (out .entry)) n (now (out .exit)) r ⌝ }
 {
     let head = marks::wide(heads[i]);
     let first = walker::glance_at(t, head);
@@ -106,8 +109,10 @@ fn markers_of(
     out: &mut [u16],
     n: usize,
 ) -> usize
-    requires { ⌜ Passes (now t) × (length (now t) ≤ 8192) × (now heads ≡ head-offsets (now t)) × (i < length (now heads)) × (length (of-order q (head-number (now t) i)) + n ≤ length (now out)) × (length (now out) ≤ 1024) × (length (now heads) ≤ length (now orders)) × Ordered (now t) (length (now heads)) (now orders) ⌝ }
-    ensures { λ r. ⌜ (take r (now (out .exit)) ≡ take n (now (out .entry)) ++ of-order q (head-number (now (t .entry)) i)) × (r ≡ length (of-order q (head-number (now (t .entry)) i)) + n) × (length (now (out .exit)) ≡ length (now (out .entry))) ⌝ }
+    requires { ⌜ Passes (now t) × (length (now t) ≤ 8192) × (now heads ≡ head-offsets (now t)) × (i < length (now heads))
+        × (length (of-order q (head-number (now t) i)) + n ≤ length (now out)) × (length (now out) ≤ 1024)
+        × (length (now heads) ≤ length (now orders)) × Ordered (now t) (length (now heads)) (now orders) ⌝ }
+    ensures { λ r. ⌜ Appended (of-order q (head-number (now (t .entry)) i)) (now (out .entry)) n (now (out .exit)) r ⌝ }
 {
     if q != orders[i] {
         return n;
@@ -117,8 +122,10 @@ fn markers_of(
 
 // The markers of the targets of order `q`, behind the first `n`; `heads` and `orders` are the offsets and the orders of the TG records.
 fn collect(t: &[u8], heads: &[u16], orders: &[u16], q: u16, out: &mut [u16], n: usize) -> usize
-    requires { ⌜ Passes (now t) × (length (now t) ≤ 8192) × (now heads ≡ head-offsets (now t)) × (length (offsets false q (now t)) + n ≤ length (now out)) × (length (now out) ≤ 1024) × (length (now heads) ≤ length (now orders)) × Ordered (now t) (length (now heads)) (now orders) ⌝ }
-    ensures { λ r. ⌜ (take r (now (out .exit)) ≡ take n (now (out .entry)) ++ offsets false q (now (t .entry))) × (r ≡ length (offsets false q (now (t .entry))) + n) × (length (now (out .exit)) ≡ length (now (out .entry))) ⌝ }
+    requires { ⌜ Passes (now t) × (length (now t) ≤ 8192) × (now heads ≡ head-offsets (now t))
+        × (length (offsets false q (now t)) + n ≤ length (now out)) × (length (now out) ≤ 1024)
+        × (length (now heads) ≤ length (now orders)) × Ordered (now t) (length (now heads)) (now orders) ⌝ }
+    ensures { λ r. ⌜ Appended (offsets false q (now (t .entry))) (now (out .entry)) n (now (out .exit)) r ⌝ }
 {
     let mut m = n;
     let mut i: usize = 0;
@@ -145,4 +152,43 @@ pub fn targets(t: &[u8], parts: u16, out: &mut [u16]) -> usize
         q += 1;
     }
     n
+}
+
+fn narrow(n: usize) -> u16
+    requires { ⌜ n ≤ 64 ⌝ }
+    ensures { λ r. ⌜ r ≡ n ⌝ }
+{
+    n as u16
+}
+
+// How many markers there are in the source and in the target sequence.
+pub struct Counts {
+    pub source: usize,
+    pub target: usize,
+}
+
+// The markers of both sequences of a table with so many parts: their offsets at the front of `src` and `tgt`, their keys at the front of `skeys` and `tkeys`.
+pub fn markers(
+    t: &[u8],
+    parts: usize,
+    src: &mut [u16],
+    skeys: &mut [u32],
+    tgt: &mut [u16],
+    tkeys: &mut [u32],
+) -> Counts
+    requires { ⌜ Passes (now t) × (length (now t) ≤ 8192) × (parts ≡ length (unit (now t) .parts)) × (length (now src) ≡ 1024)
+        × (length (now skeys) ≡ 1024) × (length (now tgt) ≡ 1024) × (length (now tkeys) ≡ 1024) ⌝ }
+    ensures { λ r. ⌜ Markers (now (t .entry)) (take (r .source) (now (src .exit))) (take (r .source) (now (skeys .exit)))
+        (take (r .target) (now (tgt .exit))) (take (r .target) (now (tkeys .exit)))
+        × (r .source ≤ 1024) × (r .target ≤ 1024) × (length (now (src .exit)) ≡ 1024) × (length (now (skeys .exit)) ≡ 1024)
+        × (length (now (tgt .exit)) ≡ 1024) × (length (now (tkeys .exit)) ≡ 1024) ⌝ }
+{
+    let k = sources(t, src);
+    let m = targets(t, narrow(parts), tgt);
+    keys::keys_at(t, &src[..k], skeys);
+    keys::keys_at(t, &tgt[..m], tkeys);
+    Counts {
+        source: k,
+        target: m,
+    }
 }

@@ -1,13 +1,11 @@
 -- The refusals of set target, one after the other.
 use Prim.Native.Nat.{ℕ}
-use mathlib.Core.Path.{_≡_, refl, sym, ap, _∙_}
-use mathlib.Core.Bool.{Bool, true, false, not, cond}
+use mathlib.Core.Path.{_≡_, refl, ap, _∙_}
+use mathlib.Core.Bool.{Bool, true, false, not}
 use mathlib.Core.List.{List}
 use mathlib.Core.Option.{Option, none}
-use lib.Dec.{eqb}
-use borrow.Author.Tests.{eq-eqb, ne-eqb}
-use Rattle.xliff.specs.Bytes.{equal, any}
-use Rattle.xliff.specs.Answer.{Refusal, refusal, applies, _then_, of-result, result, refuse, unless}
+use Rattle.xliff.specs.Bytes.{any}
+use Rattle.xliff.specs.Answer.{Refusal, refusal, applies, _then_, of-result, refuse, unless}
 use Rattle.xliff.specs.Item.{Content}
 use Rattle.xliff.specs.Unit.{Part, XliffUnit}
 use Rattle.xliff.specs.Encode.{encode}
@@ -17,29 +15,10 @@ use Rattle.xliff.specs.Check.{table-refusal, too-large}
 use Rattle.xliff.specs.Focus.{Focus, nowhere, here, focus}
 use Rattle.xliff.specs.SetTarget.{state-fits, old-content, is-lost, fixed-differ, new-order, set-unit, set-refusal, set-target}
 use Rattle.outcomes.proofs.OutcomeLaws.{on-passed, applied, passed, then-assoc}
-use Rattle.result_rules.specs.Broken.{broken, judged}
-use Rattle.result_rules.proofs.EndLaws.{judged-15, judged-by, judged-done}
+use Rattle.result_rules.specs.Broken.{judged}
 use Rattle.set_result.specs.SetUnit.{unit-with}
 use Rattle.set_result.proofs.PieceLaws.{set-unit-is}
 use Rattle.set_target.specs.Ending.{ending}
-
--- the result is judged last
-module _ (room : ℕ) (v : XliffUnit) where
-  abbrev rules : Option Refusal
-  rules = fault-6-to-10 (v .parts)
-
-  pub refused-15 : too-large room v ≡ true → ending room v ≡ refuse (record { number = 15; place = 0 })
-  unfolding ending
-  refused-15 x = judged-15 room v rules x
-
-  module _ (x : too-large room v ≡ false) (k : ℕ) (e : broken k ≡ of-result rules) where
-    pub refused-by : (k ≡ 0 → ⊥) → ending room v ≡ refuse (record { number = k; place = 0 })
-    unfolding ending
-    refused-by z = judged-by room v rules x k e z
-
-    pub done : k ≡ 0 → ending room v ≡ result (encode v)
-    unfolding ending
-    done z = judged-done room v rules x k e z
 
 module _ (t : List ℕ) (n st : ℕ) (s : List ℕ) (room : ℕ) (e : table-refusal t ≡ none) where
   abbrev v : XliffUnit
@@ -111,7 +90,7 @@ module _ (t : List ℕ) (n st : ℕ) (s : List ℕ) (room : ℕ) (e : table-refu
           refused-19 x = after-18 ∙ applied 19 moved _ (encode v) x
 
           pub ends : moved ≡ false → (q : ℕ) → q ≡ new-order (unit t .parts) n (p .target) → set-target t n st s room ≡ ending room (unit-with (unit t) st q (content s) b p a)
-          unfolding ending judged
+          unfolding judged
           ends x q o =
               after-18 ∙ ap (λ (r : Option Refusal). unless r (encode v)) (passed 19 moved rest x)
               ∙ ap (ending room) (set-unit-is (unit t) n st q (content s) b p a h o)

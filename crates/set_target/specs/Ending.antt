@@ -19,7 +19,7 @@ use Rattle.part_at.specs.Stands.{PartStands}
 use Rattle.set_result.specs.SetUnit.{unit-with}
 
 -- what "15. Then 6 to 10" leaves of a result
-unfoldable pub ending : ℕ → XliffUnit → Outcome
+abbrev pub ending : ℕ → XliffUnit → Outcome
 ending room v = judged room v (fault-6-to-10 (v .parts))
 
 -- the check passes the table, at the place stands a part that the state fits, and the bytes s are a content

@@ -2,8 +2,9 @@
 use Prim.Native.Nat.{ℕ}
 use mathlib.Core.Path.{_≡_, refl, ap, _∙_}
 use mathlib.Core.Bool.{Bool, true, false}
-use mathlib.Core.List.{List}
+use mathlib.Core.List.{List, _++_}
 use mathlib.Core.Option.{Option, none}
+use lib.ListN.{length, drop}
 use Rattle.xliff.specs.Answer.{Refusal, applies, _then_, result, refuse, unless}
 use Rattle.xliff.specs.Unit.{Part, is-closed}
 use Rattle.xliff.specs.Encode.{encode}
@@ -11,7 +12,9 @@ use Rattle.xliff.specs.Parse.{unit}
 use Rattle.xliff.specs.Check.{table-refusal, too-large}
 use Rattle.xliff.specs.Focus.{Focus, nowhere, here, focus}
 use Rattle.xliff.specs.Split.{split, split-unit, split-refusal, bad-cut, id-taken}
-use Rattle.outcomes.proofs.OutcomeLaws.{on-passed, applied, passed, then-assoc}
+use Rattle.answers.specs.declared.Answer.the-variants.{Accepted}
+use Rattle.outcomes.specs.Outcomes.{Answers}
+use Rattle.outcomes.proofs.OutcomeLaws.{on-passed, applied, passed, then-assoc, answers-result}
 
 module _ (t : List ℕ) (n cut tcut id room : ℕ) (e : table-refusal t ≡ none) where
   large : Bool
@@ -41,7 +44,8 @@ module _ (t : List ℕ) (n cut tcut id room : ℕ) (e : table-refusal t ≡ none
         on-focus (here b p a) h
         ∙ ap (λ (o : Option Refusal). unless o bytes)
         (then-assoc (applies 12 (is-closed (unit t .opening .canResegment) p)) (applies 13 (bad-cut p cut tcut) then applies 14 (id-taken (unit t .parts) id)) (applies 15 large)
-        ∙ ap (λ (o : Option Refusal). applies 12 (is-closed (unit t .opening .canResegment) p) then o) (then-assoc (applies 13 (bad-cut p cut tcut)) (applies 14 (id-taken (unit t .parts) id)) (applies 15 large)))
+        ∙ ap (λ (o : Option Refusal). applies 12 (is-closed (unit t .opening .canResegment) p) then o)
+        (then-assoc (applies 13 (bad-cut p cut tcut)) (applies 14 (id-taken (unit t .parts) id)) (applies 15 large)))
 
     pub refused-12 : is-closed (unit t .opening .canResegment) p ≡ true → split t n cut tcut id room ≡ refuse (record { number = 12; place = 0 })
     unfolding closed
@@ -72,7 +76,17 @@ module _ (t : List ℕ) (n cut tcut id room : ℕ) (e : table-refusal t ≡ none
     unfolding applies unless large
     refused-15 x y z w = after-14 x y z ∙ ap (λ (c : Bool). unless (applies 15 c) bytes) w
 
-    pub done : is-closed (unit t .opening .canResegment) p ≡ false → bad-cut p cut tcut ≡ false → id-taken (unit t .parts) id ≡ false
+    done : is-closed (unit t .opening .canResegment) p ≡ false → bad-cut p cut tcut ≡ false → id-taken (unit t .parts) id ≡ false
         → too-large room (split-unit (unit t) n cut tcut id) ≡ false → split t n cut tcut id room ≡ result (encode (split-unit (unit t) n cut tcut id))
     unfolding applies unless large bytes
     done x y z w = after-14 x y z ∙ ap (λ (c : Bool). unless (applies 15 c) bytes) w
+
+-- the accepted split's answer
+pub answers-split : (t : List ℕ) (n cut tcut id : ℕ) (out : List ℕ) → table-refusal t ≡ none → (b : List Part) (p : Part) (a : List Part)
+    → focus (unit t .parts) n ≡ here b p a → is-closed (unit t .opening .canResegment) p ≡ false → bad-cut p cut tcut ≡ false
+    → id-taken (unit t .parts) id ≡ false → too-large (length out) (split-unit (unit t) n cut tcut id) ≡ false
+    → (m : ℕ) (last : List ℕ) → m ≡ length (encode (split-unit (unit t) n cut tcut id))
+    → last ≡ encode (split-unit (unit t) n cut tcut id) ++ drop (length (encode (split-unit (unit t) n cut tcut id))) out
+    → Answers (split t n cut tcut id (length out)) (Accepted m) out last
+answers-split t n cut tcut id out e b p a h x y z w m last long is =
+    answers-result _ (encode (split-unit (unit t) n cut tcut id)) m out last (done t n cut tcut id (length out) e b p a h x y z w) long is

@@ -1,194 +1,128 @@
-use Prim.Native.Nat.{ℕ}
-use mathlib.Core.Path.{sym, _∙_, ap}
-use mathlib.Core.List.{List}
-use lib.ListN.{length}
 use native.Mathlib.Omega.{arith}
-use Rattle.xliff.specs.Parse.{unit}
-use Rattle.xliff.specs.Encode.{encode}
-use Rattle.writer.specs.Pieces.{lead}
-use Rattle.join_result.specs.Result.{joined-unit}
-use Rattle.outcomes.proofs.OutcomeLaws.{answers-refused, answers-result}
-use Rattle.join.proofs.ChainLaws.{refused-17, refused-15, done}
-use Rattle.join.proofs.WorkLaws.{work-size, work-is, work-within, work-long, work-passes, seven-is, no-room, has-room}
+use Rattle.result_rules.proofs.WorkLaws.{work-long, work-passes}
+use Rattle.join.proofs.GoodLaws.{joined-good}
+use Rattle.join.proofs.WorkLaws.{joined-work, answers-17, answers-15, answers-joined}
 use borrow.Author.Needs.{needs}
 use Rattle.join.proofs.join_ended.Statement.{statement}
 use Rattle.join.proofs.join_ended.Tie as tie
 
--- src/lib.rt:24:9
+-- join_result::put_join(&mut work, table, x, y)
 put-join-requires : tie.Need-put-join-requires
 put-join-requires c κs =
     let start = c .before .before .before in
-    let args = start .args in
-    let pre = start .pre in
-    let (v, b, p, q, a, s) = pre in (
-      v,
-      b,
-      p,
-      q,
-      a,
-      s,
-      work-size (args .table .now) (c .before .before .shared-slice-known .given) (pre .0) (args .x) (args .y) b p q
-          a s,
-    )
+    let known = c .before .before .shared-slice-known .given in
+    let (v, b, p, q, a, s) = start .pre in
+    (v, b, p, q, a, s, joined-good (start .args .table .now) known v b p q a (s .first .all) .size)
 
--- src/lib.rt:25:31
+-- &work[..n], judged
 array-share-prefix-work : tie.Need-array-share-prefix-work
 array-share-prefix-work c =
     let start = c .before .before .before .before .before in
     let args = start .args in
-    let pre = start .pre in
     let known = c .before .before .before .before .shared-slice-known .given in
     let put-join = c .before .put-join in
-    let (v, b, p, q, a, s) = pre in
-    work-within (args .table .now) known (pre .0) (args .x) (args .y) b p q a s _ (put-join .last .0)
-    (put-join .result) (put-join .ensures)
+    let (v, b, p, q, a, s) = start .pre in
+    joined-work (args .table .now) known v (args .x) (args .y) b p q a s _ (put-join .last .0) (put-join .result)
+    (put-join .ensures) .within
 
--- src/lib.rt:25:31
 slice-aggregate-breaks-7 : tie.Need-slice-aggregate-breaks-7
 slice-aggregate-breaks-7 c =
-    let after-shared-slice-known = c .before .before .before .before .before in
-    let start = after-shared-slice-known .before in
-    let args = start .args in
-    let pre = start .pre in
-    let known = after-shared-slice-known .shared-slice-known .given in
+    let after-known = c .before .before .before .before .before in
+    let args = after-known .before .args in
     let put-join = c .before .before .put-join in
-    let (v, b, p, q, a, s) = pre in
-    work-long (args .table .now) known (pre .0) (args .x) (args .y) b p q a s _ (put-join .last .0)
-    (put-join .result) (put-join .ensures)
+    let (v, b, p, q, a, s) = after-known .before .pre in
+    work-long (joined-work (args .table .now) (after-known .shared-slice-known .given) v (args .x) (args .y) b p q a s _
+    (put-join .last .0) (put-join .result) (put-join .ensures))
 
--- src/lib.rt:25:8
+-- result_rules::breaks_7(&work[..n])
 breaks-7-requires : tie.Need-breaks-7-requires
 breaks-7-requires c κs =
-    let after-shared-slice-known = c .before .before .before .before .before in
-    let start = after-shared-slice-known .before in
-    let args = start .args in
-    let pre = start .pre in
-    let known = after-shared-slice-known .shared-slice-known .given in
+    let after-known = c .before .before .before .before .before in
+    let args = after-known .before .args in
     let put-join = c .before .before .put-join in
-    let (v, b, p, q, a, s) = pre in
-    work-passes (args .table .now) known (pre .0) (args .x) (args .y) b p q a s _ (put-join .last .0)
-    (put-join .result) (put-join .ensures)
+    let (v, b, p, q, a, s) = after-known .before .pre in
+    work-passes (joined-work (args .table .now) (after-known .shared-slice-known .given) v (args .x) (args .y) b p q a s _
+    (put-join .last .0) (put-join .result) (put-join .ensures))
 
--- src/lib.rt:26:9
+-- return Answer::Refused(17, 0)
 returns : tie.Need-returns
 returns c =
-    let after-shared-slice-known = c .before .before .before .before .before .before .before in
-    let start = after-shared-slice-known .before in
-    let args = start .args in
-    let out = args .out .now in
-    let table = args .table .now in
-    let known = after-shared-slice-known .shared-slice-known .given in
+    let after-known = c .before .before .before .before .before .before .before in
+    let args = after-known .before .args in
     let put-join = c .before .before .before .before .put-join in
+    let breaks-7 = c .before .breaks-7 in
     λ b p q a s.
-    answers-refused _ 17 0 out
-    (refused-17 (length out) (joined-unit (unit table) b p q a)
-    (sym (seven-is table known (start .pre .0) (args .x) (args .y) b p q a s _ (put-join .last .0)
-    (put-join .result) (put-join .ensures))
-    ∙ sym (c .before .breaks-7 .ensures)
-    ∙ c .if1 .taken))
+    let w = joined-work (args .table .now) (after-known .shared-slice-known .given) (after-known .before .pre .0) (args .x)
+    (args .y) b p q a s _ (put-join .last .0) (put-join .result) (put-join .ensures) in
+    answers-17 w (args .out .now) (breaks-7 .result) (breaks-7 .ensures) (c .if1 .taken)
 
--- src/lib.rt:29:9
+-- return Answer::Refused(15, 0)
 returns-2 : tie.Need-returns-2
 returns-2 c =
     let after-put-join = c .before .before .before .before .before in
-    let start = after-put-join .before .before .before .before in
-    let args = start .args in
-    let out = args .out .now in
-    let table = args .table .now in
-    let x = args .x in
-    let y = args .y in
-    let pre = start .pre in
-    let known = after-put-join .before .before .before .shared-slice-known .given in
+    let after-known = after-put-join .before .before .before in
+    let args = after-known .before .args in
     let put-join = after-put-join .put-join in
+    let breaks-7 = c .before .before .breaks-7 in
     λ b p q a s.
-    answers-refused _ 15 0 out
-    (refused-15 (length out) (joined-unit (unit table) b p q a)
-    (sym (seven-is table known (pre .0) x y b p q a s _ (put-join .last .0) (put-join .result) (put-join .ensures))
-    ∙ sym (c .before .before .breaks-7 .ensures)
-    ∙ c .before .if1 .left) (no-room table known (pre .0) x y b p q a s _ (put-join .last .0) (put-join .result)
-    (put-join .ensures) (length out) (c .if2 .taken)))
+    let w = joined-work (args .table .now) (after-known .shared-slice-known .given) (after-known .before .pre .0) (args .x)
+    (args .y) b p q a s _ (put-join .last .0) (put-join .result) (put-join .ensures) in
+    answers-15 w (args .out .now) (breaks-7 .result) (breaks-7 .ensures) (c .before .if1 .left) (c .if2 .taken)
 
--- src/lib.rt:31:39
+-- &work[..n], copied
 array-share-prefix-work-2 : tie.Need-array-share-prefix-work-2
 array-share-prefix-work-2 c =
     let after-put-join = c .before .before .before .before .before .before in
-    let start = after-put-join .before .before .before .before in
-    let args = start .args in
-    let pre = start .pre in
-    let known = after-put-join .before .before .before .shared-slice-known .given in
+    let after-known = after-put-join .before .before .before in
+    let args = after-known .before .args in
     let put-join = after-put-join .put-join in
-    let (v, b, p, q, a, s) = pre in
-    work-within (args .table .now) known (pre .0) (args .x) (args .y) b p q a s _ (put-join .last .0)
-    (put-join .result) (put-join .ensures)
+    let (v, b, p, q, a, s) = after-known .before .pre in
+    joined-work (args .table .now) (after-known .shared-slice-known .given) v (args .x) (args .y) b p q a s _
+    (put-join .last .0) (put-join .result) (put-join .ensures) .within
 
--- src/lib.rt:31:39
 slice-aggregate-put : tie.Need-slice-aggregate-put
 slice-aggregate-put c =
     let after-put-join = c .before .before .before .before .before .before .before in
-    let start = after-put-join .before .before .before .before in
-    let args = start .args in
-    let pre = start .pre in
-    let known = after-put-join .before .before .before .shared-slice-known .given in
+    let after-known = after-put-join .before .before .before in
+    let args = after-known .before .args in
     let put-join = after-put-join .put-join in
-    let (v, b, p, q, a, s) = pre in
-    work-long (args .table .now) known (pre .0) (args .x) (args .y) b p q a s _ (put-join .last .0)
-    (put-join .result) (put-join .ensures)
+    let (v, b, p, q, a, s) = after-known .before .pre in
+    work-long (joined-work (args .table .now) (after-known .shared-slice-known .given) v (args .x) (args .y) b p q a s _
+    (put-join .last .0) (put-join .result) (put-join .ensures))
 
--- src/lib.rt:31:22
+-- writer::put(out, &work[..n])
 put-requires : tie.Need-put-requires
 put-requires c κs =
     let after-put-join = c .before .before .before .before .before .before .before in
-    let start = after-put-join .before .before .before .before in
-    let args = start .args in
-    let pre = start .pre in
-    let known = after-put-join .before .before .before .shared-slice-known .given in
+    let after-known = after-put-join .before .before .before in
+    let args = after-known .before .args in
     let put-join = after-put-join .put-join in
-    let (v, b, p, q, a, s) = pre in
-    omega (
-      arith,
-      work-long (args .table .now) known (pre .0) (args .x) (args .y) b p q a s _ (put-join .last .0)
-          (put-join .result) (put-join .ensures),
-      c .before .before .if2 .left,
-    )
+    let (v, b, p, q, a, s) = after-known .before .pre in
+    let w = joined-work (args .table .now) (after-known .shared-slice-known .given) v (args .x) (args .y) b p q a s _
+    (put-join .last .0) (put-join .result) (put-join .ensures) in
+    omega (arith, work-long w, c .before .before .if2 .left)
 
--- src/lib.rt:19:1
+-- Answer::Accepted(..)
 returns-3 : tie.Need-returns-3
 returns-3 c =
     let after-if2 = c .before .before .before .before .before in
     let after-put-join = after-if2 .before .before .before .before .before in
-    let start = after-put-join .before .before .before .before in
-    let args = start .args in
-    let table = args .table .now in
-    let out = args .out .now in
-    let x = args .x in
-    let y = args .y in
-    let pre = start .pre in
-    let known = after-put-join .before .before .before .shared-slice-known .given in
+    let after-known = after-put-join .before .before .before in
+    let args = after-known .before .args in
     let put-join = after-put-join .put-join in
     let breaks-7 = after-if2 .before .before .breaks-7 in
-    let if1 = after-if2 .before .if1 in
-    let if2 = after-if2 .if2 in
     let put = c .before .before .put in
     λ b p q a s.
-    let the-joined-unit = joined-unit (unit table) b p q a in
-    answers-result _ (encode the-joined-unit) (put .result) out (put .last .0)
-    (done (length out) the-joined-unit
-    (sym (seven-is table known (pre .0) x y b p q a s _ (put-join .last .0) (put-join .result) (put-join .ensures))
-    ∙ sym (breaks-7 .ensures)
-    ∙ if1 .left) (has-room table known (pre .0) x y b p q a s _ (put-join .last .0) (put-join .result)
-    (put-join .ensures) (length out) (if2 .left)))
-    (put .ensures .0
-    ∙ ap length
-    (work-is table known (pre .0) x y b p q a s _ (put-join .last .0) (put-join .result) (put-join .ensures)))
-    (put .ensures .1
-    ∙ ap (λ (l : List ℕ). lead l out)
-    (work-is table known (pre .0) x y b p q a s _ (put-join .last .0) (put-join .result) (put-join .ensures)))
+    let w = joined-work (args .table .now) (after-known .shared-slice-known .given) (after-known .before .pre .0) (args .x)
+    (args .y) b p q a s _ (put-join .last .0) (put-join .result) (put-join .ensures) in
+    answers-joined w (args .out .now) (breaks-7 .result) (breaks-7 .ensures) (after-if2 .before .if1 .left) (after-if2 .if2 .left)
+    (put .result) (put .last .0) (put .ensures .0) (put .ensures .1)
 
 pub join-ended-spec : {M : Type 1} → statement M
 join-ended-spec =
     tie.close
     (tie.spec
-    -- by search: slice-aggregate-put-join 24:35
+    -- by search: slice-aggregate-put-join
     (λ c. search needs)
     put-join-requires
     array-share-prefix-work
@@ -199,6 +133,6 @@ join-ended-spec =
     array-share-prefix-work-2
     slice-aggregate-put
     put-requires
-    -- by search: same-length 19:1
+    -- by search: same-length
     (λ c. search needs)
     returns-3)

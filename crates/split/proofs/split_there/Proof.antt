@@ -1,16 +1,15 @@
 use mathlib.Core.Path.{sym, _∙_}
 use lib.ListN.{length}
-use Rattle.xliff.specs.Encode.{encode}
 use Rattle.xliff.specs.Split.{split-unit}
 use Rattle.xliff.specs.Parse.{unit}
 use Rattle.part_at.proofs.CheckedLaws.{table-passes}
-use Rattle.outcomes.proofs.OutcomeLaws.{answers-refused, answers-result, fits}
-use Rattle.split.proofs.ChainLaws.{refused-12, refused-13, refused-14, refused-15, done}
+use Rattle.outcomes.proofs.OutcomeLaws.{answers-refused, fits}
+use Rattle.split.proofs.ChainLaws.{refused-12, refused-13, refused-14, refused-15, answers-split}
 use borrow.Author.Needs.{needs}
 use Rattle.split.proofs.split_there.Statement.{statement}
 use Rattle.split.proofs.split_there.Tie as tie
 
--- src/lib.rt:30:9
+-- return Answer::Refused(12, 0)
 returns : tie.Need-returns
 returns c =
     let start = c .before .before .before .before in
@@ -22,7 +21,7 @@ returns c =
     (refused-12 (args .table .now) (args .n) (args .cut) (args .tcut) (args .id) (length out) v b p a h
     (sym (c .before .is-closed .ensures b p a s) ∙ c .if1 .taken))
 
--- src/lib.rt:33:9
+-- return Answer::Refused(13, 0)
 returns-2 : tie.Need-returns-2
 returns-2 c =
     let start = c .before .before .before .before .before .before in
@@ -36,7 +35,7 @@ returns-2 c =
     (sym (is-closed .ensures b p a s) ∙ c .before .before .if1 .left)
     (sym (c .before .is-bad-cut .ensures b p a s) ∙ c .if2 .taken))
 
--- src/lib.rt:35:8
+-- part_refusals::is_taken(table, id)
 is-taken-requires : tie.Need-is-taken-requires
 is-taken-requires c κs =
     let after-shared-slice-known = c .before .before .before .before .before in
@@ -45,7 +44,7 @@ is-taken-requires c κs =
     let (v, st) = start .pre in
     table-passes (start .args .table .now) known v
 
--- src/lib.rt:36:9
+-- return Answer::Refused(14, 0)
 returns-3 : tie.Need-returns-3
 returns-3 c =
     let after-is-closed = c .before .before .before .before .before in
@@ -63,7 +62,7 @@ returns-3 c =
     (sym (is-bad-cut .ensures b p a s) ∙ c .before .before .if2 .left)
     (sym (c .before .is-taken .ensures) ∙ c .if3 .taken))
 
--- src/lib.rt:40:9
+-- return Answer::Refused(15, 0)
 returns-4 : tie.Need-returns-4
 returns-4 c =
     let after-is-bad-cut = c .before .before .before .before .before in
@@ -83,7 +82,7 @@ returns-4 c =
     (sym (is-taken .ensures) ∙ c .before .before .if3 .left)
     (sym (c .before .is-too-large .ensures) ∙ c .if4 .taken))
 
--- src/lib.rt:42:22
+-- split_result::put_split(out, table, place, cut, tcut, id)
 put-split-requires : tie.Need-put-split-requires
 put-split-requires c κs =
     let start = c .before .before .before .before .before .before .before .before .before .before .before in
@@ -95,7 +94,7 @@ put-split-requires c κs =
           (sym (c .before .before .is-too-large .ensures) ∙ c .before .if4 .left),
     )
 
--- src/lib.rt:17:1
+-- Answer::Accepted(split_result::put_split(out, table, place, cut, tcut, id))
 returns-5 : tie.Need-returns-5
 returns-5 c =
     let after-is-too-large = c .before .before .before .before .before in
@@ -121,27 +120,26 @@ returns-5 c =
     let (v, st) = pre in
     let (b, p, a, h, s) = st in
     let w = put-split .ensures n pre in
-    answers-result _ (encode (split-unit (unit table) n cut tcut id)) (put-split .result) out (put-split .last .0)
-    (done table n cut tcut id (length out) v b p a h (sym (is-closed .ensures b p a s) ∙ if1 .left)
+    answers-split table n cut tcut id out v b p a h (sym (is-closed .ensures b p a s) ∙ if1 .left)
     (sym (is-bad-cut .ensures b p a s) ∙ if2 .left) (sym (is-taken .ensures) ∙ if3 .left)
-    (sym (is-too-large .ensures) ∙ if4 .left)) (w .0) (w .1)
+    (sym (is-too-large .ensures) ∙ if4 .left) (put-split .result) (put-split .last .0) (w .0) (w .1)
 
 pub split-there-spec : {M : Type 1} → statement M
 split-there-spec =
     tie.close
     (tie.spec
-    -- by search: is-closed-requires 29:8
+    -- by search: is-closed-requires
     (λ c κs. search needs)
     returns
-    -- by search: is-bad-cut-requires 32:8
+    -- by search: is-bad-cut-requires
     (λ c κs. search needs)
     returns-2
     is-taken-requires
     returns-3
-    -- by search: is-too-large-requires 39:8
+    -- by search: is-too-large-requires
     (λ c κs. search needs)
     returns-4
     put-split-requires
-    -- by search: same-length 17:1
+    -- by search: same-length
     (λ c. search needs)
     returns-5)

@@ -1,0 +1,41 @@
+-- The fronts of four arrays: the markers of the two sequences and their keys.
+use Prim.Native.Nat.{ℕ, _≤_}
+use mathlib.Core.Path.{_≡_, sym, ap, _∙_}
+use mathlib.Core.Bool.{true}
+use mathlib.Core.List.{List}
+use native.Mathlib.Omega.{arith}
+use lib.ListN.{length, take}
+use lib.Seq.{length-take-le}
+use Rattle.xliff.specs.Parse.{unit}
+use Rattle.places.specs.Passes.{Passes}
+use Rattle.places.specs.Markers.{target-offsets}
+use Rattle.keys.specs.Keys.{keysAt}
+use Rattle.sequences.specs.Marks.{offsets}
+use Rattle.sequences.specs.Markers.{Markers}
+
+-- k offsets at the front of an array of 1,024
+abbrev pub Front : List ℕ → List ℕ → ℕ → Type 0
+Front os l k = (take k l ≡ os) × (k ≤ 1024) × (length l ≡ 1024)
+
+pub front-long : (os l : List ℕ) (k : ℕ) → Front os l k → k ≡ length (take k l)
+front-long os l k f = sym (length-take-le k l (omega (arith, f .1, f .2)))
+
+keys-front : (t os l keys : List ℕ) (k r : ℕ) → Front os l k → r ≡ length (take k l) → take r keys ≡ keysAt t (take k l)
+    → take k keys ≡ keysAt t (take k l)
+keys-front t os l keys k r f e g = ap (λ (n : ℕ). take n keys) (front-long os l k f ∙ sym e) ∙ g
+
+pub both-markers : (t : List ℕ) (parts : ℕ) → Passes t → length t ≤ 8192 → parts ≡ length (unit t .parts)
+    → (src skeys tgt tkeys : List ℕ) (k m i j : ℕ) → Front (offsets true 0 t) src k → Front (target-offsets t 0 parts) tgt m
+    → i ≡ length (take k src) → take i skeys ≡ keysAt t (take k src)
+    → j ≡ length (take m tgt) → take j tkeys ≡ keysAt t (take m tgt)
+    → Markers t (take k src) (take k skeys) (take m tgt) (take m tkeys)
+both-markers t parts p s e src skeys tgt tkeys k m i j a b a′ x b′ y = (
+  p,
+  a .0,
+  keys-front t _ src skeys k i a a′ x,
+  b .0 ∙ ap (target-offsets t 0) e,
+  keys-front t _ tgt tkeys m j b b′ y,
+  omega (arith, front-long _ src k a, a .1),
+  omega (arith, front-long _ tgt m b, b .1),
+  s,
+)

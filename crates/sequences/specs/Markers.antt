@@ -1,0 +1,17 @@
+-- What rules 7 to 10 are given: the offsets of the markers of the two sequences, and their keys.
+use Prim.Native.Nat.{ℕ, _≤_}
+use mathlib.Core.Path.{_≡_}
+use mathlib.Core.Bool.{true}
+use mathlib.Core.List.{List}
+use lib.ListN.{length}
+use Rattle.xliff.specs.Parse.{unit}
+use Rattle.places.specs.Passes.{Passes}
+use Rattle.places.specs.Markers.{target-offsets}
+use Rattle.keys.specs.Keys.{keysAt}
+use Rattle.sequences.specs.Marks.{offsets}
+
+abbrev pub Markers : List ℕ → List ℕ → List ℕ → List ℕ → List ℕ → Type 0
+Markers t src skeys tgt tkeys =
+    Passes t × (src ≡ offsets true 0 t) × (skeys ≡ keysAt t src)
+    × (tgt ≡ target-offsets t 0 (length (unit t .parts))) × (tkeys ≡ keysAt t tgt)
+    × (length src ≤ 1024) × (length tgt ≤ 1024) × (length t ≤ 8192)
