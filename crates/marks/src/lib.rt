@@ -145,26 +145,6 @@ pub fn mark_of(t: &[u8]) -> Mark
     head_mark(t)
 }
 
-pub const UNIT_WIDTH: usize = 3;
-
-pub const UNIT_END_WIDTH: usize = 2;
-
-pub const SEGMENT_WIDTH: usize = 6;
-
-pub const IGNORABLE_WIDTH: usize = 4;
-
-pub const TARGET_WIDTH: usize = 4;
-
-pub const TEXT_WIDTH: usize = 4;
-
-pub const CHARACTER_WIDTH: usize = 6;
-
-pub const CODE_WIDTH: usize = 12;
-
-pub const ANNOTATION_START_WIDTH: usize = 5;
-
-pub const ANNOTATION_END_WIDTH: usize = 4;
-
 // How many bytes a record of a mark takes, a text's without its characters.
 pub fn fixed_width(m: Mark) -> usize
     ensures { λ r. ⌜ r ≡ fixedWidth m ⌝ }
