@@ -14,7 +14,7 @@ use Rattle.marks.specs.Marks.{marked}
 use Rattle.writer.specs.Pieces.{lead, overlay, numberBytes, Written}
 use Rattle.writer.proofs.PieceLaws.{over-lead}
 use Rattle.writer.proofs.RunLaws.{Pieces, pair}
-use Rattle.heads.specs.declared.Segment.{Segment}
+use Rattle.table.specs.declared.Segment.{Segment}
 use Rattle.heads.specs.Heads.{fields, is-segment, SomeSegment, ResegmentIs, SegmentIs, FieldsAre, OrderIs, WroteId}
 
 -- how long they are

@@ -8,7 +8,7 @@ use Rattle.xliff.specs.Unit as unit
 use Rattle.xliff.specs.Unit.{Opening, Head, segment, ignorable, with-id, with-state}
 use Rattle.xliff.specs.Encode.{opening, target-head, record-bytes, head-bytes}
 use Rattle.writer.specs.Pieces.{Written}
-use Rattle.heads.specs.declared.Segment.{Segment}
+use Rattle.table.specs.declared.Segment.{Segment}
 
 -- the fields of a segment
 abbrev pub fields : Segment → unit.Segment

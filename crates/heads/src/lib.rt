@@ -1,4 +1,6 @@
-// The layout of the records that open a unit and head its parts and targets: UN, SG, IG, TG. No other crate knows where their fields stand.
+// What is asked of the records that open a unit and head its parts and targets (UN, SG, IG, TG), and how they are written. Their fields are read
+// by `table`; no other crate knows where they stand.
+use table::Segment;
 ghost use mathlib.Core.Path.{_≡_};
 ghost use Prim.Native.Nat.{_+_, _≤_};
 ghost use mathlib.Core.List.{_++_};
@@ -8,30 +10,18 @@ ghost use Rattle.xliff.specs.Encode.{target-head, record-bytes, head-bytes};
 ghost use Rattle.writer.specs.Pieces.{Written};
 ghost use Rattle.heads.specs.Heads.{ResegmentIs, HeadRoom, SomeHead, SegmentIs, SomeSegment, FieldsAre, fields, WroteState, WroteId, OrderIs};
 
-// Where the fields stand: a unit's canResegment; a part's id; a segment's canResegment and state; a target's order.
-const UNIT_RESEGMENT: usize = 2;
-
+// Where a part's id and a target's order stand.
 const PART_ID: usize = 2;
 
-const SEGMENT_RESEGMENT: usize = 4;
-
-const SEGMENT_STATE: usize = 5;
-
 const TARGET_ORDER: usize = 2;
-
-// The fields of a segment.
-pub struct Segment {
-    pub id: u16,
-    pub can_resegment: u8,
-    pub state: u8,
-}
 
 // The canResegment of the unit whose table `t` is.
 pub fn unit_resegment(t: &[u8]) -> u8
     requires { ⌜ 3 ≤ length (now t) ⌝ }
     ensures { λ r. ⌜ ResegmentIs (now (t .entry)) r ⌝ }
 {
-    t[UNIT_RESEGMENT]
+    let f = table::opening_of(t);
+    f.can_resegment
 }
 
 // Whether the head of a part is a segment's; else it is an ignorable's.
@@ -47,14 +37,7 @@ pub fn segment_of(head: &[u8]) -> Segment
     requires { ⌜ SomeSegment (now head) ⌝ }
     ensures { λ r. ⌜ FieldsAre (now (head .entry)) r ⌝ }
 {
-    let id = marks::number_at(head, PART_ID);
-    let resegment = head[SEGMENT_RESEGMENT];
-    let state = head[SEGMENT_STATE];
-    Segment {
-        id: id,
-        can_resegment: resegment,
-        state: state,
-    }
+    table::segment_fields(head)
 }
 
 // A segment's head with these fields.

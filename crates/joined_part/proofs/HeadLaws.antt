@@ -12,7 +12,7 @@ use Rattle.xliff.specs.Unit.{Head, segment, ignorable}
 use Rattle.xliff.specs.Encode.{head-bytes}
 use Rattle.xliff.specs.Join.{join-heads, rank, earliest, dash}
 use Rattle.writer.specs.Pieces.{Written}
-use Rattle.heads.specs.declared.Segment.{Segment}
+use Rattle.table.specs.declared.Segment.{Segment}
 use Rattle.heads.specs.Heads.{fields, is-segment, FieldsAre}
 use Rattle.heads.proofs.HeadLaws.{segment-long}
 use Rattle.joined_part.specs.Heads.{JoinedSegment}

@@ -7,7 +7,7 @@ use Rattle.xliff.specs.Unit.{Head, segment}
 use Rattle.xliff.specs.Encode.{head-bytes}
 use Rattle.xliff.specs.Join.{join-heads}
 use Rattle.writer.specs.Pieces.{Written}
-use Rattle.heads.specs.declared.Segment.{Segment}
+use Rattle.table.specs.declared.Segment.{Segment}
 use Rattle.heads.specs.Heads.{fields}
 
 -- the segment r is x and y joined

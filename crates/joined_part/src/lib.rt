@@ -1,5 +1,5 @@
 // Two parts joined.
-use heads::Segment;
+use table::Segment;
 use part_at::PartPlace;
 ghost use mathlib.Core.Path.{_≡_};
 ghost use Rattle.xliff.specs.Join.{rank, earliest, dash};
