@@ -13,7 +13,6 @@ use Rattle.table.specs.declared.Half.{Half}
 use Rattle.table.specs.declared.Form.{Form}
 use Rattle.table.specs.declared.Record.{Record}
 use Rattle.table.specs.declared.Record.the-variants.{Target, Text}
-use Rattle.table.specs.declared.Read.{Read}
 use Rattle.table.specs.declared.Read.the-variants.{Good, Ill, Broken}
 use Rattle.table.proofs.ReadLaws.{record-is, no-record}
 use Rattle.glance.specs.declared.Glance.{Glance}

@@ -1,6 +1,6 @@
 -- The key of a marker from its bytes is that of what the reader finds.
-use Prim.Native.Nat.{ℕ, _+_, _-_, _*_, _≤_, _<_}
-use mathlib.Core.Path.{_≡_, refl, sym, _∙_, ap, subst}
+use Prim.Native.Nat.{ℕ, _+_, _-_, _*_, _≤_}
+use mathlib.Core.Path.{_≡_, refl, sym, _∙_, ap}
 use mathlib.Core.Bool.{Bool, true, false, _&&_, not, cond}
 use mathlib.Core.List.{List}
 use native.Mathlib.Omega.{arith}
@@ -17,7 +17,7 @@ use Rattle.table.specs.declared.Form.the-variants.{P, S}
 use Rattle.table.specs.declared.Record.{Record}
 use Rattle.table.specs.declared.Record.the-variants.{UnitEnd, Text}
 use Rattle.table.specs.declared.Read.{Read}
-use Rattle.table.specs.declared.Read.the-variants.{Good, Ill, Broken}
+use Rattle.table.specs.declared.Read.the-variants.{Good, Broken}
 use Rattle.table.proofs.ReadLaws.{known-is, nothing-there}
 use Rattle.views.specs.Views.{recordView, readView}
 use Rattle.views.proofs.ViewLaws.{view-known}

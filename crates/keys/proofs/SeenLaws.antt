@@ -1,11 +1,11 @@
 -- An item by its key: the rest of its view stands in its bytes.
-use Prim.Native.Nat.{ℕ, _+_, _-_, _*_, _/_, _%_, _≤_, _<_}
+use Prim.Native.Nat.{ℕ, _+_, _-_, _*_, _/_, _%_, _≤_}
 use mathlib.Core.Path.{_≡_, refl, sym, _∙_, ap, subst}
 use mathlib.Core.Bool.{Bool, true, false, cond}
 use mathlib.Core.List.{List}
 use native.Mathlib.Omega.{arith}
 use borrow.Author.Tests.{leb-true}
-use lib.ListN.{length, drop, getD}
+use lib.ListN.{length, drop}
 use lib.Dec.{eqb, leb}
 use Rattle.places.specs.Markers.{item-at}
 use Rattle.xliff.specs.Bytes.{two-at}
@@ -17,10 +17,10 @@ use Rattle.table.specs.declared.Form.{Form}
 use Rattle.table.specs.declared.Record.{Record}
 use Rattle.table.specs.declared.Record.the-variants.{Text}
 use Rattle.table.specs.declared.Read.{Read}
-use Rattle.table.specs.declared.Read.the-variants.{Good, Ill, Broken}
+use Rattle.table.specs.declared.Read.the-variants.{Good, Broken}
 use Rattle.table.proofs.ReadLaws.{known-is}
 use Rattle.views.specs.declared.View.{View}
-use Rattle.views.specs.Views.{viewOf, nothing, codeView, annotationView, halfNumber, formFlag, recordView, readView}
+use Rattle.views.specs.Views.{viewOf, nothing, codeView, annotationView, halfNumber, recordView, readView}
 use Rattle.views.proofs.ViewLaws.{view-known}
 use Rattle.keys.specs.Keys.{key, keyOf}
 use Rattle.keys.proofs.KeyLaws.{key-view}

@@ -1,18 +1,18 @@
 -- The mark that the code finds is the specification's.
 use Prim.Native.Nat.{ℕ, zero, suc, _≤_}
 use mathlib.Core.Path.{_≡_, refl, sym, ap, _∙_, subst}
-use mathlib.Core.Bool.{Bool, true, false, _&&_, cond}
+use mathlib.Core.Bool.{Bool, true, false, _&&_}
 use mathlib.Core.List.{List, [], _∷_, map}
 use mathlib.Core.Logic.{inl, inr}
 use native.Mathlib.Omega.{arith}
 use lib.ListN.{length, getD, drop}
-use lib.Dec.{eqb, leb}
-use borrow.Author.Tests.{eqb-true, le-leb}
+use lib.Dec.{eqb}
+use borrow.Author.Tests.{eqb-true}
 use types.Run.{OneOf, miss}
 use denote.Enum.Declared.{tagOf}
 use Rattle.xliff.specs.Parse.{unknown, is, mark-of, mark-at, size-of}
 use Rattle.xliff.proofs.lists.Tests.{and-left, and-right}
-use Rattle.marks.specs.Marks.{marked, rareMark, startEndMark, headMark, commonMark, meaning, fixedWidth}
+use Rattle.marks.specs.Marks.{rareMark, startEndMark, headMark, commonMark, meaning, fixedWidth}
 use Rattle.marks.specs.declared.Mark.{Mark}
 use Rattle.marks.specs.declared.Mark.the-variants.{UN, UE, SG, IG, TG, TX, CP, PH, PO, PC, SC, EC, IS, IE, MO, SM, MC, EM, Unknown}
 use Rattle.marks.proofs.Mark.{the-type}

@@ -1,6 +1,6 @@
 -- An id among the records of a table, and among its parts.
 use Rattle.places.specs.Offsets.{At}
-use Prim.Native.Nat.{ℕ, _+_, _*_, _≤_}
+use Prim.Native.Nat.{ℕ, suc, _+_, _*_, _≤_}
 use mathlib.Core.Path.{_≡_, refl, sym, ap, _∙_, ap₂, subst}
 use mathlib.Core.Bool.{Bool, true, false, not, _&&_, _||_, false≢true}
 use mathlib.Core.List.{List, [], _∷_, _++_, append-assoc}
@@ -9,7 +9,7 @@ use lib.ListN.{length, drop, getD}
 use lib.Seq.{getD-drop}
 use lib.Dec.{eqb}
 use borrow.Author.Tests.{ne-eqb, eq-eqb}
-use Rattle.xliff.specs.Bytes.{any, gather, two}
+use Rattle.xliff.specs.Bytes.{any, gather, two, two-at}
 use Rattle.xliff.specs.Item.{Item, Content, text, character, standalone, isolated, pair, annotation-start, annotation-end, mark, id-of}
 use Rattle.xliff.specs.Unit.{Target, no-target, target, Part, XliffUnit, head-id, target-items}
 use Rattle.xliff.specs.Encode as encode
@@ -17,7 +17,6 @@ use Rattle.xliff.specs.Encode.{opening, closing, part-head, target-head, text-r
 use Rattle.xliff.specs.Parse.{unit}
 use Rattle.xliff.specs.Split.{has-id, part-has-id, id-taken}
 use Rattle.xliff.proofs.lists.Tests.{any-append}
-use Rattle.xliff.specs.Bytes.{two-at}
 use Rattle.table.specs.Meaning.{item, record-meaning, body}
 use Rattle.table.specs.declared.Item as read
 use Rattle.table.specs.declared.Item.the-variants.{Character, Standalone, Isolated, Pair, AnnotationStart, AnnotationEnd}
@@ -48,7 +47,7 @@ abbrev Behind : encode.Record → Type 0
 Behind r = (4 ≤ length (record-bytes r)) × ((rest : List ℕ) → two-at (record-bytes r ++ rest) 2 ≡ record-id r)
 
 marker-behind : (x : read.Item) → isMarker x ≡ true → Behind (inline (item x))
-unfolding record-bytes field-bytes code-bytes two mark id-of
+unfolding record-bytes field-bytes code-bytes two two-at mark id-of
 marker-behind (Character c) e = absurd (false≢true e)
 marker-behind (Standalone f) e = (omega arith, λ rest. omega arith)
 marker-behind (Isolated Start f) e = (omega arith, λ rest. omega arith)
@@ -67,7 +66,7 @@ abbrev isNamed : Record → Bool
 isNamed x = eqb (headIn x) 0 || markerIn x
 
 named-behind : (cs : List ℕ) (x : Record) → isNamed x ≡ true → Behind (record-meaning cs x)
-unfolding record-bytes head-bytes two head-id
+unfolding record-bytes head-bytes two two-at head-id
 named-behind cs (UnitStart c) e = absurd (false≢true e)
 named-behind cs UnitEnd e = absurd (false≢true e)
 named-behind cs (Segment f) e = (omega arith, λ rest. omega arith)
@@ -102,11 +101,15 @@ module _ (t : List ℕ) (at : ℕ) (rs : List encode.Record) (g : Glance) (a : A
   first-behind : eqb (g .head) 0 || g .marker ≡ true → Behind (v .step .first)
   first-behind e = subst Behind (v .step .means) (named-behind (body (drop at t)) (v .the) (named-is ∙ e))
 
+  number-behind : two-at t (at + 2) ≡ two-at (drop at t) 2
+  unfolding two-at
+  number-behind =
+      sym (ap₂ (λ (x y : ℕ). x * 256 + y) (getD-drop at t 2 0)
+      (getD-drop at t 3 0 ∙ ap (λ (k : ℕ). getD t k 0) (let z : at + 3 ≡ suc (at + 2) = omega arith in z)))
+
   number-there : two-at t (at + 2) ≡ two-at (record-bytes (v .step .first) ++ spell (v .step .others)) 2
   unfolding spell gather
-  number-there =
-      sym (ap₂ (λ (x y : ℕ). x * 256 + y) (getD-drop at t 2 0) (getD-drop at t 3 0 ∙ ap (λ (k : ℕ). getD t k 0) (let z : at + 3 ≡ at + 2 + 1 = omega arith in z)))
-      ∙ ap (λ (s : List ℕ). two-at s 2) (sym (a .rest) ∙ ap spell (v .step .split))
+  number-there = number-behind ∙ ap (λ (s : List ℕ). two-at s 2) (sym (a .rest) ∙ ap spell (v .step .split))
 
   pub id-fits : eqb (g .head) 0 || g .marker ≡ true → at + 4 ≤ length t
   id-fits e = omega (arith, first-behind e .0, v .step .wide, v .step .fits)

@@ -5,7 +5,7 @@ use mathlib.Core.Bool.{Bool, true, false, not, _&&_, _||_, cond, false≢true}
 use mathlib.Core.List.{List, [], _∷_}
 use mathlib.Core.Option.{Option}
 use native.Mathlib.Omega.{arith}
-use borrow.Author.Tests.{leb-true, le-leb, lt-leb, eqb-true}
+use borrow.Author.Tests.{leb-true, le-leb, lt-leb}
 use lib.ListN.{drop-of-length-le, length, take, drop, getD, length-drop}
 use lib.Dec.{leb, eqb}
 use Rattle.xliff.specs.Bytes.{'-', 'F', 'I', 'N', 'R', 'T', 'Y', two, four, two-at, enough, among}
@@ -14,7 +14,7 @@ use Rattle.xliff.specs.Text.{text-of}
 use Rattle.xliff.specs.Item as spec
 use Rattle.xliff.specs.Item.{mark}
 use Rattle.xliff.specs.Encode as encode
-use Rattle.xliff.specs.Encode.{text-run, inline, ill-text, broken, code-bytes, field-bytes, head-bytes, record-bytes}
+use Rattle.xliff.specs.Encode.{text-run, ill-text, broken, code-bytes, field-bytes, head-bytes, record-bytes}
 use Rattle.xliff.specs.Parse.{Mark, UN, UE, SG, IG, TG, TX, CP, PH, PO, PC, SC, EC, IS, IE, MO, SM, MC, EM, unknown, mark-at, whole, whole-part, code-at, good-id, good-code, code, mark-start, mark-end, text-record, read-as, read, opening-at, good-opening, segment-at, good-segment}
 use Rattle.xliff.proofs.text.Utf8.{text-of-some}
 use Rattle.table.specs.Letters.{yesNo, yesNoNone, reorderLetter, overlapLetter, fieldsOk}

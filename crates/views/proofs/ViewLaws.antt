@@ -1,12 +1,11 @@
 -- The view of what was read is that of the specification's item.
-use Prim.Native.Nat.{ℕ, _-_}
+use Prim.Native.Nat.{ℕ}
 use mathlib.Core.Bool.{Bool, true, false, _||_}
 use mathlib.Core.Path.{_≡_, refl, sym, _∙_, ap}
 use mathlib.Core.List.{List, [], _∷_}
 use lib.ListN.{drop}
 use Rattle.xliff.specs.Item.{class, half, is-form-P, id-of, fields}
 use Rattle.xliff.specs.Encode.{text-run, ill-text}
-use Rattle.xliff.specs.Parse.{read}
 use Rattle.places.specs.Markers.{item-in, item-at}
 use Rattle.table.specs.Meaning.{item, meaning, body}
 use Rattle.table.specs.Known.{Known, same-record, some-text}

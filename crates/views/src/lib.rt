@@ -8,7 +8,6 @@ use table::Record;
 ghost use mathlib.Core.Path.{_≡_};
 ghost use mathlib.Core.Bool.{true, false};
 ghost use mathlib.Core.List.{[]};
-ghost use Prim.Native.Nat.{_-_, _<_};
 ghost use Rattle.places.specs.Markers.{item-at};
 ghost use Rattle.views.specs.Views.{nothing, codeView, annotationView, halfNumber, isolatedClass, formFlag, itemView, recordView, readView, viewOf, isCode};
 
@@ -131,7 +130,7 @@ fn record_view(x: Record) -> View
     }
 }
 
-pub fn read_view(r: Read) -> View
+fn read_view(r: Read) -> View
     ensures { λ x. ⌜ x ≡ readView r ⌝ }
 {
     match r {

@@ -20,11 +20,11 @@ Inv-loop t os out₀ i₀ out i =
 abbrev μ-loop : tie.MeasureT-loop
 μ-loop t os out₀ i₀ out i = length os - i
 
--- src/lib.rt:109:5
+-- no key yet
 loop-holds : tie.Need-loop-holds Inv-loop μ-loop
 loop-holds c = (omega arith, refl, refl)
 
--- src/lib.rt:109:5
+-- one key more
 loop-again : tie.Need-loop-again Inv-loop μ-loop
 loop-again c =
     let args = c .before .before .before .before .before .before .before .before .args in
@@ -39,7 +39,7 @@ loop-again c =
           (omega arith) (loop .inv .2),
     )
 
--- src/lib.rt:104:1
+-- all keys
 returns : tie.Need-returns Inv-loop μ-loop
 returns c =
     let args = c .before .before .before .before .before .args in
@@ -56,11 +56,10 @@ bar-keys-spec =
     Inv-loop
     μ-loop
     loop-holds
-    -- by search: mul-wide 110:41, shared-slice-read-wide 110:41, wide-requires 110:29, bar-key-requires 110:18,
-    -- mul-out 110:9, slice-write-out 110:9, add-i 111:9, loop-less 109:5
+    -- by search: the offset is there, and so is room for its key
     (λ c. search needs) (λ c. search needs) (λ c κs. search needs) (λ c κs. search needs) (λ c. search needs)
     (λ c. search needs) (λ c. search needs) (λ c. search needs)
     loop-again
-    -- by search: same-length 104:1
+    -- by search: the array keeps its length
     (λ c. search needs)
     returns)

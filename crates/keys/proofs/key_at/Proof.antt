@@ -6,13 +6,13 @@ use borrow.Author.Needs.{needs}
 use Rattle.keys.proofs.key_at.Statement.{statement}
 use Rattle.keys.proofs.key_at.Tie as tie
 
--- src/lib.rt:162:9
+-- beyond the end
 returns : tie.Need-returns
 returns c =
     let args = c .before .before .args in
     no-key (args .t .now) (args .at) (omega (arith, c .if1 .taken))
 
--- src/lib.rt:158:1
+-- the marker at the head of the rest
 returns-2 : tie.Need-returns-2
 returns-2 c =
     let args = c .before .before .before .before .args in
@@ -23,7 +23,6 @@ key-at-spec =
     tie.close
     (tie.spec
     returns
-    -- by search: sub-marker-key 164:16, part-marker-key-start 164:16, part-marker-key-end 164:16,
-    -- marker-key-requires 164:5
+    -- by search: the rest of the table from `at` on
     (λ c. search needs) (λ c. search needs) (λ c. search needs) (λ c κs. search needs)
     returns-2)

@@ -18,11 +18,11 @@ Inv-loop t os out₀ i₀ out i =
 abbrev μ-loop : tie.MeasureT-loop
 μ-loop t os out₀ i₀ out i = length os - i
 
--- src/lib.rt:194:5
+-- no key yet
 loop-holds : tie.Need-loop-holds Inv-loop μ-loop
 loop-holds c = (omega arith, refl, refl)
 
--- src/lib.rt:194:5
+-- one key more
 loop-again : tie.Need-loop-again Inv-loop μ-loop
 loop-again c =
     let args = c .before .before .before .before .before .before .before .before .args in
@@ -37,7 +37,7 @@ loop-again c =
           (loop .inv .2),
     )
 
--- src/lib.rt:189:1
+-- all keys
 returns : tie.Need-returns Inv-loop μ-loop
 returns c =
     let args = c .before .before .before .before .before .args in
@@ -57,11 +57,10 @@ keys-at-spec =
     Inv-loop
     μ-loop
     loop-holds
-    -- by search: mul-wide 195:40, shared-slice-read-wide 195:40, wide-requires 195:28, key-at-requires 195:18,
-    -- mul-out 195:9, slice-write-out 195:9, add-i 196:9, loop-less 194:5
+    -- by search: the offset is there, and so is room for its key
     (λ c. search needs) (λ c. search needs) (λ c κs. search needs) (λ c κs. search needs) (λ c. search needs)
     (λ c. search needs) (λ c. search needs) (λ c. search needs)
     loop-again
-    -- by search: same-length 189:1
+    -- by search: the array keeps its length
     (λ c. search needs)
     returns)

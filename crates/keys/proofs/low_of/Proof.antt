@@ -67,12 +67,11 @@ returns-11 c = (simp (c .enum-told11 .given .1), omega arith)
 -- no marker
 returns-12 : tie.Need-returns-12
 unfolding lowOf
-returns-12 c =
-    (
-      in-arm (λ n. lowOf (meaning n)) 0 (UN ∷ UE ∷ SG ∷ IG ∷ TG ∷ TX ∷ CP ∷ Unknown ∷ []) (c .before .args .m)
-          (c .match .keys12) refl,
-      omega arith,
-    )
+returns-12 c = (
+  in-arm (λ n. lowOf (meaning n)) 0 (UN ∷ UE ∷ SG ∷ IG ∷ TG ∷ TX ∷ CP ∷ Unknown ∷ []) (c .before .args .m)
+      (c .match .keys12) refl,
+  omega arith,
+)
 
 pub low-of-spec : {M : Type 1} → statement M
 low-of-spec =

@@ -4,12 +4,12 @@ use borrow.Author.Needs.{needs}
 use Rattle.keys.proofs.marker_key.Statement.{statement}
 use Rattle.keys.proofs.marker_key.Tie as tie
 
--- src/lib.rt:145:9
+-- too short for a marker
 returns : tie.Need-returns
 unfolding markerKey keyBy
 returns c = simp (lt-leb _ _ (c .if1 .taken))
 
--- src/lib.rt:149:9
+-- the mark is none of a marker
 returns-2 : tie.Need-returns-2
 unfolding markerKey keyBy
 returns-2 c =
@@ -21,7 +21,7 @@ returns-2 c =
       eq-eqb _ _ (c .if2 .taken),
     )
 
--- src/lib.rt:152:9
+-- a field is bad
 returns-3 : tie.Need-returns-3
 unfolding markerKey keyBy
 returns-3 c =
@@ -38,7 +38,7 @@ returns-3 c =
       not-true (marker-good .result) (c .if3 .taken),
     )
 
--- src/lib.rt:141:1
+-- a marker
 returns-4 : tie.Need-returns-4
 unfolding markerKey keyBy
 returns-4 c =
@@ -68,9 +68,9 @@ marker-key-spec =
     -- by search: no need of `mark_of` and `low_of`
     (λ c κs. search needs) (λ c κs. search needs)
     returns-2
-    -- by search: marker-good-requires 151:9
+    -- by search: four bytes are there
     (λ c κs. search needs)
     returns-3
-    -- by search: number-at-requires 154:10, wide-requires 154:5, mul-result 154:5, add-result 154:5
+    -- by search: the id is there, and the key fits
     (λ c κs. search needs) (λ c κs. search needs) (λ c. search needs) (λ c. search needs)
     returns-4)

@@ -1,15 +1,13 @@
-use native.Mathlib.Omega.{arith}
-use mathlib.Core.Path.{_∙_, ap, refl}
-use borrow.Author.Tests.{lt-leb, le-leb, lt-ltb, le-ltb}
+use borrow.Author.Tests.{lt-leb, le-leb}
 use borrow.Author.Needs.{needs}
 use Rattle.keys.proofs.start_good.Statement.{statement}
 use Rattle.keys.proofs.start_good.Tie as tie
 
--- src/lib.rt:108:9
+-- it is cut
 returns : tie.Need-returns
 returns c = simp (lt-leb _ _ (c .if1 .taken))
 
--- src/lib.rt:104:1
+-- its fields
 returns-2 : tie.Need-returns-2
 returns-2 c =
     let if1 = c .before .before .before .if1 in
@@ -20,6 +18,6 @@ start-good-spec =
     tie.close
     (tie.spec
     returns
-    -- by search: number-at-requires 110:7, shared-slice-read-yes-no-none 110:57, yes-no-none-requires 110:38
+    -- by search: its bytes are there
     (λ c κs. search needs) (λ c. search needs) (λ c κs. search needs)
     returns-2)

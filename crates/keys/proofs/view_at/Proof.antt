@@ -1,24 +1,23 @@
-use Prim.Native.Nat.{ℕ, _/_, _%_}
+use Prim.Native.Nat.{_/_, _%_}
 use lib.Dec.{eqb}
 use lib.ListN.{length-drop}
 use mathlib.Core.Path.{_∙_, ap}
 use native.Mathlib.Omega.{arith}
 use Rattle.views.specs.Views.{annotationView, codeView}
-use Rattle.table.specs.declared.Fields.{Fields}
 use Rattle.xliff.proofs.lists.Slices.{tail-is}
 use Rattle.keys.proofs.SeenLaws.{told}
 use borrow.Author.Needs.{needs}
 use Rattle.keys.proofs.view_at.Statement.{statement}
 use Rattle.keys.proofs.view_at.Tie as tie
 
--- src/lib.rt:175:9
+-- no marker
 returns : tie.Need-returns
 returns c =
     let start = c .before .before .before in
     let args = start .args in
     c .nothing .ensures ∙ (told (args .t .now) (args .at) (args .k) (start .pre)) .none (c .before .if1 .taken)
 
--- src/lib.rt:178:80
+-- an annotation: the rest of the table from `at` on
 sub-number-at : tie.Need-sub-number-at
 sub-number-at c =
     let start = c .before .before .before in
@@ -27,7 +26,7 @@ sub-number-at c =
     let at₀ = args .at in
     omega (arith, ((told t at₀ (args .k) (start .pre)) .annotation (c .if2 .taken)) .0, length-drop at₀ t)
 
--- src/lib.rt:178:80
+-- it begins within the table
 part-number-at-start : tie.Need-part-number-at-start
 part-number-at-start c =
     let start = c .before .before .before in
@@ -36,14 +35,14 @@ part-number-at-start c =
     let at₀ = args .at in
     omega (arith, ((told t at₀ (args .k) (start .pre)) .annotation (c .if2 .taken)) .0, length-drop at₀ t)
 
--- src/lib.rt:178:63
+-- its id is there
 number-at-requires : tie.Need-number-at-requires
 number-at-requires c κs =
     let start = c .before .before .before .before in
     let args = start .args in
     simp tail-is (((told (args .t .now) (args .at) (args .k) (start .pre)) .annotation (c .before .if2 .taken)) .0)
 
--- src/lib.rt:178:9
+-- its view
 returns-2 : tie.Need-returns-2
 returns-2 c =
     let start = c .before .before .before .before .before .before in
@@ -54,7 +53,7 @@ returns-2 c =
     ∙ ap (annotationView (k % 8 / 2) (eqb (k % 2) 1)) (simp tail-is at (c .before .number-at .ensures))
     ∙ ((told (args .t .now) (args .at) k (start .pre)) .annotation (if2 .taken)) .1
 
--- src/lib.rt:184:28
+-- a code: the rest of the table from `at` on
 sub-read-fields : tie.Need-sub-read-fields
 sub-read-fields c =
     let start = c .before .before .before in
@@ -64,7 +63,7 @@ sub-read-fields c =
     omega
     (arith, ((told t at₀ (args .k) (start .pre)) .code (c .before .if1 .left) (c .if2 .left)) .0, length-drop at₀ t)
 
--- src/lib.rt:184:28
+-- it begins within the table
 part-read-fields-start : tie.Need-part-read-fields-start
 part-read-fields-start c =
     let start = c .before .before .before in
@@ -74,7 +73,7 @@ part-read-fields-start c =
     omega
     (arith, ((told t at₀ (args .k) (start .pre)) .code (c .before .if1 .left) (c .if2 .left)) .0, length-drop at₀ t)
 
--- src/lib.rt:184:9
+-- its fields are there
 read-fields-requires : tie.Need-read-fields-requires
 read-fields-requires c κs =
     let start = c .before .before .before .before in
@@ -82,7 +81,7 @@ read-fields-requires c κs =
     simp tail-is (((told (args .t .now) (args .at) (args .k) (start .pre)) .code (c .before .before .if1 .left)
     (c .before .if2 .left)) .0)
 
--- src/lib.rt:168:1
+-- its view
 returns-3 : tie.Need-returns-3
 returns-3 c =
     let start = c .before .before .before .before .before .before in
@@ -98,26 +97,26 @@ pub view-at-spec : {M : Type 1} → statement M
 view-at-spec =
     tie.close
     (tie.spec
-    -- by search: nothing-requires 175:9
+    -- by search: no need of `nothing`
     (λ c κs. search needs)
     returns
-    -- by search: cast-annotation-view 178:39
+    -- by search: the half fits
     (λ c. search needs)
     sub-number-at
     part-number-at-start
-    -- by search: part-number-at-end 178:80
+    -- by search: it ends with the table
     (λ c. search needs)
     number-at-requires
-    -- by search: annotation-view-requires 178:9
+    -- by search: no need of `annotation_view`
     (λ c κs. search needs)
     returns-2
-    -- by search: cast-code-view 181:9, cast-code-view-2 182:9
+    -- by search: class and half fit
     (λ c. search needs) (λ c. search needs)
     sub-read-fields
     part-read-fields-start
-    -- by search: part-read-fields-end 184:28
+    -- by search: it ends with the table
     (λ c. search needs)
     read-fields-requires
-    -- by search: code-view-requires 180:5
+    -- by search: no need of `code_view`
     (λ c κs. search needs)
     returns-3)

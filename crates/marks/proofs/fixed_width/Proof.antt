@@ -3,7 +3,6 @@ use mathlib.Core.List.{[], _∷_}
 use borrow.Author.Needs.{needs}
 use Rattle.xliff.specs.Bytes.{two-at}
 use Rattle.marks.specs.Marks.{fixedWidth}
-use Rattle.marks.specs.declared.Mark.{Mark}
 use Rattle.marks.specs.declared.Mark.the-variants.{PH, PO, PC, SC, EC, IS, IE, MO, SM, MC, EM}
 use Rattle.marks.proofs.MarkLaws.{in-arm}
 use Rattle.marks.proofs.fixed_width.Statement.{statement}

@@ -5,13 +5,13 @@ use borrow.Author.Needs.{needs}
 use Rattle.table.proofs.known_at.Statement.{statement}
 use Rattle.table.proofs.known_at.Tie as tie
 
--- src/lib.rt:515:9
+-- beyond the end
 returns : tie.Need-returns
 returns c =
     let args = c .before .before .args in
     nothing-there (args .s .now) (args .at) (omega (arith, c .if1 .taken))
 
--- src/lib.rt:511:1
+-- the record at the head of the rest
 returns-2 : tie.Need-returns-2
 returns-2 c = simp tail-is at (c .known-of .ensures)
 
@@ -20,6 +20,6 @@ known-at-spec =
     tie.close
     (tie.spec
     returns
-    -- by search: sub-known-of 517:14, part-known-of-start 517:14, part-known-of-end 517:14, known-of-requires 517:5
+    -- by search: the rest of the table from `at` on
     (λ c. search needs) (λ c. search needs) (λ c. search needs) (λ c κs. search needs)
     returns-2)

@@ -3,7 +3,7 @@ use borrow.Author.Needs.{needs}
 use Rattle.table.proofs.known_of.Statement.{statement}
 use Rattle.table.proofs.known_of.Tie as tie
 
--- src/lib.rt:483:1
+-- what is read, not looked at
 returns : tie.Need-returns
 returns c = known-is (c .before .before .args .t .now) (c .read-of .result) (c .read-of .ensures)
 
@@ -11,6 +11,6 @@ pub known-of-spec : {M : Type 1} → statement M
 known-of-spec =
     tie.close
     (tie.spec
-    -- by search: read-of-requires 486:5
+    -- by search: no need of `read_of`
     (λ c κs. search needs)
     returns)

@@ -3,7 +3,7 @@ use borrow.Author.Needs.{needs}
 use Rattle.table.proofs.known_width.Statement.{statement}
 use Rattle.table.proofs.known_width.Tie as tie
 
--- src/lib.rt:490:1
+-- a good record
 returns : tie.Need-returns
 returns c =
     let t = c .before .before .before .before .before .args .t .now in
@@ -11,7 +11,7 @@ returns c =
     let read-of = c .before .before .before .read-of in
     width-is t (read-of .result) _ known (read-of .ensures) (simp (c .before .width .given .1))
 
--- src/lib.rt:490:1
+-- an ill text
 returns-2 : tie.Need-returns-2
 returns-2 c =
     let t = c .before .before .before .before .args .t .now in
@@ -19,7 +19,7 @@ returns-2 c =
     let read-of = c .before .before .read-of in
     width-is t (read-of .result) _ known (read-of .ensures) (simp (c .enum-told .given .1))
 
--- src/lib.rt:490:1
+-- no record
 returns-3 : tie.Need-returns-3
 returns-3 c =
     let t = c .before .before .before .before .args .t .now in
@@ -31,7 +31,7 @@ pub known-width-spec : {M : Type 1} → statement M
 known-width-spec =
     tie.close
     (tie.spec
-    -- by search: read-of-requires 493:11, enum-known-width 494:23, enum-told 495:22, enum-told-2 496:28
+    -- by search: no need of `read_of`; which answer it is
     (λ c κs. search needs) (λ c. search needs) (λ c. search needs) (λ c. search needs)
     returns
     returns-2

@@ -3,7 +3,7 @@ use borrow.Author.Needs.{needs}
 use Rattle.table.proofs.overlap_letter.Statement.{statement}
 use Rattle.table.proofs.overlap_letter.Tie as tie
 
--- src/lib.rt:112:1
+-- alone or not
 returns : tie.Need-returns
 returns c = rw (c .yes-no .ensures) refl
 
@@ -11,6 +11,6 @@ pub overlap-letter-spec : {M : Type 1} → statement M
 overlap-letter-spec =
     tie.close
     (tie.spec
-    -- by search: yes-no-requires 115:39
+    -- by search: no need of `yes_no`
     (λ c κs. search needs)
     returns)

@@ -5,13 +5,13 @@ use borrow.Author.Needs.{needs}
 use Rattle.table.proofs.record_at.Statement.{statement}
 use Rattle.table.proofs.record_at.Tie as tie
 
--- src/lib.rt:505:9
+-- beyond the end
 returns : tie.Need-returns
 returns c =
     let args = c .before .before .args in
     no-record (args .s .now) (args .at) (omega (arith, c .if1 .taken))
 
--- src/lib.rt:501:1
+-- the record at the head of the rest
 returns-2 : tie.Need-returns-2
 returns-2 c = simp tail-is at (c .record-of .ensures)
 
@@ -20,7 +20,6 @@ record-at-spec =
     tie.close
     (tie.spec
     returns
-    -- by search: sub-record-of 507:15, part-record-of-start 507:15, part-record-of-end 507:15,
-    -- record-of-requires 507:5
+    -- by search: the rest of the table from `at` on
     (λ c. search needs) (λ c. search needs) (λ c. search needs) (λ c κs. search needs)
     returns-2)
