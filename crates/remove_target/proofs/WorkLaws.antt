@@ -13,7 +13,7 @@ use Rattle.xliff.specs.Check.{too-large}
 use Rattle.places.specs.Passes.{Passes}
 use Rattle.result_rules.proofs.GoodLaws.{GoodUnit}
 use Rattle.result_rules.proofs.WorkLaws as work
-use Rattle.removed_target.specs.Removed.{Written}
+use Rattle.writer.specs.Pieces.{Written}
 
 module _ (u : XliffUnit) (g : GoodUnit u) (o l : List ℕ) (n : ℕ) (w : Written (encode u) o n l) where
   pub work-is : take n l ≡ encode u

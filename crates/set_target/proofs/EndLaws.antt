@@ -19,7 +19,7 @@ use Rattle.places.specs.Passes.{Passes}
 use Rattle.outcomes.proofs.OutcomeLaws.{fits}
 use Rattle.part_at.specs.declared.PartPlace.{PartPlace}
 use Rattle.part_at.specs.Stands.{PartStands}
-use Rattle.removed_target.specs.Removed.{Written}
+use Rattle.writer.specs.Pieces.{Written}
 use Rattle.result_rules.specs.Broken.{broken}
 use Rattle.result_rules.proofs.GoodLaws.{GoodUnit}
 use Rattle.result_rules.proofs.WorkLaws as work
