@@ -218,7 +218,7 @@ part-added k j p m n x y =
     record {
       bytes = λ id.
           let z : length (halves k j id p) ≡ length (spell (part-records (first-half k j p))) + length (spell (part-records (second-half k j id p))) =
-          ap length (halves-are k j id p) ∙ length-append (spell (part-records (first-half k j p))) (spell (part-records (second-half k j id p))) in
+          ap length (halves-are k j p id) ∙ length-append (spell (part-records (first-half k j p))) (spell (part-records (second-half k j id p))) in
           omega (arith, z, part-long (first-half k j p), part-long (second-half k j id p), part-long p, id-long id (p .head), x .bytes, y .bytes);
       records = λ id.
           omega (
