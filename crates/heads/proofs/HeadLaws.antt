@@ -22,6 +22,9 @@ pub segment-long : (f : unit.Segment) → length (head-bytes (segment f)) ≡ 6
 unfolding head-bytes two
 segment-long f = refl
 
+pub some-long : (t : List ℕ) → SomeSegment t → length t ≡ 6
+some-long t (f, e) = sym (ap length e) ∙ segment-long f
+
 pub head-long : (h : Head) → 4 ≤ length (head-bytes h)
 unfolding head-bytes two
 head-long (segment f) = omega arith
@@ -58,12 +61,15 @@ marked-segment (ignorable i) = refl
 pub segment-read : (t : List ℕ) → SegmentIs t (marked t (83 ∷ 71 ∷ []))
 segment-read t h e = ap (λ (x : List ℕ). marked x (83 ∷ 71 ∷ [])) (sym e) ∙ marked-segment h
 
-abbrev pub read : List ℕ → unit.Segment
+abbrev read : List ℕ → unit.Segment
 read t = record { id = two-at t 2; canResegment = getD t 4 0; state = getD t 5 0 }
 
-pub fields-read : (t : List ℕ) (f : unit.Segment) → head-bytes (segment f) ≡ t → read t ≡ f
+fields-read : (t : List ℕ) (f : unit.Segment) → head-bytes (segment f) ≡ t → read t ≡ f
 unfolding head-bytes two two-at
 fields-read t f e = ap read (sym e) ∙ ap (λ (i : ℕ). record { id = i; canResegment = f .canResegment; state = f .state }) (two-value (f .id))
+
+pub fields-of : (t : List ℕ) (n : ℕ) → n ≡ two-at t 2 → FieldsAre t (record { id = n; «can_resegment» = getD t 4 0; state = getD t 5 0 })
+fields-of t n k f e = ap (λ (i : ℕ). record { id = i; canResegment = getD t 4 0; state = getD t 5 0 }) k ∙ fields-read t f e
 
 pub order-read : (t : List ℕ) → OrderIs t (two-at t 2)
 unfolding record-bytes two two-at

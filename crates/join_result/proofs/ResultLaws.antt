@@ -1,13 +1,12 @@
 -- The table with two parts joined, in pieces as they are written.
-use Prim.Native.Nat.{ℕ, _+_, _-_}
+use Prim.Native.Nat.{ℕ, _-_}
 use mathlib.Core.Path.{_≡_, refl, sym, ap, ap₂, _∙_, fun-ext}
 use mathlib.Core.Bool.{false}
 use mathlib.Core.List.{List, [], _∷_, _++_, append-assoc}
-use native.Mathlib.Omega.{arith}
-use lib.ListN.{length, take, drop, length-append}
+use lib.ListN.{length, take}
 use Rattle.xliff.specs.Bytes.{gather}
 use Rattle.xliff.specs.Unit.{Target, no-target, target, Part, XliffUnit}
-use Rattle.xliff.specs.Encode.{record-bytes, part-records, encode}
+use Rattle.xliff.specs.Encode.{part-records, encode}
 use Rattle.xliff.specs.Parse.{unit}
 use Rattle.xliff.specs.Focus.{here, focus, order-target, order-part, order-parts, with-parts}
 use Rattle.xliff.specs.Join.{lower-above, join-targets, join-parts, join-order, join-focus, join-unit}
@@ -15,6 +14,8 @@ use Rattle.xliff.proofs.lists.Tests.{map-append}
 use Rattle.xliff.specs.Good.{bytes-of, opened, closed}
 use Rattle.xliff.proofs.unit.Pieces.{spell-append, bytes-append, table-pieces}
 use Rattle.xliff.proofs.lists.Slices.{tail-is}
+use Rattle.writer.specs.Pieces.{rest}
+use Rattle.writer.proofs.RunLaws.{Pieces}
 use Rattle.parts.specs.Parts.{moved, ordered, TableOf}
 use Rattle.parts.proofs.TableLaws.{table-opened, table-closed}
 use Rattle.part_at.specs.declared.PartPlace.{PartPlace}
@@ -36,11 +37,10 @@ module _ (f : ℕ → ℕ) (t : List ℕ) (x y : PartPlace) where
   unfolding order-part join-parts joined-part
   part-same p q a b = ap (λ (g : Target). record { head = join-parts p q .head; source = join-parts p q .source; target = g }) (target-same (p .target) (q .target) a b)
 
-pub parts-long : (o k : ℕ) (b : List Part) (p q : Part) (a : List Part)
-    → length (joined-parts o k b p q a) ≡ length (ordered (moved false o) b) + length (part-bytes k p q) + length (ordered (moved false o) a)
-parts-long o k b p q a =
-    length-append (ordered (moved false o) b ++ part-bytes k p q) (ordered (moved false o) a)
-    ∙ ap (λ (n : ℕ). n + length (ordered (moved false o) a)) (length-append (ordered (moved false o) b) (part-bytes k p q))
+-- the parts as they are written
+abbrev pub parts-pieces : (o k : ℕ) (b : List Part) (p q : Part) (a : List Part) → Pieces (joined-parts o k b p q a)
+parts-pieces o k b p q a =
+    record { first = ordered (moved false o) b; second = part-bytes k p q; third = ordered (moved false o) a; all = refl }
 
 module _ (t : List ℕ) (x y : PartPlace) (b : List Part) (p q : Part) (a : List Part) (s : Beside t x y b p q a) (o : ℕ) (falls : FallsAbove t x y o)
     (k : ℕ) (order : k ≡ lower-above o (order-of-two x y)) where
@@ -67,19 +67,16 @@ module _ (t : List ℕ) (x y : PartPlace) (b : List Part) (p q : Part) (a : List
   unfolding joined-unit with-parts
   result-pieces = table-pieces (joined-unit (unit t) b p q a) ∙ ap (λ (l : List ℕ). (opened (unit t) ++ l) ++ closed) parts-are
 
-  pub result-long : length (encode (joined-unit (unit t) b p q a)) ≡ 5 + length (joined-parts o k b p q a)
-  unfolding record-bytes
-  result-long =
-      let w : List ℕ = joined-parts o k b p q a in
-      let z : length (encode (joined-unit (unit t) b p q a)) ≡ length ((opened (unit t) ++ w) ++ closed) = ap length result-pieces in
-      omega (arith, length-append (opened (unit t) ++ w) closed, length-append (opened (unit t)) w)
+  -- and as they are written
+  module _ (h : TableOf t (unit t)) where
+    pub result-is : encode (joined-unit (unit t) b p q a) ≡ (take 3 t ++ joined-parts o k b p q a) ++ rest (length t - 2) t
+    result-is =
+        result-pieces
+        ∙ ap₂ (λ (u w : List ℕ). (u ++ joined-parts o k b p q a) ++ w) (sym (table-opened t (unit t) h))
+        (sym (tail-is (length t - 2) t ∙ table-closed t (unit t) h (length t - 2) refl))
 
-  pub result-is : TableOf t (unit t)
-      → (take 3 t ++ joined-parts o k b p q a) ++ take (length t - (length t - 2)) (drop (length t - 2) t) ≡ encode (joined-unit (unit t) b p q a)
-  result-is h =
-      ap₂ (λ (u w : List ℕ). (u ++ joined-parts o k b p q a) ++ w) (table-opened t (unit t) h)
-      (tail-is (length t - 2) t ∙ table-closed t (unit t) h (length t - 2) refl)
-      ∙ sym result-pieces
+    abbrev pub unit-pieces : Pieces (encode (joined-unit (unit t) b p q a))
+    unit-pieces = record { first = take 3 t; second = joined-parts o k b p q a; third = rest (length t - 2) t; all = result-is }
 
 -- the result by the number of the first part
 pub join-unit-is : (u : XliffUnit) (n : ℕ) (b : List Part) (p q : Part) (a : List Part) → focus (u .parts) n ≡ here b p (q ∷ a) → join-unit u n ≡ joined-unit u b p q a

@@ -11,7 +11,7 @@ use Rattle.xliff.specs.Parse.{unit}
 use Rattle.xliff.specs.Check.{table-refusal}
 use Rattle.xliff.specs.Focus.{here, with-parts}
 use Rattle.xliff.specs.Join.{join-focus}
-use Rattle.writer.specs.Pieces.{lead}
+use Rattle.writer.specs.Pieces.{Written}
 use Rattle.parts.specs.Parts.{moved, ordered}
 use Rattle.part_at.specs.declared.PartPlace.{PartPlace}
 use Rattle.part_at.specs.Stands.{PartStands}
@@ -40,7 +40,7 @@ RoomParts o k t x y out =
 
 abbrev pub WroteParts : ℕ → ℕ → List ℕ → PartPlace → PartPlace → List ℕ → ℕ → List ℕ → Type 0
 WroteParts o k t x y out n l =
-    (b : List Part) (p q : Part) (a : List Part) → Beside t x y b p q a → (n ≡ length (joined-parts o k b p q a)) × (l ≡ lead (joined-parts o k b p q a) out)
+    (b : List Part) (p q : Part) (a : List Part) → Beside t x y b p q a → Written (joined-parts o k b p q a) out n l
 
 -- a valid table in which two parts stand side by side, and room for the result
 abbrev pub Room : List ℕ → PartPlace → PartPlace → List ℕ → Type 0
@@ -51,4 +51,4 @@ Room t x y out =
 abbrev pub Wrote : List ℕ → PartPlace → PartPlace → List ℕ → ℕ → List ℕ → Type 0
 Wrote t x y out n l =
     (b : List Part) (p q : Part) (a : List Part) → Beside t x y b p q a
-    → (n ≡ length (encode (joined-unit (unit t) b p q a))) × (l ≡ lead (encode (joined-unit (unit t) b p q a)) out)
+    → Written (encode (joined-unit (unit t) b p q a)) out n l

@@ -34,8 +34,8 @@ fn put_joined_parts(
 {
     let h = x.head;
     let f = y.end;
-    let e = t.len() - 2;
-    let n = parts::put_parts(out, &t[3..h], q, false);
+    let e = t.len() - marks::UNIT_END_WIDTH;
+    let n = parts::put_parts(out, &t[marks::UNIT_WIDTH..h], q, false);
     let m = joined_part::put_joined_part(&mut out[n..], t, x, y, order);
     let k = n + m;
     let i = parts::put_parts(&mut out[k..], &t[f..e], q, false);
@@ -49,8 +49,8 @@ pub fn put_join(out: &mut [u8], t: &[u8], x: PartPlace, y: PartPlace) -> usize
 {
     let q = join_orders::falls_above(t, x, y);
     let order = lowered(order_of_two(x, y), q);
-    let e = t.len() - 2;
-    let i = writer::put(out, &t[..3]);
+    let e = t.len() - marks::UNIT_END_WIDTH;
+    let i = writer::put(out, &t[..marks::UNIT_WIDTH]);
     let m = put_joined_parts(&mut out[i..], t, x, y, q, order);
     let l = i + m;
     let r = writer::put(&mut out[l..], &t[e..]);

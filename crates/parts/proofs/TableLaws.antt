@@ -4,7 +4,7 @@ use mathlib.Core.Path.{_≡_, sym, ap, _∙_}
 use mathlib.Core.List.{List, _++_, append-assoc}
 use native.Mathlib.Omega.{arith}
 use lib.ListN.{length, take, drop, length-append}
-use lib.Seq.{drop-at}
+use lib.Seq.{drop-at, length-take-le}
 use Rattle.xliff.specs.Bytes.{gather}
 use Rattle.xliff.specs.Unit.{XliffUnit, Part}
 use Rattle.xliff.specs.Encode.{record-bytes, part-records, spell, part-head, content-records, target-records}
@@ -27,6 +27,10 @@ module _ (t : List ℕ) (u : XliffUnit) (h : TableOf t u) where
   table-long =
       let z : length t ≡ 3 + length (bytes-of (u .parts) ++ closed) = ap length apart ∙ length-append (opened u) (bytes-of (u .parts) ++ closed) in
       omega (arith, length-append (bytes-of (u .parts)) closed)
+
+  -- `&t[..UNIT_WIDTH]` is as long as that
+  pub opening-long : 3 ≡ length (take 3 t)
+  opening-long = sym (length-take-le 3 t (omega (arith, table-long)))
 
   pub table-opened : take 3 t ≡ opened u
   unfolding record-bytes

@@ -12,7 +12,8 @@ use Rattle.xliff.specs.Parse.{unit}
 use Rattle.xliff.specs.Check.{table-refusal}
 use Rattle.part_at.specs.declared.PartPlace.{PartPlace}
 use Rattle.part_at.specs.Stands.{PartStands}
-use Rattle.removed_target.specs.Removed.{Written, removed-unit}
+use Rattle.writer.specs.Pieces.{Written}
+use Rattle.removed_target.specs.Removed.{removed-unit}
 use Rattle.result_rules.proofs.WorkLaws.{Work, work-written}
 use Rattle.remove_target.proofs.GoodLaws.{removed-good}
 

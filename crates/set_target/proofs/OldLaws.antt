@@ -1,7 +1,7 @@
 -- The old content of a part, and the states that fit it.
-use Prim.Native.Nat.{ℕ, _-_, _<_, _≤_}
+use Prim.Native.Nat.{ℕ, _-_, _≤_}
 use mathlib.Core.Path.{_≡_, refl, sym, ap, _∙_}
-use mathlib.Core.Bool.{Bool, _||_, true}
+use mathlib.Core.Bool.{Bool, _||_, true, false, true≢false}
 use mathlib.Core.List.{List}
 use mathlib.Core.Option.{none}
 use native.Mathlib.Omega.{arith}
@@ -9,19 +9,19 @@ use lib.ListN.{length, getD, take, drop}
 use lib.Dec.{eqb}
 use mir.Val.{Fits}
 use mir.Syntax.{w8}
-use Rattle.xliff.specs.Bytes.{'-', 'F', 'I', 'R', 'T', two, among}
+use Rattle.xliff.specs.Bytes.{'-', 'F', 'I', 'R', 'T', among}
 use Rattle.xliff.specs.Item.{Content}
 use Rattle.xliff.specs.Unit.{Head, segment, ignorable, Target, no-target, target, Part, target-items}
-use Rattle.xliff.specs.Encode.{head-bytes}
 use Rattle.xliff.specs.Check.{table-refusal}
 use Rattle.xliff.specs.SetTarget.{state-fits, old-content}
 use Rattle.xliff.proofs.lists.Tests.{or-none}
 use Rattle.walk.specs.Kept.{Holds}
+use Rattle.heads.specs.Heads.{is-segment}
 use Rattle.part_at.specs.declared.PartPlace.{PartPlace}
 use Rattle.part_at.specs.Stands.{PartStands, TargetStands}
 use Rattle.part_contents.proofs.HoldLaws.{source-of, target-there, TargetThere, holds-source}
 use Rattle.xliff.proofs.unit.Result.{small-table}
-use Rattle.removed_target.proofs.RemovedLaws.{in-order, head-long}
+use Rattle.removed_target.proofs.RemovedLaws.{in-order}
 use Rattle.set_target.specs.Stages.{old-from, old-to}
 use Rattle.table.proofs.WidthLaws.{bytes-known}
 
@@ -43,24 +43,21 @@ module _ (t : List ℕ) (h : (i : ℕ) → Fits w8 (getD t i 0)) (w : table-refu
   pub old-there : (from to : ℕ) → from ≡ old-from place → to ≡ old-to place → OldThere t from to (old-content (p .source) (p .target))
   old-there from to x y = rw (x, y) (old-by t place b p a s (holds-source t (bytes-known t h) b p a place s) (p .target) (s .target) (target-there t (bytes-known t h) b p a place s))
 
--- the state by the length of the head
+-- the states that fit
 module _ (st : ℕ) where
-  short-fits : (h : Head) → length (head-bytes h) < 6 → eqb st '-' ≡ state-fits h st
-  unfolding head-bytes two state-fits
-  short-fits (segment f) l = absurd (let y : ⊥ = omega arith in y)
-  short-fits (ignorable i) l = refl
+  ignorable-by : (h : Head) → is-segment h ≡ false → eqb st '-' ≡ state-fits h st
+  unfolding state-fits
+  ignorable-by (segment f) e = absurd (true≢false e)
+  ignorable-by (ignorable i) e = refl
 
-  long-fits : (h : Head) → 6 ≤ length (head-bytes h) → eqb st 'I' || (eqb st 'T' || (eqb st 'R' || eqb st 'F')) ≡ state-fits h st
-  unfolding head-bytes two state-fits among
-  long-fits (segment f) l = ap (λ (d : Bool). eqb st 'I' || (eqb st 'T' || (eqb st 'R' || d))) (sym (or-none (eqb st 'F')))
-  long-fits (ignorable i) l = absurd (let y : ⊥ = omega arith in y)
+  segment-by : (h : Head) → is-segment h ≡ true → eqb st 'I' || (eqb st 'T' || (eqb st 'R' || eqb st 'F')) ≡ state-fits h st
+  unfolding state-fits among
+  segment-by (segment f) e = ap (λ (d : Bool). eqb st 'I' || (eqb st 'T' || (eqb st 'R' || d))) (sym (or-none (eqb st 'F')))
+  segment-by (ignorable i) e = absurd (true≢false (sym e))
 
   module _ (t : List ℕ) (b : List Part) (p : Part) (a : List Part) (place : PartPlace) (s : PartStands t b p a place) where
-    size : length (head-bytes (p .head)) ≡ place .source - place .head
-    size = ap length (sym (s .head .is)) ∙ head-long t b p a place s
+    pub ignorable-fits : place .segment ≡ false → eqb st '-' ≡ state-fits (p .head) st
+    ignorable-fits e = ignorable-by (p .head) (sym (s .kind) ∙ e)
 
-    pub ignorable-fits : place .source - place .head < 6 → eqb st '-' ≡ state-fits (p .head) st
-    ignorable-fits l = short-fits (p .head) (omega (arith, size))
-
-    pub segment-fits : 6 ≤ place .source - place .head → eqb st 'I' || (eqb st 'T' || (eqb st 'R' || eqb st 'F')) ≡ state-fits (p .head) st
-    segment-fits l = long-fits (p .head) (omega (arith, size))
+    pub segment-fits : place .segment ≡ true → eqb st 'I' || (eqb st 'T' || (eqb st 'R' || eqb st 'F')) ≡ state-fits (p .head) st
+    segment-fits e = segment-by (p .head) (sym (s .kind) ∙ e)

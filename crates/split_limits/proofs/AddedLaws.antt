@@ -10,7 +10,7 @@ use Rattle.xliff.specs.Bytes.{two, gather}
 use Rattle.xliff.specs.Text.{utf8, utf8s}
 use Rattle.xliff.specs.Item.{Content, text}
 use Rattle.xliff.specs.Unit.{Target, no-target, target, Part, target-items}
-use Rattle.xliff.specs.Encode.{Record, text-run, inline, record-bytes, spell, content-records, content-bytes, target-records, part-records}
+use Rattle.xliff.specs.Encode.{Record, text-run, inline, record-bytes, head-bytes, spell, content-records, content-bytes, target-records, part-records}
 use Rattle.xliff.specs.Parse.{reading, take-record}
 use Rattle.xliff.specs.Split.{cut-item, first-items, second-items, first-target, second-target, first-half, second-half}
 use Rattle.xliff.proofs.lists.Tests.{map-append}
@@ -24,7 +24,9 @@ use Rattle.cut.specs.Turned.{cut-records}
 use Rattle.cut.proofs.CutLaws.{cut-kept, cut-items, kept-records}
 use Rattle.cut.proofs.HalfLaws.{items-of, weaken, sides, first-size-0, first-size-1, second-size-0, second-size-1, length-texts}
 use Rattle.halves_of_part.specs.Parts.{halves}
-use Rattle.halves_of_part.proofs.PartLaws.{part-long, first-long, second-long, id-long, halves-are}
+use Rattle.xliff.proofs.unit.Pieces.{part-bytes}
+use Rattle.heads.proofs.HeadLaws.{id-long}
+use Rattle.halves_of_part.proofs.PartLaws.{halves-are}
 use Rattle.part_at.specs.declared.PartPlace.{PartPlace}
 use Rattle.part_at.specs.Stands.{TargetStands}
 use Rattle.split_limits.specs.Added.{ContentAdded, TargetAdded, PartAdded}
@@ -205,14 +207,19 @@ module _ (t : List ℕ) (place : PartPlace) (k : ℕ) where
   nothing-grown (target q xs) (x, o, hs, ts) z = absurd (let y : _≡_ {A = ℕ} 0 1 = cc in let w : ⊥ = omega arith in w)
 
 -- a part
+part-long : (p : Part) → length (spell (part-records p)) ≡ length (head-bytes (p .head)) + length (content-bytes (p .source)) + length (spell (target-records (p .target)))
+part-long p =
+    ap length (part-bytes p) ∙ length-append (head-bytes (p .head) ++ content-bytes (p .source)) (spell (target-records (p .target)))
+    ∙ ap (λ (n : ℕ). n + length (spell (target-records (p .target)))) (length-append (head-bytes (p .head)) (content-bytes (p .source)))
+
 pub part-added : (k j : ℕ) (p : Part) (m n : ℕ) → ContentAdded k (p .source) m → TargetAdded j (p .target) n → PartAdded k j p (m + n)
 unfolding content-bytes part-records first-half second-half
 part-added k j p m n x y =
     record {
       bytes = λ id.
           let z : length (halves k j id p) ≡ length (spell (part-records (first-half k j p))) + length (spell (part-records (second-half k j id p))) =
-          ap length (halves-are k j id p) ∙ length-append (spell (part-records (first-half k j p))) (spell (part-records (second-half k j id p))) in
-          omega (arith, z, first-long k j p, second-long k j id p, part-long p, id-long (p .head) id .0, x .bytes, y .bytes);
+          ap length (halves-are k j p id) ∙ length-append (spell (part-records (first-half k j p))) (spell (part-records (second-half k j id p))) in
+          omega (arith, z, part-long (first-half k j p), part-long (second-half k j id p), part-long p, id-long id (p .head), x .bytes, y .bytes);
       records = λ id.
           omega (
             arith,

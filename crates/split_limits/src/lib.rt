@@ -46,7 +46,7 @@ fn target_short(t: &[u8], place: PartPlace, cut: usize) -> bool
     ensures { λ r. ⌜ TargetShort (now (t .entry)) place cut r ⌝ }
 {
     if place.has_target {
-        let from = place.target + 4;
+        let from = place.target + marks::TARGET_WIDTH;
         let to = place.end;
         return !has_enough(&t[from..to], cut);
     }
@@ -90,7 +90,7 @@ fn target_added(t: &[u8], place: PartPlace, cut: usize) -> usize
     ensures { λ r. ⌜ TargetAddedIs (now (t .entry)) place cut r ⌝ }
 {
     if place.has_target {
-        let from = place.target + 4;
+        let from = place.target + marks::TARGET_WIDTH;
         let to = place.end;
         return 1 + added_in(&t[from..to], cut);
     }
@@ -123,6 +123,6 @@ pub fn is_too_large(
     let more = added(t, place, cut, tcut);
     let records = record_count::count_records(t) + 1 + more;
     let parts = orders::count_parts(t) + 1;
-    let bytes = t.len() + (place.source - place.head) + 4 * more;
+    let bytes = t.len() + (place.source - place.head) + marks::TEXT_WIDTH * more;
     (room < bytes) | ((8192 < bytes) | ((1024 < records) | (64 < parts)))
 }

@@ -16,6 +16,7 @@ use Rattle.xliff.specs.Good.{Each, each-nil, each-cons}
 use Rattle.xliff.proofs.unit.Pieces.{spell-append}
 use Rattle.parts.specs.Parts.{GoodTarget, GoodPart, moved, ordered}
 use Rattle.halves_of_part.specs.Parts.{halves}
+use Rattle.writer.proofs.RunLaws.{Pieces}
 use Rattle.part_at.specs.declared.PartPlace.{PartPlace}
 use Rattle.part_at.specs.Stands.{TargetStands}
 use Rattle.split_result.specs.Result.{rises-above, split-parts}
@@ -64,6 +65,9 @@ module _ (k j id : ℕ) (b : List Part) (p : Part) (a : List Part) (hb : Each Go
   module _ (q : ℕ) (e : q ≡ order-or (p .target)) where
     pub pieces : split-parts k j id b p a ≡ (ordered (moved true q) b ++ halves k j id p) ++ ordered (moved true q) a
     pieces = in-pieces ∙ ap (λ (n : ℕ). (ordered (moved true n) b ++ halves k j id p) ++ ordered (moved true n) a) (sym e)
+
+    abbrev pub split-pieces : Pieces (split-parts k j id b p a)
+    split-pieces = record { first = ordered (moved true q) b; second = halves k j id p; third = ordered (moved true q) a; all = pieces }
 
     pub pieces-long : length (split-parts k j id b p a) ≡ length (ordered (moved true q) b) + length (halves k j id p) + length (ordered (moved true q) a)
     pieces-long =

@@ -3,7 +3,7 @@ use Prim.Native.Nat.{ℕ, _+_, _-_}
 use mathlib.Core.Path.{_≡_, refl, sym, ap, ap₂, _∙_}
 use mathlib.Core.List.{List, _++_}
 use native.Mathlib.Omega.{arith}
-use lib.ListN.{length, take, drop, length-append}
+use lib.ListN.{length, take, length-append}
 use Rattle.xliff.specs.Unit.{Part, XliffUnit}
 use Rattle.xliff.specs.Encode.{record-bytes, encode}
 use Rattle.xliff.specs.Focus.{here, focus, with-parts}
@@ -13,6 +13,8 @@ use Rattle.xliff.specs.Good.{bytes-of, opened, closed}
 use Rattle.xliff.proofs.unit.Pieces.{table-pieces}
 use Rattle.parts.specs.Parts.{TableOf}
 use Rattle.parts.proofs.TableLaws.{table-opened, table-closed}
+use Rattle.writer.specs.Pieces.{rest}
+use Rattle.writer.proofs.RunLaws.{Pieces}
 use Rattle.split_result.specs.Result.{split-parts}
 
 module _ (u : XliffUnit) (n k j id : ℕ) (b : List Part) (p : Part) (a : List Part) (e : focus (u .parts) n ≡ here b p a) where
@@ -30,9 +32,12 @@ module _ (u : XliffUnit) (n k j id : ℕ) (b : List Part) (p : Part) (a : List P
       omega (arith, length-append (opened u ++ s) closed, length-append (opened u) s)
 
   -- and as they are written
-  pub result-is : (t : List ℕ) → TableOf t u
-      → (take 3 t ++ split-parts k j id b p a) ++ take (length t - (length t - 2)) (drop (length t - 2) t) ≡ encode (split-unit u n k j id)
-  result-is t h =
-      ap₂ (λ (x y : List ℕ). (x ++ split-parts k j id b p a) ++ y) (table-opened t u h)
-      (tail-is (length t - 2) t ∙ table-closed t u h (length t - 2) refl)
-      ∙ sym result-pieces
+  module _ (t : List ℕ) (h : TableOf t u) where
+    pub result-is : encode (split-unit u n k j id) ≡ (take 3 t ++ split-parts k j id b p a) ++ rest (length t - 2) t
+    result-is =
+        result-pieces
+        ∙ ap₂ (λ (x y : List ℕ). (x ++ split-parts k j id b p a) ++ y) (sym (table-opened t u h))
+        (sym (tail-is (length t - 2) t ∙ table-closed t u h (length t - 2) refl))
+
+    abbrev pub unit-pieces : Pieces (encode (split-unit u n k j id))
+    unit-pieces = record { first = take 3 t; second = split-parts k j id b p a; third = rest (length t - 2) t; all = result-is }

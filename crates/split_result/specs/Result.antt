@@ -12,7 +12,7 @@ use Rattle.xliff.specs.Parse.{unit}
 use Rattle.xliff.specs.Check.{table-refusal}
 use Rattle.xliff.specs.Focus.{order-parts}
 use Rattle.xliff.specs.Split.{split-order, first-half, second-half, split-unit}
-use Rattle.writer.specs.Pieces.{lead}
+use Rattle.writer.specs.Pieces.{Written}
 use Rattle.halves_of_part.specs.Parts.{halves}
 use Rattle.part_at.specs.declared.PartPlace.{PartPlace}
 use Rattle.part_at.specs.Stands.{PartStands, Placed}
@@ -33,7 +33,7 @@ RoomPart k j id t place out =
 
 abbrev pub WrotePart : ℕ → ℕ → ℕ → List ℕ → PartPlace → List ℕ → ℕ → List ℕ → Type 0
 WrotePart k j id t place out n l =
-    (b : List Part) (p : Part) (a : List Part) → PartStands t b p a place → (n ≡ length (halves k j id p)) × (l ≡ lead (halves k j id p) out)
+    (b : List Part) (p : Part) (a : List Part) → PartStands t b p a place → Written (halves k j id p) out n l
 
 -- the same for all parts
 abbrev pub RoomParts : ℕ → ℕ → ℕ → List ℕ → PartPlace → List ℕ → Type 0
@@ -43,7 +43,7 @@ RoomParts k j id t place out =
 abbrev pub WroteParts : ℕ → ℕ → ℕ → List ℕ → PartPlace → List ℕ → ℕ → List ℕ → Type 0
 WroteParts k j id t place out n l =
     (b : List Part) (p : Part) (a : List Part) → PartStands t b p a place
-    → (n ≡ length (split-parts k j id b p a)) × (l ≡ lead (split-parts k j id b p a) out)
+    → Written (split-parts k j id b p a) out n l
 
 -- and for the table; the part at the place has the number n
 abbrev pub Room : ℕ → ℕ → ℕ → List ℕ → PartPlace → List ℕ → Type 0
@@ -51,4 +51,4 @@ Room k j id t place out = (n : ℕ) × Placed t n place × (length (encode (spli
 
 abbrev pub Wrote : ℕ → ℕ → ℕ → List ℕ → PartPlace → List ℕ → ℕ → List ℕ → Type 0
 Wrote k j id t place out m l =
-    (n : ℕ) → Placed t n place → (m ≡ length (encode (split-unit (unit t) n k j id))) × (l ≡ lead (encode (split-unit (unit t) n k j id)) out)
+    (n : ℕ) → Placed t n place → Written (encode (split-unit (unit t) n k j id)) out m l

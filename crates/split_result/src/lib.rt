@@ -29,9 +29,9 @@ fn put_split_parts(out: &mut [u8], t: &[u8], place: PartPlace, k: usize, j: usiz
 {
     let h = place.head;
     let f = place.end;
-    let e = t.len() - 2;
+    let e = t.len() - marks::UNIT_END_WIDTH;
     let q = rises_above(place);
-    let n = parts::put_parts(out, &t[3..h], q, true);
+    let n = parts::put_parts(out, &t[marks::UNIT_WIDTH..h], q, true);
     let m = put_split_part(&mut out[n..], t, place, k, j, id);
     let l = n + m;
     let i = parts::put_parts(&mut out[l..], &t[f..e], q, true);
@@ -43,8 +43,8 @@ pub fn put_split(out: &mut [u8], t: &[u8], place: PartPlace, k: usize, j: usize,
     requires { ⌜ Room k j id (now t) place (now out) ⌝ }
     ensures { λ r. ⌜ Wrote k j id (now (t .entry)) place (now (out .entry)) r (now (out .exit)) ⌝ }
 {
-    let e = t.len() - 2;
-    let i = writer::put(out, &t[..3]);
+    let e = t.len() - marks::UNIT_END_WIDTH;
+    let i = writer::put(out, &t[..marks::UNIT_WIDTH]);
     let m = put_split_parts(&mut out[i..], t, place, k, j, id);
     let l = i + m;
     let r = writer::put(&mut out[l..], &t[e..]);

@@ -1,22 +1,26 @@
+use Rattle.heads.proofs.HeadLaws.{head-long, segment-read}
+use native.Mathlib.Omega.{arith}
 use lib.ListN.{length}
 use mathlib.Core.Path.{ap, _∙_}
-use native.Mathlib.Omega.{arith}
-use Rattle.heads.proofs.HeadLaws.{head-long, segment-read}
+use borrow.Author.Needs.{needs}
 use Rattle.heads.proofs.is_segment.Statement.{statement}
 use Rattle.heads.proofs.is_segment.Tie as tie
 
--- src/lib.rt:38:5
+-- src/lib.rt:42:5
 marked-by-requires : tie.Need-marked-by-requires
 marked-by-requires c κs =
     let pre = c .before .before .pre in
     omega (arith, ap length (pre .1), head-long (pre .0))
 
--- src/lib.rt:34:1
+-- src/lib.rt:38:1
 returns : tie.Need-returns
 returns c =
-    let marked-by = c .marked-by in
-    let args = c .before .before .before .args in
-    λ h e. marked-by .ensures ∙ segment-read (args .head .now) h e
+    let head = c .before .before .before .args .head .now in
+    λ h e. (c .marked-by) .ensures ∙ segment-read head h e
 
 pub is-segment-spec : {M : Type 1} → statement M
-is-segment-spec = tie.close (tie.spec marked-by-requires returns)
+is-segment-spec =
+    tie.close
+    (tie.spec
+    marked-by-requires
+    returns)

@@ -1,4 +1,4 @@
-use Rattle.heads.proofs.HeadLaws.{target-long, target-pieces, target-room}
+use Rattle.heads.proofs.HeadLaws.{target-pieces, target-room}
 use Rattle.writer.proofs.RunLaws.{second-start, second-room, two-fit, both-wrote}
 use native.Mathlib.Omega.{arith}
 use mathlib.Core.Path.{refl}

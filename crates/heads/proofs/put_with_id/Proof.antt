@@ -1,32 +1,34 @@
+use Rattle.heads.proofs.HeadLaws.{head-long, id-set}
+use native.Mathlib.Omega.{arith}
 use lib.ListN.{length}
 use mathlib.Core.Path.{ap}
-use native.Mathlib.Omega.{arith}
-use Rattle.heads.proofs.HeadLaws.{head-long, id-set}
 use borrow.Author.Needs.{needs}
 use Rattle.heads.proofs.put_with_id.Statement.{statement}
 use Rattle.heads.proofs.put_with_id.Tie as tie
 
--- src/lib.rt:91:9
-put-requires : tie.Need-put-requires
-put-requires c κs = search needs
-
--- src/lib.rt:92:9
+-- src/lib.rt:96:9
 put-number-requires : tie.Need-put-number-requires
 put-number-requires c κs =
     let pre = c .before .before .before .before .before .before .before .pre in
     omega (arith, ap length (pre .0 .1), head-long (pre .0 .0))
 
--- src/lib.rt:87:1
-same-length : tie.Need-same-length
-same-length c = search needs
-
--- src/lib.rt:87:1
+-- src/lib.rt:91:1
 returns : tie.Need-returns
 returns c =
-    let args = c .before .before .before .before .before .before .before .before .before .before .args in
-    let put = c .before .before .before .before .before .before .put in
+    let after-put = c .before .before .before .before .before .before in
+    let args = after-put .before .before .before .before .args in
+    let put = after-put .put in
     let put-number = c .before .before .put-number in
-    id-set (args .id) (args .head .now) (args .out .now) (put .last .0) (put-number .last .0) (put .result) (put .ensures) (put-number .ensures .1)
+    id-set (args .id) (args .head .now) (args .out .now) (put .last .0) (put-number .last .0) (put .result)
+    (put .ensures) (put-number .ensures .1)
 
 pub put-with-id-spec : {M : Type 1} → statement M
-put-with-id-spec = tie.close (tie.spec put-requires put-number-requires same-length returns)
+put-with-id-spec =
+    tie.close
+    (tie.spec
+    -- by search: put-requires 95:9
+    (λ c κs. search needs)
+    put-number-requires
+    -- by search: same-length 91:1
+    (λ c. search needs)
+    returns)
