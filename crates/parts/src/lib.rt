@@ -25,7 +25,7 @@ fn put_record(out: &mut [u8], t: &[u8], q: u16, up: bool)
 {
     let n = writer::put(out, t);
     if marks::marked_by(t, b"TG") {
-        let e = writer::put_number(out, 2, moved_order(walk::number_of(t), q, up));
+        let e = writer::put_number(out, 2, moved_order(marks::number_at(t, 2), q, up));
     }
 }
 
@@ -36,10 +36,9 @@ pub fn put_parts(out: &mut [u8], t: &[u8], q: u16, up: bool) -> usize
 {
     let mut at: usize = 0;
     while at < t.len() {
-        let g = walker::glance_at(t, at);
-        let e = at + g.width;
-        put_record(&mut out[at..], &t[at..e], q, up);
-        at = e;
+        let next = at + walker::width_at(t, at);
+        put_record(&mut out[at..], &t[at..next], q, up);
+        at = next;
     }
     at
 }

@@ -19,9 +19,9 @@ marked-by-requires c κs =
     let z = one-least (start .args .t .now) (start .pre .0) in
     omega arith
 
--- `walk::number_of(t)`: the order is there
-number-of-requires : tie.Need-number-of-requires
-number-of-requires c κs =
+-- `marks::number_at(t, 2)`: the order is there
+number-at-requires : tie.Need-number-at-requires
+number-at-requires c κs =
     let start = c .before .before .before .before .before .before .before .before .before .before in
     one-least (start .args .t .now) (start .pre .0)
 
@@ -33,7 +33,7 @@ moved-order-requires c κs =
     let marked-by = c .before .before .before .marked-by in
     let b = target-marked r g (ap (λ (l : List ℕ). marked l (84 ∷ 71 ∷ [])) (sym e) ∙ sym (marked-by .ensures) ∙ c .before .before .if1 .taken) in
     let n = ap number e ∙ ap (λ (k : Record). number (record-bytes k)) (b .is) ∙ order-is (b .order) in
-    omega (arith, c .number-of .ensures, b .small)
+    omega (arith, c .number-at .ensures, b .small)
 
 -- `writer::put_number(out, 2, ..)`: there is room
 put-number-requires : tie.Need-put-number-requires
@@ -52,13 +52,13 @@ returns c =
     let args = after-put .before .before .before .before .args in
     let t = args .t .now in
     let put = after-put .put in
-    let number-of = c .before .before .before .before .number-of in
+    let number-at = c .before .before .before .before .number-at in
     let moved-order = c .before .before .before .moved-order in
     let put-number = c .before .before .put-number in
     λ r g e.
     let b = target-marked r g (ap (λ (l : List ℕ). marked l (84 ∷ 71 ∷ [])) (sym e) ∙ sym (after-if .before .marked-by .ensures) ∙ after-if .if1 .taken) in
-    marked-target (moved (args .up) (args .q)) r b t (args .out .now) (put .last .0) (put-number .last .0) (number-of .result) (moved-order .result)
-    e (number-of .ensures) (moved-order .ensures) (put .ensures .1) (put-number .ensures .1)
+    marked-target (moved (args .up) (args .q)) r b t (args .out .now) (put .last .0) (put-number .last .0) (number-at .result) (moved-order .result)
+    e (number-at .ensures) (moved-order .ensures) (put .ensures .1) (put-number .ensures .1)
 
 -- every other record stays as it is
 returns-2 : tie.Need-returns-2
@@ -77,7 +77,7 @@ put-record-spec =
     -- by search: there is room for the record
     (λ c κs. search needs)
     marked-by-requires
-    number-of-requires
+    number-at-requires
     moved-order-requires
     put-number-requires
     -- by search: the output keeps its length
