@@ -4,7 +4,7 @@ use mathlib.Core.Path.{_≡_, refl, sym, ap, _∙_, subst}
 use mathlib.Core.List.{List, [], _∷_, _++_}
 use native.Mathlib.Omega.{arith}
 use lib.ListN.{length, take, drop, length-append, length-take}
-use Rattle.xliff.specs.Bytes.{two, gather}
+use Rattle.xliff.specs.Bytes.{two, gather, two-at}
 use Rattle.xliff.specs.Item.{Content}
 use Rattle.xliff.specs.Unit.{Head, segment, ignorable, Target, no-target, target, Part, with-id}
 use Rattle.xliff.specs.Encode.{record-bytes, head-bytes, target-records, part-records, spell, content-bytes}
@@ -78,6 +78,7 @@ unfolding spell gather target-records second-target content-bytes record-bytes t
 target-second t k g p = ap (λ (l : Target). spell (target-records (second-target k l))) (p .is)
 
 number-of-list : (t : List ℕ) → number t ≡ number (take 4 t)
+unfolding two-at
 number-of-list [] = refl
 number-of-list (a ∷ []) = refl
 number-of-list (a ∷ b ∷ []) = refl
@@ -85,7 +86,7 @@ number-of-list (a ∷ b ∷ c ∷ []) = refl
 number-of-list (a ∷ b ∷ c ∷ d ∷ t) = refl
 
 pub order-is : (t : List ℕ) (g : Target) (p : Present t g) → number t ≡ p .order
-unfolding two
+unfolding two two-at
 order-is t g p = number-of-list t ∙ ap number (p .head) ∙ two-value (p .order)
 
 -- a number written behind the mark of a piece

@@ -37,7 +37,7 @@ fn put_target_second(out: &mut [u8], t: &[u8], k: usize) -> usize
         return 0;
     }
     let n = writer::put(out, &t[..4]);
-    let q = writer::put_number(out, 2, walk::number_of(t) + 1);
+    let q = writer::put_number(out, 2, marks::number_at(t, 2) + 1);
     let m = cut::put_second(&mut out[n..], &t[4..], k);
     n + m
 }

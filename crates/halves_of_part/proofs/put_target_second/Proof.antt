@@ -48,8 +48,8 @@ put-requires c κs =
     omega arith
 
 -- src/lib.rt:40:40
-number-of-requires : tie.Need-number-of-requires
-number-of-requires c κs =
+number-at-requires : tie.Need-number-at-requires
+number-at-requires c κs =
     let after-if1 = c .before .before .before .before .before .before in
     let start = after-if1 .before .before .before in
     let if1 = after-if1 .if1 in
@@ -72,7 +72,7 @@ add-put-number c =
     let l = ap length e in
     let a = length-append (next-head (suc (p .order))) (content-bytes (second-items k (p .items))) in
     let t4 = length-take-le 4 t (p .least) in
-    let nn = c .number-of .ensures ∙ order-is t g p in
+    let nn = c .number-at .ensures ∙ order-is t g p in
     omega (arith, p .small)
 
 -- src/lib.rt:40:9
@@ -209,7 +209,7 @@ returns-2 c =
     let out = args .out .now in
     let if1 = after-put .before .before .before .if1 in
     let put = after-put .put in
-    let number-of = after-put-number .before .number-of in
+    let number-at = after-put-number .before .number-at in
     let put-number = after-put-number .put-number in
     let put-second = c .before .before .put-second in
     λ g is.
@@ -219,12 +219,12 @@ returns-2 c =
     let l = ap length e in
     let a = length-append (next-head (suc (p .order))) the-content-bytes in
     let t4 = length-take-le 4 t (p .least) in
-    let nn = number-of .ensures ∙ order-is t g p in
+    let nn = number-at .ensures ∙ order-is t g p in
     let m = put-second .ensures (p .items) (as-tail t 4 (p .items) (p .holds)) in (
       omega (arith, put .ensures .0, m .0),
       two-back out (next-head (suc (p .order))) the-content-bytes (put-number .last .0) (put-second .last .0)
           (put .result) (put .ensures .0 ∙ t4)
-          (next-over t g p out (put .last .0) (put-number .last .0) (number-of .result + 1) (omega arith)
+          (next-over t g p out (put .last .0) (put-number .last .0) (number-at .result + 1) (omega arith)
           (put .ensures .1) (put-number .ensures .1)) (m .1)
           ∙ ap (λ (l : List ℕ). lead l out) (sym e),
     )
@@ -236,7 +236,7 @@ put-target-second-spec =
     returns
     slice-aggregate-put
     put-requires
-    number-of-requires
+    number-at-requires
     add-put-number
     put-number-requires
     sub-put-second
