@@ -9,63 +9,57 @@ use lib.Seq.{drop-at, take-append-add, drop-append-add}
 use Rattle.writer.specs.Pieces.{lead, overlay, numberBytes}
 use Rattle.xliff.proofs.lists.Slices.{tail-is}
 use Rattle.writer.proofs.PieceLaws.{two-back}
-use Rattle.xliff.specs.Bytes.{two, gather}
+use Rattle.xliff.specs.Bytes.{two, two-at, gather}
 use Rattle.xliff.specs.Text.{utf8s}
 use Rattle.xliff.specs.Item.{Content, text}
 use Rattle.xliff.specs.Encode.{Record, text-run, inline, record-bytes, spell, content-records, content-bytes}
 use Rattle.xliff.specs.Parse.{reading, take-record}
 use Rattle.xliff.proofs.lists.Tests.{two-value, map-append, and-left, and-right}
 use Rattle.xliff.specs.Good.{Allowed, one-point}
-use Rattle.walk.specs.Kept.{Kept, kept-end, kept-item, kept-text, Of, Holds, items, Inline, an-item, a-text, Rest}
+use Rattle.walk.specs.Kept.{Kept, kept-end, kept-item, kept-text, Of, Holds, items, Inline, an-item, a-text, InContent}
 use Rattle.marks.specs.Marks.{marked}
-use Rattle.walk.specs.Marks.{widthAt, number}
-use Rattle.walk.proofs.WalkLaws.{Next, next, rest-start, rest-end, inline-least}
+use Rattle.marks.proofs.RecordLaws.{number-there}
+use Rattle.walker.specs.Offsets.{WidthAt}
+use Rattle.walk.specs.Marks.{number}
+use Rattle.walk.proofs.RecordLaws.{Upto, upto-on}
+use Rattle.walk.proofs.WalkLaws.{Next, next as next-record, first-of, rest-start, rest-end, inline-least}
 use Rattle.walk.proofs.TextLaws.{utf8s-append}
 use Rattle.xliff.proofs.unit.Pieces.{spell-append}
 use Rattle.walk.proofs.PlaceLaws.{is-text, kept-items}
 use Rattle.cut.proofs.CutLaws.{kept-records}
 use Rattle.cut.proofs.HalfLaws.{items-of}
-use Rattle.joined_content.specs.Seam.{Last, Seam, apart, touching}
+use Rattle.joined_content.specs.Seam.{Last, Seam, apart, touching, SeamOf, RoomJoined, WroteJoined}
 
--- at the offset at of c
-pub record Stands (c : List ℕ) (rs : List Record) (at : ℕ) : Type 0 where
-  pub before : List Record
-  pub after : List Record
-  pub all : rs ≡ before ++ after
-  pub rest : Rest c at after
-  pub offset : at ≡ length (spell before)
+-- next is the offset behind the record at the offset at of c
+pub record Behind (c : List ℕ) (at next : ℕ) : Type 0 where
+  pub width : ℕ
+  pub offset : next ≡ at + width
+  pub read : WidthAt c at width
 
-pub stands-start : (c : List ℕ) (rs : List Record) → Of c rs → Stands c rs 0
-unfolding spell gather
-stands-start c rs o = record { before = []; after = rs; all = refl; rest = rest-start c rs o; offset = refl }
+pub behind : (c : List ℕ) (at w : ℕ) → WidthAt c at w → Behind c at (at + w)
+behind c at w e = record { width = w; offset = refl; read = e }
 
-pub stands-next : (c : List ℕ) (rs : List Record) (at : ℕ) → at < length c → (m : Stands c rs at) → Next c at (m .after)
-stands-next c rs at h m = next c at (m .after) h (m .rest)
+module _ (c : List ℕ) (rs : List Record) (at next : ℕ) (h : at < length c) (b : Behind c at next) (m : Upto InContent c rs at) where
+  the-next : Next c at (b .width) (m .after)
+  the-next = next-record c at (b .width) (m .after) h (m .rest) (b .read)
 
-pub stands-on : (c : List ℕ) (rs : List Record) (at j : ℕ) → at < length c → j ≡ at + widthAt (drop at c) → Stands c rs at → Stands c rs j
-unfolding spell gather
-stands-on c rs at j h e m =
-    let n = stands-next c rs at h m in
-    let s : length (spell (m .before ++ (n .first ∷ []))) ≡ length (spell (m .before)) + length (record-bytes (n .first) ++ []) =
-    ap length (spell-append (m .before) (n .first ∷ [])) ∙ length-append (spell (m .before)) (record-bytes (n .first) ++ []) in
-    record {
-      before = m .before ++ (n .first ∷ []);
-      after = n .others;
-      all = m .all ∙ ap (λ (l : List Record). m .before ++ l) (n .all) ∙ sym (append-assoc (m .before) (n .first ∷ []) (n .others));
-      rest = subst (λ (k : ℕ). Rest c k (n .others)) (sym e) (n .rest);
-      offset = omega (arith, m .offset, n .width, length-append (record-bytes (n .first)) []);
-    }
+  pub behind-fits : (at + 4 ≤ next) × (next ≤ length c)
+  behind-fits = let n = the-next in (omega (arith, b .offset, n .least), omega (arith, b .offset, n .fit))
 
-pub stands-last : (c : List ℕ) (rs : List Record) (at : ℕ) → at < length c → length c ≤ at + widthAt (drop at c) → Stands c rs at → Last rs at
-stands-last c rs at h k m =
-    let n = stands-next c rs at h m in
-    let z : n .others ≡ [] = rest-end c (at + widthAt (drop at c)) (n .others) k (n .rest) in
-    record {
-      before = m .before;
-      last = n .first;
-      all = m .all ∙ ap (λ (l : List Record). m .before ++ l) (n .all ∙ ap {B = List Record} (λ l. n .first ∷ l) z);
-      offset = m .offset;
-    }
+  pub upto-next : Upto InContent c rs next
+  upto-next = subst (λ (k : ℕ). Upto InContent c rs k) (sym (b .offset)) (upto-on InContent Inline c rs at (b .width) m the-next)
+
+  -- it is the last one
+  pub upto-last : length c ≤ next → Last rs at
+  upto-last k =
+      let n = the-next in
+      let none : n .others ≡ [] = rest-end c (at + b .width) (n .others) (omega (arith, b .offset)) (n .rest) in
+      record {
+        before = m .before;
+        last = n .first;
+        all = m .all ∙ ap (λ (l : List Record). m .before ++ l) (n .all ∙ ap {B = List Record} (λ l. n .first ∷ l) none);
+        offset = m .offset;
+      }
 
 -- the last record
 pub kept-last : (b : Bool) (a : List Record) (r : Record) → Kept b (a ++ (r ∷ [])) → Inline r
@@ -121,7 +115,7 @@ last-least a rs p o m =
     (omega (arith, length-append (record-bytes (m .last)) []), omega (arith, length-append (record-bytes (m .last)) [], length-drop p a))
 
 pub first-least : (b : List ℕ) (qs : List Record) → Of b qs → 0 < length b → 4 ≤ length b
-first-least b qs o h = next b 0 qs h (rest-start b qs o) .enough
+first-least b qs o h = let n = first-of b 0 qs h (rest-start b qs o) in omega (arith, n .least, n .fit)
 
 pub seam-apart : (a b : List ℕ) (rs qs : List Record) (p : ℕ) → Of a rs → Of b qs → Last rs p → marked (drop p a) (84 ∷ 88 ∷ []) && marked b (84 ∷ 88 ∷ []) ≡ false → Seam (length a) rs qs (length a)
 seam-apart a b rs qs p o q m e =
@@ -131,7 +125,7 @@ seam-apart a b rs qs p o q m e =
 
 pub seam-touching : (a b : List ℕ) (rs qs : List Record) (p : ℕ) → Of a rs → Of b qs → 0 < length b → Last rs p → marked (drop p a) (84 ∷ 88 ∷ []) && marked b (84 ∷ 88 ∷ []) ≡ true → Seam (length a) rs qs p
 seam-touching a b rs qs p o q h m e =
-    let n = next b 0 qs h (rest-start b qs q) in
+    let n = first-of b 0 qs h (rest-start b qs q) in
     let u = is-text (m .last) (drop p a) [] (last-inline a rs p o m) (last-bytes a rs p o m) (and-left (marked (drop p a) (84 ∷ 88 ∷ [])) _ e) in
     let v = is-text (n .first) b (spell (n .others)) (n .good) (n .bytes) (and-right (marked (drop p a) (84 ∷ 88 ∷ [])) _ e) in
     subst (λ (j : ℕ). Seam (length a) rs qs j) (sym (m .offset))
@@ -139,7 +133,7 @@ seam-touching a b rs qs p o q h m e =
     (m .all ∙ ap (λ (r : Record). m .before ++ (r ∷ [])) (u .is)) (n .all ∙ ap {B = List Record} (λ r. r ∷ n .others) (v .is)))
 
 -- contents whose records can stand side by side
-pub joined-apart : (a b : List ℕ) (xs ys : Content) → Holds a xs → Holds b ys → Kept false (content-records xs ++ content-records ys) → content-bytes (xs ++ ys) ≡ a ++ b
+joined-apart : (a b : List ℕ) (xs ys : Content) → Holds a xs → Holds b ys → Kept false (content-records xs ++ content-records ys) → content-bytes (xs ++ ys) ≡ a ++ b
 unfolding content-bytes
 joined-apart a b xs ys o q k =
     let i : items (content-records xs ++ content-records ys) ≡ xs ++ ys =
@@ -208,7 +202,7 @@ seam-length : (a : List ℕ) (rs before : List Record) (cs : List ℕ) → Of a 
 seam-length a rs before cs o e =
     ap length (touch-first a rs before cs o e) ∙ length-append (spell before) (record-bytes (text-run cs)) ∙ ap (λ (n : ℕ). length (spell before) + n) (record-long cs)
 
-pub seam-kept : (a : List ℕ) (rs qs : List Record) (n : ℕ) → Of a rs → Seam (length a) rs qs n → n ≡ length a → Kept false (rs ++ qs)
+seam-kept : (a : List ℕ) (rs qs : List Record) (n : ℕ) → Of a rs → Seam (length a) rs qs n → n ≡ length a → Kept false (rs ++ qs)
 seam-kept a rs qs n o (apart k) e = k
 seam-kept a rs qs n o (touching before cs ds others f g) e = absurd (let z : ⊥ = omega (arith, seam-length a rs before cs o f) in z)
 
@@ -241,7 +235,7 @@ touch-at : (a b : List ℕ) (xs ys : Content) (rs qs : List Record) (end n : ℕ
 touch-at a b xs ys rs qs end n o q h u v (apart k) z = absurd (z refl)
 touch-at a b xs ys rs qs end n o q h u v (touching before cs ds others f g) z = touch-by a b xs ys before cs ds others o q h (u ∙ f) (v ∙ g)
 
-pub touch : (a b : List ℕ) (xs ys : Content) (n : ℕ) → Holds a xs → Holds b ys → length a + length b < 65536 → Seam (length a) (content-records xs) (content-records ys) n
+touch : (a b : List ℕ) (xs ys : Content) (n : ℕ) → Holds a xs → Holds b ys → length a + length b < 65536 → Seam (length a) (content-records xs) (content-records ys) n
     → (n ≡ length a → ⊥) → Touch a b xs ys n
 touch a b xs ys n o q h s z = touch-at a b xs ys (content-records xs) (content-records ys) (length a) n o q h refl refl s z
 
@@ -269,29 +263,29 @@ module _ (a b : List ℕ) (xs ys : Content) (n : ℕ) (t : Touch a b xs ys n) wh
       let q : length a ≡ length (spell (t .before)) + length (record-bytes (text-run (t .cs))) = ap length (t .first) ∙ length-append (spell (t .before)) (record-bytes (text-run (t .cs))) in
       omega (arith, record-long (t .cs))
 
-  pub touch-a : length a ≡ n + (4 + length (utf8s (t .cs)))
+  touch-a : length a ≡ n + (4 + length (utf8s (t .cs)))
   touch-a =
       ap length (t .first) ∙ length-append (spell (t .before)) (record-bytes (text-run (t .cs))) ∙ ap₂ _+_ (sym (t .offset)) (record-long (t .cs))
 
-  pub touch-b : length b ≡ 4 + length (utf8s (t .ds)) + length (spell (t .others))
+  touch-b : length b ≡ 4 + length (utf8s (t .ds)) + length (spell (t .others))
   touch-b = ap length (t .second) ∙ length-append (record-bytes (text-run (t .ds))) (spell (t .others)) ∙ ap (λ (k : ℕ). k + length (spell (t .others))) (record-long (t .ds))
 
-  pub touch-size : length (content-bytes (xs ++ ys)) ≡ length a + (length b - 4)
+  touch-size : length (content-bytes (xs ++ ys)) ≡ length a + (length b - 4)
   touch-size = ap length (t .bytes) ∙ length-append the-patched (drop 4 b) ∙ ap₂ _+_ patched-long (length-drop 4 b)
 
   number-is : (cs s : List ℕ) → number (record-bytes (text-run cs) ++ s) ≡ length (utf8s cs)
-  unfolding record-bytes two
+  unfolding two-at record-bytes two
   number-is cs s = two-value (length (utf8s cs))
 
-  pub touch-number-a : number (drop n a) ≡ length (utf8s (t .cs))
+  touch-number-a : number (drop n a) ≡ length (utf8s (t .cs))
   touch-number-a =
       ap number (ap (drop n) (t .first) ∙ drop-at (spell (t .before)) (record-bytes (text-run (t .cs))) n (sym (t .offset)) ∙ sym (append-nil (record-bytes (text-run (t .cs)))))
       ∙ number-is (t .cs) []
 
-  pub touch-number-b : number b ≡ length (utf8s (t .ds))
+  touch-number-b : number b ≡ length (utf8s (t .ds))
   touch-number-b = ap number (t .second) ∙ number-is (t .ds) (spell (t .others))
 
-  pub touch-wrote : (o l m y : List ℕ) (x j : ℕ) → l ≡ lead a o → x ≡ length (utf8s (t .cs)) + length (utf8s (t .ds)) → m ≡ overlay l (n + 2) (numberBytes x) → j ≡ length a
+  touch-wrote : (o l m y : List ℕ) (x j : ℕ) → l ≡ lead a o → x ≡ length (utf8s (t .cs)) + length (utf8s (t .ds)) → m ≡ overlay l (n + 2) (numberBytes x) → j ≡ length a
       → y ≡ lead (take (length b - 4) (drop 4 b)) (take (length m - j) (drop j m)) → take j m ++ (y ++ drop (length m - j) (drop j m)) ≡ lead (content-bytes (xs ++ ys)) o
   unfolding two record-bytes
   touch-wrote o l m y x j e f g h k =
@@ -315,6 +309,65 @@ room-at a b xs ys rs qs end n o q h u v (apart k) =
 room-at a b xs ys rs qs end n o q h u v (touching before cs ds others f g) =
     omega (arith, touch-size a b xs ys (length (spell before)) (touch-by a b xs ys before cs ds others o q h (u ∙ f) (v ∙ g)))
 
-pub joined-room : (a b : List ℕ) (xs ys : Content) (n : ℕ) → Holds a xs → Holds b ys → length a + length b < 65536 → Seam (length a) (content-records xs) (content-records ys) n
+joined-room : (a b : List ℕ) (xs ys : Content) (n : ℕ) → Holds a xs → Holds b ys → length a + length b < 65536 → Seam (length a) (content-records xs) (content-records ys) n
     → length a ≤ length (content-bytes (xs ++ ys))
 joined-room a b xs ys n o q h s = room-at a b xs ys (content-records xs) (content-records ys) (length a) n o q h refl refl s
+
+-- What fits where the contents a and b, that meet at n, are written over o
+pub record Touching (a b o : List ℕ) (n : ℕ) : Type 0 where
+  pub first-fit : n + 4 ≤ length a
+  pub second-fit : 4 ≤ length b
+  pub sum-small : two-at a (n + 2) + two-at b 2 < 65536
+  pub rest-room : length a + length (take (length b - 4) (drop 4 b)) ≤ length o
+
+pub record JoinFits (a b o : List ℕ) (n : ℕ) : Type 0 where
+  pub first-room : length a ≤ length o
+  pub both-room : n ≡ length a → length a + length b ≤ length o
+  pub touching : (n ≡ length a → ⊥) → Touching a b o n
+
+module _ (a b : List ℕ) (n : ℕ) (seam : SeamOf a b n) where
+  the-seam : (xs ys : Content) → Holds a xs → Holds b ys → Seam (length a) (content-records xs) (content-records ys) n
+  the-seam xs ys o q = seam (content-records xs) (content-records ys) o q
+
+  side-by-side : (xs ys : Content) → Holds a xs → Holds b ys → n ≡ length a → content-bytes (xs ++ ys) ≡ a ++ b
+  side-by-side xs ys o q e = joined-apart a b xs ys o q (seam-kept a (content-records xs) (content-records ys) n o (the-seam xs ys o q) e)
+
+  rest-long : length (take (length b - 4) (drop 4 b)) ≡ length b - 4
+  rest-long = ap length (tail-is 4 b) ∙ length-drop 4 b
+
+  pub join-fits : (o : List ℕ) → RoomJoined a b o → JoinFits a b o n
+  join-fits o (xs, ys, h, q, small, room) =
+      record {
+        first-room = omega (arith, room, joined-room a b xs ys n h q small (the-seam xs ys h q));
+        both-room = λ e. omega (arith, room, ap length (side-by-side xs ys h q e), length-append a b);
+        touching = λ e.
+            let t = touch a b xs ys n h q small (the-seam xs ys h q) e in
+            let first = touch-a a b xs ys n t in
+            let second = touch-b a b xs ys n t in
+            record {
+              first-fit = omega (arith, first);
+              second-fit = omega (arith, second);
+              sum-small = omega (arith, small, first, second, number-there a n 2, touch-number-a a b xs ys n t, touch-number-b a b xs ys n t);
+              rest-room = omega (arith, room, rest-long, touch-size a b xs ys n t);
+            };
+      }
+
+  -- side by side
+  pub join-apart : (o l y : List ℕ) (k m : ℕ) → n ≡ length a → k ≡ length a → l ≡ lead a o → m ≡ length b → y ≡ lead b (take (length l - k) (drop k l))
+      → WroteJoined a b o (k + m) (take k l ++ (y ++ drop (length l - k) (drop k l)))
+  join-apart o l y k m e f g h u xs ys p q =
+      let j = side-by-side xs ys p q e in (
+        omega (arith, f, h, ap length j, length-append a b),
+        two-back o a b l y k f g u ∙ ap (λ (x : List ℕ). lead x o) (sym j),
+      )
+
+  -- two texts made one
+  pub join-touching : (o l z y : List ℕ) (k x m : ℕ) → RoomJoined a b o → (n ≡ length a → ⊥) → k ≡ length a → l ≡ lead a o → x ≡ two-at a (n + 2) + two-at b 2
+      → z ≡ overlay l (n + 2) (numberBytes x) → m ≡ length (take (length b - 4) (drop 4 b)) → y ≡ lead (take (length b - 4) (drop 4 b)) (take (length z - k) (drop k z))
+      → WroteJoined a b o (k + m) (take k z ++ (y ++ drop (length z - k) (drop k z)))
+  join-touching o l z y k x m (_, _, _, _, small, _) e f g h u v w xs ys p q =
+      let t = touch a b xs ys n p q small (the-seam xs ys p q) e in
+      let sum = h ∙ ap₂ _+_ (number-there a n 2 ∙ touch-number-a a b xs ys n t) (touch-number-b a b xs ys n t) in (
+        omega (arith, f, v, rest-long, touch-b a b xs ys n t, touch-size a b xs ys n t),
+        touch-wrote a b xs ys n t o l z y x k g sum u f w,
+      )

@@ -13,10 +13,10 @@ fn last_of(c: &[u8]) -> usize
     ensures { λ r. ⌜ LastOf (now (c .entry)) r ⌝ }
 {
     let mut at: usize = 0;
-    let mut next = walk::width_of(c);
+    let mut next = walker::width_at(c, 0);
     while next < c.len() {
         at = next;
-        next = at + walk::width_of(&c[at..]);
+        next = at + walker::width_at(c, at);
     }
     at
 }
@@ -59,7 +59,7 @@ pub fn put_joined(out: &mut [u8], a: &[u8], b: &[u8]) -> usize
         let m = writer::put(&mut out[n..], b);
         return n + m;
     }
-    let x = walk::number_of(&a[p..]) + walk::number_of(b);
+    let x = marks::number_at(a, p + 2) + marks::number_at(b, 2);
     let q = writer::put_number(out, p + 2, x);
     let m = writer::put(&mut out[n..], &b[4..]);
     n + m

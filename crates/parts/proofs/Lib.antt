@@ -1,7 +1,6 @@
 pub mod RecordLaws
 pub mod OrderLaws
 pub mod LoopLaws
-pub mod GlanceLaws
 pub mod TableLaws
 pub mod CheckLaws
 pub mod PlaceLaws

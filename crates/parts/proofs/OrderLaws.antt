@@ -15,8 +15,8 @@ use Rattle.xliff.specs.Join.{lower-above}
 use Rattle.xliff.proofs.lists.Tests.{map-append}
 use Rattle.xliff.specs.Good.{Each, each-nil, each-cons}
 use Rattle.xliff.proofs.lists.Each.{each-append}
-use Rattle.walk.specs.Kept.{Kept, kept-end, kept-item, kept-text}
-use Rattle.parts.specs.Parts.{GoodTarget, GoodPart, PartsIn, SomeParts, moved, ordered, InPart, head-in, target-in, item-in, text-in, order-record}
+use Rattle.walk.specs.Kept.{Kept, kept-end, kept-item, kept-text, InPart, head-in, target-in, item-in, text-in}
+use Rattle.parts.specs.Parts.{GoodTarget, GoodPart, PartsIn, SomeParts, moved, ordered, order-record}
 
 -- one order
 pub moved-below : (up : Bool) (q n : ℕ) → n ≤ q → n ≡ moved up q n

@@ -11,7 +11,7 @@ use Rattle.xliff.specs.Encode.{record-bytes, part-records, spell, part-head, co
 use Rattle.xliff.specs.Good.{bytes-of, opened, closed}
 use Rattle.xliff.proofs.unit.Pieces.{table-pieces}
 use Rattle.parts.specs.Parts.{TableOf}
-use Rattle.parts.proofs.RecordLaws.{head-least}
+use Rattle.walk.proofs.RecordLaws.{head-least}
 
 pub part-least : (p : Part) → 4 ≤ length (spell (part-records p))
 unfolding spell gather part-records

@@ -1,19 +1,16 @@
 -- Whole parts as they stand in a table, one behind the other, and the orders of their targets.
-use Rattle.xliff.specs.Good.{Each, Allowed, GoodItem, GoodHead}
+use Rattle.xliff.specs.Good.{Each, GoodHead}
 use Prim.Native.Nat.{ℕ, _<_}
 use mathlib.Core.Path.{_≡_}
 use mathlib.Core.Bool.{Bool, false, cond}
-use mathlib.Core.List.{List, _∷_}
-use lib.ListN.{length}
+use mathlib.Core.List.{List}
 use Rattle.xliff.specs.Bytes.{gather}
-use Rattle.xliff.specs.Text.{utf8s}
-use Rattle.xliff.specs.Item.{Item}
-use Rattle.xliff.specs.Unit.{Head, Target, no-target, target, Part, XliffUnit}
+use Rattle.xliff.specs.Unit.{Target, no-target, target, Part, XliffUnit}
 use Rattle.xliff.specs.Encode.{Record, opening, closing, part-head, target-head, text-run, inline, ill-text, broken, record-bytes, content-records, part-records, spell, encode}
 use Rattle.xliff.specs.Focus.{order-parts}
 use Rattle.xliff.specs.Split.{raise-above}
 use Rattle.xliff.specs.Join.{lower-above}
-use Rattle.walk.specs.Kept.{Kept}
+use Rattle.walk.specs.Kept.{Kept, InPart}
 use Rattle.writer.specs.Pieces.{lead, Written}
 
 -- the contents of a part are kept, its order can rise, and its head is good
@@ -43,16 +40,9 @@ moved up q = cond up (raise-above q) (lower-above q)
 abbrev pub ordered : (ℕ → ℕ) → List Part → List ℕ
 ordered f ps = spell (gather part-records (order-parts f ps))
 
--- the output o has become l, with the parts that stand in t at its head
+-- the output o has become l, with the parts that stand in t, n bytes, at its head
 abbrev pub WroteParts : (ℕ → ℕ) → List ℕ → List ℕ → ℕ → List ℕ → Type 0
 WroteParts f t o n l = (ps : List Part) → PartsIn t ps → Written (ordered f ps) o n l
-
--- a record of a part
-pub data InPart : Record → Type 0 where
-  head-in : {h : Head} → GoodHead h → InPart (part-head h)
-  target-in : {q : ℕ} → q < 65535 → InPart (target-head q)
-  item-in : {x : Item} → GoodItem x → InPart (inline x)
-  text-in : {d : ℕ} {ds : List ℕ} → Allowed (d ∷ ds) → length (utf8s (d ∷ ds)) < 65536 → InPart (text-run (d ∷ ds))
 
 -- the order of a target changed; every other record as it is
 abbrev pub order-record : (ℕ → ℕ) → Record → Record

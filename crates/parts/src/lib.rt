@@ -37,10 +37,9 @@ pub fn put_parts(out: &mut [u8], t: &[u8], q: u16, up: bool) -> usize
 {
     let mut at: usize = 0;
     while at < t.len() {
-        let g = walker::glance_at(t, at);
-        let e = at + g.width;
-        put_record(&mut out[at..], &t[at..e], q, up);
-        at = e;
+        let next = at + walker::width_at(t, at);
+        put_record(&mut out[at..], &t[at..next], q, up);
+        at = next;
     }
     at
 }

@@ -9,14 +9,15 @@ use lib.Dec.{ltb}
 use borrow.Author.Tests.{lt-ltb, le-ltb}
 use Rattle.xliff.specs.Item.{Content}
 use Rattle.xliff.specs.Unit.{Target, no-target, target, Part, XliffUnit, target-items}
-use Rattle.xliff.specs.Encode.{content-records, target-records, part-records, unit-records, content-bytes, encode}
+use Rattle.xliff.specs.Encode.{Record, content-records, target-records, part-records, unit-records, content-bytes, encode}
 use Rattle.xliff.specs.Parse.{unit}
 use Rattle.xliff.specs.Check.{too-large}
 use Rattle.xliff.specs.Focus.{with-parts}
 use Rattle.xliff.proofs.lists.Tests.{or-true, or-none}
 use Rattle.xliff.proofs.unit.Valid.{heads-unit}
 use Rattle.places.specs.Passes.{Passes}
-use Rattle.walk.specs.Kept.{Holds}
+use Rattle.walk.specs.Kept.{Of, Holds, Rest}
+use Rattle.walk.proofs.WalkLaws.{Next, rest-start, rest-end}
 use Rattle.part_at.specs.declared.PartPlace.{PartPlace}
 use Rattle.part_at.specs.Stands.{PartStands, TargetStands}
 use Rattle.record_count.proofs.CountLaws.{count, count-append, count-cons, unit-count}
@@ -26,6 +27,22 @@ use Rattle.set_result.proofs.PieceLaws.{set-long}
 pub holds-bytes : (c : List ℕ) (xs : Content) → Holds c xs → content-bytes xs ≡ c
 unfolding content-bytes
 holds-bytes c xs o = o .1
+
+-- the records of a content, of which n are passed
+pub record Passed (c : List ℕ) (rs : List Record) (at n : ℕ) : Type 0 where
+  pub after : List Record
+  pub rest : Rest c at after
+  pub count : n + length after ≡ length rs
+
+pub passed-start : (c : List ℕ) (rs : List Record) → Of c rs → Passed c rs 0 0
+passed-start c rs o = record { after = rs; rest = rest-start c rs o; count = omega arith }
+
+pub passed-on : (c : List ℕ) (rs : List Record) (at w n : ℕ) (m : Passed c rs at n) → Next c at w (m .after) → Passed c rs (at + w) (n + 1)
+passed-on c rs at w n m k =
+    record { after = k .others; rest = k .rest; count = omega (arith, m .count, ap (λ (l : List Record). length l) (k .all)) }
+
+pub passed-all : (c : List ℕ) (rs : List Record) (at n : ℕ) → length c ≤ at → Passed c rs at n → n ≡ length rs
+passed-all c rs at n h m = omega (arith, m .count, ap (λ (l : List Record). length l) (rest-end c at (m .after) h (m .rest)))
 
 -- the records of the old target
 module _ (t : List ℕ) (place : PartPlace) where

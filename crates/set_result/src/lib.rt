@@ -35,7 +35,7 @@ fn count_records(c: &[u8]) -> usize
     let mut at: usize = 0;
     let mut n: usize = 0;
     while at < c.len() {
-        at += walk::width_of(&c[at..]);
+        at += walker::width_at(c, at);
         n += 1;
     }
     n
