@@ -1,5 +1,6 @@
 use native.Mathlib.Omega.{arith}
-use mathlib.Core.Path.{_∙_}
+use mathlib.Core.Path.{sym, _∙_}
+use lib.Seq.{length-take-le}
 use Rattle.orders.proofs.WalkLaws.{few-parts}
 use Rattle.sequences.proofs.MarkerLaws.{front-long, both-markers}
 use borrow.Author.Needs.{needs}
@@ -59,12 +60,10 @@ returns c =
           (sources .last .1 .0) (keys-at .last .1 .1 .0) (targets .last .1 .1 .0) (keys-at2 .last .1 .1 .0)
           (sources .result) (targets .result) (keys-at .result) (keys-at2 .result) (sources .ensures) (targets .ensures)
           (keys-at .ensures .0) (keys-at .ensures .1) (keys-at2 .ensures .0) (keys-at2 .ensures .1),
-      sources .ensures .1,
-      targets .ensures .1,
-      sources .ensures .2,
-      keys-at .ensures .2 ∙ pre .4,
-      targets .ensures .2,
-      keys-at2 .ensures .2 ∙ pre .6,
+      front-long _ (sources .last .1 .0) (sources .result) (sources .ensures),
+      sym (length-take-le (sources .result) (keys-at .last .1 .1 .0) (omega (arith, sources .ensures .1, keys-at .ensures .2, pre .4))),
+      front-long _ (targets .last .1 .1 .0) (targets .result) (targets .ensures),
+      sym (length-take-le (targets .result) (keys-at2 .last .1 .1 .0) (omega (arith, targets .ensures .1, keys-at2 .ensures .2, pre .6))),
     )
 
 pub markers-spec : {M : Type 1} → statement M

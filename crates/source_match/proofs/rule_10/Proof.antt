@@ -13,7 +13,7 @@ link-before-requires : tie.Need-link-before-requires
 link-before-requires c κs =
     let start = c .before .before .before .before .before .before .before in
     let pre = start .pre in (
-      omega (arith, ap length (pre .2), length-keys (start .args .t .now) (start .args .src .now), pre .4),
+      omega (arith, ap length (pre .2), length-keys (start .args .t .now) (start .args .src .now), pre .5),
       search needs,
       search needs,
       λ g l. getD-replicate 256 g 0 0 l ∙ sym (previous-none _),
@@ -31,7 +31,7 @@ ten-target-requires : tie.Need-ten-target-requires
 ten-target-requires c κs =
     let pre = c .before .before .before .before .before .before .before .before .before .before .before .before
     .before .pre in
-    (search needs, pre .5)
+    (search needs, pre .4)
 
 -- src/lib.rt:180:1
 returns : tie.Need-returns
