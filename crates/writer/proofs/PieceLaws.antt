@@ -37,7 +37,9 @@ two-back out a b xs ys n e f g =
 -- three pieces
 pub three-back : (o a b c l y z : List ℕ) (n e : ℕ) → n ≡ length a → l ≡ lead a o → y ≡ lead b (take (length l - n) (drop n l)) → e ≡ n + length b
     → z ≡ lead c (take (length (take n l ++ (y ++ drop (length l - n) (drop n l))) - e) (drop e (take n l ++ (y ++ drop (length l - n) (drop n l)))))
-    → take e (take n l ++ (y ++ drop (length l - n) (drop n l))) ++ (z ++ drop (length (take n l ++ (y ++ drop (length l - n) (drop n l))) - e) (drop e (take n l ++ (y ++ drop (length l - n) (drop n l)))))
+    → take e (take n l ++ (y ++ drop (length l - n) (drop n l)))
+    ++ (z ++ drop (length (take n l ++ (y ++ drop (length l - n) (drop n l))) - e)
+    (drop e (take n l ++ (y ++ drop (length l - n) (drop n l)))))
     ≡ lead ((a ++ b) ++ c) o
 three-back o a b c l y z n e h k u v w =
     two-back o (a ++ b) c (take n l ++ (y ++ drop (length l - n) (drop n l))) z e
