@@ -42,7 +42,7 @@ shared-slice-read-view-at c =
     let loop-test = c .before .before .before .loop-test in
     omega (arith, keys-long (start .args .t .now) (start .args .os .now) _ (start .pre), loop-test .taken)
 
--- src/lib.rt:87:13
+-- keys::view_at(t, at, keys[i])
 view-at-requires : tie.Need-view-at-requires Inv-loop μ-loop
 unfolding earlier any
 view-at-requires c κs =

@@ -17,7 +17,7 @@ returns c =
     let args = start .args in
     no-end (args .t .now) (args .os .now) (args .i) (args .x) (start .pre .2) (not-true _ (c .if1 .taken))
 
--- src/lib.rt:66:9
+-- halves::half_before(keys, i)
 half-before-requires : tie.Need-half-before-requires
 half-before-requires c κs =
     let start = c .before .before .before .before .before .before in

@@ -22,7 +22,7 @@ Inv-loop t os keys starts ends best₀ i₀ best i =
 abbrev μ-loop : tie.MeasureT-loop
 μ-loop t os keys starts ends best₀ i₀ best i = length os - i
 
--- src/lib.rt:149:13
+-- encloses_stray(t, os, keys, starts, ends, i)
 encloses-stray-requires : tie.Need-encloses-stray-requires Inv-loop μ-loop
 unfolding earlier
 encloses-stray-requires c κs =

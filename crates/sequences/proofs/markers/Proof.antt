@@ -30,7 +30,8 @@ slice-aggregate-keys-at c =
 keys-at-requires : tie.Need-keys-at-requires
 keys-at-requires c κs =
     let sources = c .before .before .before .before .before .before .before .before .before .sources in
-    let pre = c .before .before .before .before .before .before .before .before .before .before .before .before .before .before .before .before .pre in
+    let pre = c .before .before .before .before .before .before .before .before .before .before .before .before
+    .before .before .before .before .pre in
     omega (arith, front-long _ (sources .last .1 .0) (sources .result) (sources .ensures), sources .ensures .1, pre .4)
 
 -- &tgt[..m]
@@ -43,7 +44,8 @@ slice-aggregate-keys-at-2 c =
 keys-at-requires-2 : tie.Need-keys-at-requires-2
 keys-at-requires-2 c κs =
     let targets = c .before .before .before .before .before .before .before .before .before .targets in
-    let pre = c .before .before .before .before .before .before .before .before .before .before .before .before .before .before .before .before .before .before .before .before .before .pre in
+    let pre = c .before .before .before .before .before .before .before .before .before .before .before .before
+    .before .before .before .before .before .before .before .before .before .pre in
     omega (arith, front-long _ (targets .last .1 .1 .0) (targets .result) (targets .ensures), targets .ensures .1, pre .6)
 
 -- Counts { source: k, target: m }
@@ -54,7 +56,8 @@ returns c =
     let targets = after-targets .targets in
     let keys-at = c .before .before .before .before .before .before .before .keys-at in
     let keys-at2 = c .before .before .keys-at2 in
-    let start = c .before .before .before .before .before .before .before .before .before .before .before .before .before .before .before .before .before .before .before .before .before .before .before .before in
+    let start = c .before .before .before .before .before .before .before .before .before .before .before .before
+    .before .before .before .before .before .before .before .before .before .before .before .before in
     let pre = start .pre in (
       both-markers (start .args .t .now) _ (pre .0) (pre .1) (after-targets .before .before .narrow .ensures ∙ pre .2)
           (sources .last .1 .0) (keys-at .last .1 .1 .0) (targets .last .1 .1 .0) (keys-at2 .last .1 .1 .0)
