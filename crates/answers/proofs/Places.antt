@@ -40,7 +40,9 @@ module _ (bad : Content → spec.Item → Content → Bool) (t os : List ℕ) (b
   blamed-on n b h e =
       ap (toward n best) (blamed-first bad t os before i h)
       ∙ toward-if n (bad before (item-at t (getD os i 0)) (items (placed-at t (drop (suc i) os)))) best (getD os i 0) (blamed bad (item-at t (getD os i 0) ∷ before) (placed-at t (drop (suc i) os)))
-      ∙ ap₂ (λ (c : Bool) (k : ℕ). toward n (cond c (lower best (getD os i 0)) best) (blamed bad (item-at t (getD os i 0) ∷ before) (placed-at t (drop k os)))) (sym e) (let z : suc i ≡ i + 1 = omega arith in z)
+      ∙ ap₂ (λ (c : Bool) (k : ℕ). toward n (cond c (lower best (getD os i 0)) best)
+      (blamed bad (item-at t (getD os i 0) ∷ before) (placed-at t (drop k os))))
+      (sym e) (let z : suc i ≡ i + 1 = omega arith in z)
 
   pub blamed-end : (n : ℕ) → length os ≤ i → toward n best (blamed bad before (placed-at t (drop i os))) ≡ refusal-at n best
   unfolding toward blamed placed-at first-of least

@@ -98,7 +98,10 @@ desk-prints : (input : List ℕ) → Valid (sent (job-of input))
 unfolding desk desk-job Valid sent calls unreadable printed job-of
 desk-prints input v =
     rw (desk-job, v)
-    (lines-are (length (take most-job input)) (take (table-length (take most-job input)) (take most-job input)) (table-length (take most-job input)) (drop (table-length (take most-job input)) (take most-job input)))
+    (lines-are (length (take most-job input))
+    (take (table-length (take most-job input)) (take most-job input))
+    (table-length (take most-job input))
+    (drop (table-length (take most-job input)) (take most-job input)))
 
 -- DEMAND 3, OF THE PROGRAM
 pub program-both-ends : Demand-3-of-the-program

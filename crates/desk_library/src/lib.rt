@@ -49,7 +49,8 @@ pub extern "C" fn xliff_desk_split(
     number: &mut u8,
     value: &mut usize,
 ) -> bool
-    ensures { λ r. ⌜ Tells (split (now (table .entry)) part «source_cut» «target_cut» «new_id» (length (now (out .entry)))) r (now (number .exit)) (now (value .exit)) (now (out .entry)) (now (out .exit)) ⌝ }
+    ensures { λ r. ⌜ Tells (split (now (table .entry)) part «source_cut» «target_cut» «new_id» (length (now (out .entry)))) r (now (number .exit))
+        (now (value .exit)) (now (out .entry)) (now (out .exit)) ⌝ }
 {
     let a = split::split(table, part, source_cut, target_cut, new_id, out);
     tell(a, number, value)
@@ -63,7 +64,8 @@ pub extern "C" fn xliff_desk_join(
     number: &mut u8,
     value: &mut usize,
 ) -> bool
-    ensures { λ r. ⌜ Tells (join (now (table .entry)) part (length (now (out .entry)))) r (now (number .exit)) (now (value .exit)) (now (out .entry)) (now (out .exit)) ⌝ }
+    ensures { λ r. ⌜ Tells (join (now (table .entry)) part (length (now (out .entry)))) r (now (number .exit)) (now (value .exit)) (now (out .entry))
+        (now (out .exit)) ⌝ }
 {
     let a = join::join(table, part, out);
     tell(a, number, value)
@@ -79,7 +81,8 @@ pub extern "C" fn xliff_desk_set_target(
     number: &mut u8,
     value: &mut usize,
 ) -> bool
-    ensures { λ r. ⌜ Tells (set-target (now (table .entry)) part state (now (content .entry)) (length (now (out .entry)))) r (now (number .exit)) (now (value .exit)) (now (out .entry)) (now (out .exit)) ⌝ }
+    ensures { λ r. ⌜ Tells (set-target (now (table .entry)) part state (now (content .entry)) (length (now (out .entry)))) r (now (number .exit))
+        (now (value .exit)) (now (out .entry)) (now (out .exit)) ⌝ }
 {
     let a = set_target::set_target(table, part, state, content, out);
     tell(a, number, value)
@@ -93,7 +96,8 @@ pub extern "C" fn xliff_desk_remove_target(
     number: &mut u8,
     value: &mut usize,
 ) -> bool
-    ensures { λ r. ⌜ Tells (remove-target (now (table .entry)) part (length (now (out .entry)))) r (now (number .exit)) (now (value .exit)) (now (out .entry)) (now (out .exit)) ⌝ }
+    ensures { λ r. ⌜ Tells (remove-target (now (table .entry)) part (length (now (out .entry)))) r (now (number .exit)) (now (value .exit))
+        (now (out .entry)) (now (out .exit)) ⌝ }
 {
     let a = remove_target::remove_target(table, part, out);
     tell(a, number, value)
@@ -109,7 +113,8 @@ pub extern "C" fn xliff_desk_rewrite(
     number: &mut u8,
     value: &mut usize,
 ) -> bool
-    ensures { λ r. ⌜ Tells (rewrite (now (table .entry)) side id form (length (now (out .entry)))) r (now (number .exit)) (now (value .exit)) (now (out .entry)) (now (out .exit)) ⌝ }
+    ensures { λ r. ⌜ Tells (rewrite (now (table .entry)) side id form (length (now (out .entry)))) r (now (number .exit)) (now (value .exit))
+        (now (out .entry)) (now (out .exit)) ⌝ }
 {
     let a = rewrite::rewrite(table, side, id, form, out);
     tell(a, number, value)

@@ -1,6 +1,6 @@
 -- The nearest other half by the keys is that by the items; texts and characters are no halves.
 use Prim.Native.Nat.{ℕ, zero, suc, _-_, _<_}
-use mathlib.Core.Path.{_≡_, refl, ap, ap₂, _∙_}
+use mathlib.Core.Path.{_≡_, refl, sym, ap, ap₂, _∙_}
 use mathlib.Core.Bool.{Bool, true, false, cond, true≢false}
 use mathlib.Core.List.{List, [], _∷_}
 use mathlib.Core.Option.{some}
@@ -11,7 +11,8 @@ use Rattle.xliff.specs.Rules.{nearest}
 use Rattle.xliff.specs.Item.{Item, Content, start, end, text, character, standalone, isolated, pair, annotation-start, annotation-end, class, half, other-half}
 use Rattle.xliff.proofs.lists.Tests.{and-false}
 use Rattle.places.specs.Markers.{item-at, is-marked, marked}
-use Rattle.views.specs.Views.{itemsAt}
+use Rattle.views.specs.declared.View.{View}
+use Rattle.views.specs.Views.{viewOf, itemsAt}
 use Rattle.keys.specs.Keys.{key, keysAt, otherKey}
 use Rattle.keys.proofs.KeyLaws.{other-key}
 use Rattle.halves.specs.Nearest.{others, half-before, half-after, marker-at}
@@ -27,6 +28,17 @@ unfolding keysAt itemsAt
 key-at t [] k h = absurd (omega arith)
 key-at t (o ∷ os) zero h = refl
 key-at t (o ∷ os) (suc k) h = key-at t os k (omega arith)
+
+-- an array that holds the keys: as long as the offsets, and what is read at an offset
+module _ (t os keys : List ℕ) (e : keys ≡ keysAt t os) where
+  pub keys-long : length keys ≡ length os
+  keys-long = ap length e ∙ length-keys t os
+
+  pub key-there : (i o : ℕ) → i < length os → o ≡ getD os i 0 → getD keys i 0 ≡ key (item-at t o)
+  key-there i o h f = ap (λ (l : List ℕ). getD l i 0) e ∙ key-at t os i h ∙ ap (λ (k : ℕ). key (item-at t k)) (sym f)
+
+pub view-there : (t os : List ℕ) (i o : ℕ) (v : View) → o ≡ getD os i 0 → v ≡ viewOf (item-at t o) → v ≡ viewOf (marker-at t os i)
+view-there t os i o v f e = e ∙ ap (λ (k : ℕ). viewOf (item-at t k)) f
 
 module _ (t os : List ℕ) (i : ℕ) (h : i < length os) where
   others-are : (k : ℕ) → k < length os → others (keysAt t os) i k ≡ other-half (marker-at t os i) (marker-at t os k)

@@ -64,7 +64,9 @@ down-to-next keys links heads i g h few e old =
       omega (arith, old .0),
       length-set links (i - 1) (getD heads g 0) ∙ old .1,
       length-set heads g (length keys - (i - 1)) ∙ old .2,
-      linked-from keys links heads (i - 1) l g (e .0) (omega (arith, few, old .1)) (e .1) (subst (λ (j : ℕ). LinkedFrom keys j links) z (old .3)) (subst (λ (j : ℕ). HeadedFrom keys j heads) z (old .4)),
+      linked-from keys links heads (i - 1) l g (e .0) (omega (arith, few, old .1)) (e .1)
+          (subst (λ (j : ℕ). LinkedFrom keys j links) z (old .3))
+          (subst (λ (j : ℕ). HeadedFrom keys j heads) z (old .4)),
       headed-from keys links heads (i - 1) l g (e .0) (old .2) (subst (λ (j : ℕ). HeadedFrom keys j heads) z (old .4)),
     )
 

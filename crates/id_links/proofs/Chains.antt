@@ -57,7 +57,12 @@ module _ (keys : List ℕ) (k : ℕ) where
 pub any-hit : (p : ℕ → Bool) (l : List ℕ) (j : ℕ) → 0 < j → j ≤ length l → p (getD l (j - 1) 0) ≡ true → any p (take j l) ≡ true
 unfolding any
 any-hit p l zero h m e = absurd (omega (arith, h))
-any-hit p l (suc j) h m e = ap (any p) (take-suc l j 0 (omega (arith, m))) ∙ any-append p (take j l) (getD l j 0 ∷ []) ∙ ap (λ (b : Bool). any p (take j l) || (b || false)) (subst (λ (i : ℕ). p (getD l i 0) ≡ true) (let z : suc j - 1 ≡ j = omega arith in z) e) ∙ or-true (any p (take j l))
+any-hit p l (suc j) h m e =
+    ap (any p) (take-suc l j 0 (omega (arith, m)))
+    ∙ any-append p (take j l) (getD l j 0 ∷ [])
+    ∙ ap (λ (b : Bool). any p (take j l) || (b || false))
+    (subst (λ (i : ℕ). p (getD l i 0) ≡ true) (let z : suc j - 1 ≡ j = omega arith in z) e)
+    ∙ or-true (any p (take j l))
 
 pub any-miss : (p : ℕ → Bool) (l : List ℕ) (j : ℕ) → j < length l → p (getD l j 0) ≡ false → any p (take (suc j) l) ≡ any p (take j l)
 unfolding any

@@ -1,5 +1,5 @@
 -- The ids met, linked by their groups: a clash is with one of the same group; one more id.
-use Prim.Native.Nat.{ℕ, suc, _+_, _-_, _/_, _%_, _<_}
+use Prim.Native.Nat.{ℕ, suc, _+_, _/_, _%_, _<_}
 use mathlib.Core.Path.{_≡_, refl, sym, ap, _∙_, subst}
 use mathlib.Core.Bool.{Bool, true, false, cond}
 use mathlib.Core.List.{List, [], _∷_, _++_}
@@ -11,7 +11,7 @@ use lib.Seq.{length-take-le, take-suc-set}
 use Rattle.id_links.specs.Nearest.{previous}
 use Rattle.id_links.specs.Links.{group, Linked, Headed}
 use Rattle.id_links.proofs.Chains.{linked-more, headed-more}
-use Rattle.id_links.proofs.Search.{Grouped}
+use Rattle.id_links.proofs.Search.{Searched, Grouped, search-start}
 use Rattle.ids.specs.Keys.{clashTest}
 use Rattle.ids.specs.KeyLinks.{Links, LinkedIf}
 use Rattle.ids.proofs.NameLaws.{take-set}
@@ -21,11 +21,19 @@ clash-grouped k g keys e j h =
     let n : k / 64 ≡ getD keys j 0 / 64 → ⊥ = λ z. eqb-false (group (getD keys j 0)) g h (ap (λ (x : ℕ). x % 256) (sym z) ∙ sym e) in
     rw (ne-eqb (k / 64) (getD keys j 0 / 64) n)
 
+-- the search begins at the last key of the group
+pub clash-start : (k : ℕ) (keys links heads : List ℕ) → Links keys links heads → (g j : ℕ) → g ≡ group k → j ≡ getD heads g 0
+    → Searched (clashTest k) keys (group k) j
+clash-start k keys links heads l g j e f =
+    subst (Searched (clashTest k) keys (group k)) (sym (f ∙ ap (λ (x : ℕ). getD heads x 0) e))
+    (search-start (clashTest k) keys (group k) heads (clash-grouped k (group k) keys refl) (l .3) (omega arith))
+
 pub links-none : Links [] (replicate 1024 0) (replicate 256 0)
 unfolding previous
 links-none = (refl, refl, (λ k l. absurd (omega (arith, l))), λ g l. getD-replicate 256 g 0 0 l)
 
-pub links-more : (keys links heads : List ℕ) (n k : ℕ) → n < length keys → length keys ≡ 1024 → Links (take n keys) links heads → (links′ heads′ : List ℕ) → LinkedIf links heads n k links′ heads′
+pub links-more : (keys links heads : List ℕ) (n k : ℕ) → n < length keys → length keys ≡ 1024 → Links (take n keys) links heads
+    → (links′ heads′ : List ℕ) → LinkedIf links heads n k links′ heads′
     → Links (take (cond (eqb k 0) n (n + 1)) (set keys n k)) links′ heads′
 links-more keys links heads n k h all old links′ heads′ new = by (eqb k 0) new
   where
@@ -35,7 +43,9 @@ links-more keys links heads n k h all old links′ heads′ new = by (eqb k 0) n
     more : take n keys ++ (k ∷ []) ≡ take (n + 1) (set keys n k)
     more = sym (take-suc-set keys n k h) ∙ ap (λ (j : ℕ). take j (set keys n k)) (let z : suc n ≡ n + 1 = omega arith in z)
 
-    by : (b : Bool) → (links′ ≡ cond b links (set links n (getD heads (group k) 0))) × (heads′ ≡ cond b heads (set heads (group k) (n + 1))) → Links (take (cond b n (n + 1)) (set keys n k)) links′ heads′
+    by : (b : Bool)
+        → (links′ ≡ cond b links (set links n (getD heads (group k) 0))) × (heads′ ≡ cond b heads (set heads (group k) (n + 1)))
+        → Links (take (cond b n (n + 1)) (set keys n k)) links′ heads′
     by true e = (
       ap length (e .0) ∙ old .0,
       ap length (e .1) ∙ old .1,

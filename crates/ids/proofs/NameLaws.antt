@@ -156,7 +156,9 @@ names-step t at rs g a l v o k e =
     ap (names-found (owner o) at) (v .step .split)
     ∙ ap₂ (λ (l : List Named) (p : Owner). l ++ names-found p (at + length (record-bytes (v .step .first))) (v .step .others))
     (ap (found-at of-source (λ q. of-target) head-name (λ q at. []) start-name no-name (owner o) at) (sym reads) ∙ sym (e rs a l part))
-    (ap (state-after of-source (λ q. of-target) head-name (λ q at. []) start-name no-name (owner o)) (sym (v .step .means)) ∙ owner-after o (body (drop at t)) (v .the) ∙ ap (λ (h : Glance). owner (ownerBy (h .head) o)) (sym (v .is)))
+    (ap (state-after of-source (λ q. of-target) head-name (λ q at. []) start-name no-name (owner o))
+    (sym (v .step .means)) ∙ owner-after o (body (drop at t)) (v .the)
+    ∙ ap (λ (h : Glance). owner (ownerBy (h .head) o)) (sym (v .is)))
     ∙ ap (λ (j : ℕ). named k at ++ names-found (owner (ownerBy (g .head) o)) (at + j) (v .step .others)) (sym (v .wide ∙ v .step .wide))
 
 pub names-end : (t : List ℕ) (at : ℕ) (rs : List encode.Record) (o : Owner) (met : List Named) → At t at rs → length t ≤ at → first-clash met (names-found o at rs) ≡ none

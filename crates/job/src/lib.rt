@@ -34,7 +34,8 @@ fn keep(table: &mut [u8], n: usize, a: Answer, result: &[u8]) -> usize
 // The request `r` at the head of `s`, on the table in the first `n` bytes of `table`: its line at the head of `out`, and in `table` the table that it leaves.
 fn answer_request(r: Request, s: &[u8], table: &mut [u8], n: usize, out: &mut [u8]) -> Step
     requires { ⌜ (n ≤ 8192) × (length (now table) ≡ 8192) × (48 ≤ length (now out)) × (request-size r ≤ length (now s)) ⌝ }
-    ensures { λ x. ⌜ Performed (call-of (now (s .entry)) r) (take n (now (table .entry))) (now (out .entry)) x (now (table .exit)) (now (out .exit)) ⌝ }
+    ensures { λ x. ⌜ Performed (call-of (now (s .entry)) r) (take n (now (table .entry))) (now (out .entry)) x (now (table .exit))
+        (now (out .exit)) ⌝ }
 {
     let mut result = [0u8; 8192];
     let a = operations::perform(&table[..n], r, s, &mut result);
@@ -49,7 +50,8 @@ fn answer_request(r: Request, s: &[u8], table: &mut [u8], n: usize, out: &mut [u
 // The last lines where the request at the offset `at` is unreadable.
 fn put_unreadable(out: &mut [u8], at: usize, t: &[u8]) -> usize
     requires { ⌜ (length (now t) ≤ 8192) × (16433 ≤ length (now out)) ⌝ }
-    ensures { λ r. ⌜ (r ≡ length (line (refused 2 at) ++ table-line (now (t .entry)))) × (now (out .exit) ≡ lead (line (refused 2 at) ++ table-line (now (t .entry))) (now (out .entry))) × (r ≤ 16433) ⌝ }
+    ensures { λ r. ⌜ (r ≡ length (line (refused 2 at) ++ table-line (now (t .entry))))
+        × (now (out .exit) ≡ lead (line (refused 2 at) ++ table-line (now (t .entry))) (now (out .entry))) × (r ≤ 16433) ⌝ }
 {
     let k = lines::put_line(out, Answer::Refused(2, at));
     k + lines::put_table(&mut out[k..], t)
@@ -59,7 +61,9 @@ fn put_unreadable(out: &mut [u8], at: usize, t: &[u8]) -> usize
 // No line is longer than 48 bytes and no request shorter than 4.
 fn put_requests(job: &[u8], n: usize, table: &mut [u8], out: &mut [u8]) -> usize
     requires { ⌜ (n ≤ length (now job)) × (n ≤ 8192) × (length (now job) ≤ 65535) × (length (now table) ≡ 8192) × (length (now out) ≡ 1048576) ⌝ }
-    ensures { λ r. ⌜ (r ≡ length (answer-requests (length (now (job .entry))) (take n (now (table .entry))) n (drop n (now (job .entry))))) × (now (out .exit) ≡ lead (answer-requests (length (now (job .entry))) (take n (now (table .entry))) n (drop n (now (job .entry)))) (now (out .entry))) ⌝ }
+    ensures { λ r. ⌜ (r ≡ length (answer-requests (length (now (job .entry))) (take n (now (table .entry))) n (drop n (now (job .entry)))))
+        × (now (out .exit) ≡ lead (answer-requests (length (now (job .entry))) (take n (now (table .entry))) n (drop n (now (job .entry))))
+        (now (out .entry))) ⌝ }
 {
     let mut at = n;
     let mut m = n;
@@ -83,7 +87,9 @@ fn put_requests(job: &[u8], n: usize, table: &mut [u8], out: &mut [u8]) -> usize
 // The requests of a job whose table, its first `n` bytes, is accepted.
 fn put_accepted(job: &[u8], n: usize, out: &mut [u8]) -> usize
     requires { ⌜ (n ≤ length (now job)) × (n ≤ 8192) × (length (now job) ≤ 65535) × (length (now out) ≡ 1048576) ⌝ }
-    ensures { λ r. ⌜ (r ≡ length (answer-requests (length (now (job .entry))) (take n (now (job .entry))) n (drop n (now (job .entry))))) × (now (out .exit) ≡ lead (answer-requests (length (now (job .entry))) (take n (now (job .entry))) n (drop n (now (job .entry)))) (now (out .entry))) ⌝ }
+    ensures { λ r. ⌜ (r ≡ length (answer-requests (length (now (job .entry))) (take n (now (job .entry))) n (drop n (now (job .entry)))))
+        × (now (out .exit) ≡ lead (answer-requests (length (now (job .entry))) (take n (now (job .entry))) n (drop n (now (job .entry))))
+        (now (out .entry))) ⌝ }
 {
     let mut table = [0u8; 8192];
     let m = writer::put(&mut table, &job[..n]);
@@ -91,7 +97,8 @@ fn put_accepted(job: &[u8], n: usize, out: &mut [u8]) -> usize
 }
 
 fn put_answers(job: &[u8], n: usize, a: Answer, out: &mut [u8]) -> usize
-    requires { ⌜ (n ≡ table-length (now job)) × (n ≤ length (now job)) × (length (now job) ≤ 65535) × (length (now out) ≡ 1048576) × (answer-meaning a ≡ check (take n (now job))) ⌝ }
+    requires { ⌜ (n ≡ table-length (now job)) × (n ≤ length (now job)) × (length (now job) ≤ 65535) × (length (now out) ≡ 1048576)
+        × (answer-meaning a ≡ check (take n (now job))) ⌝ }
     ensures { λ r. ⌜ (r ≡ length (desk-job (now (job .entry)))) × (now (out .exit) ≡ lead (desk-job (now (job .entry))) (now (out .entry))) ⌝ }
 {
     match a {

@@ -1,14 +1,16 @@
 -- The tests of rule 8 on views are the specification's.
-use Prim.Native.Nat.{ℕ, _+_, _-_, _<_}
+use Prim.Native.Nat.{ℕ, suc, _+_, _-_, _<_}
 use mathlib.Core.Path.{_≡_, refl, sym, ap, ap₂, _∙_}
 use mathlib.Core.Bool.{Bool, true, false, not, _&&_, _||_}
 use mathlib.Core.List.{List}
 use mathlib.Core.Option.{Option, some}
 use lib.Dec.{eqb}
-use lib.ListN.{length}
+use lib.ListN.{length, drop}
 use Rattle.xliff.specs.Bytes.{any, among}
 use Rattle.xliff.specs.Item.{Item, Content, class, half, is-fixed, fields, other-half}
 use Rattle.xliff.specs.Rules.{nearest, end-letter, ill-matched, ill-ended, fixed-but-free, is-F, unled, bad-8-target, bad-8-source}
+use Rattle.xliff.specs.Sequences.{items}
+use Rattle.places.specs.Markers.{placed-at}
 use Rattle.xliff.proofs.lists.Tests.{or-none, and-false}
 use Rattle.views.specs.declared.View.{View}
 use Rattle.views.specs.Views.{viewOf}
@@ -48,8 +50,18 @@ or-group false b c = refl
 pub eight-is : (source : Bool) (before : Content) (x : Item) (after : Content) (led : Bool) → led ≡ any is-F before
     → ill-end before x || badAlone source led (viewOf x) ≡ bad-8 source before x after
 unfolding bad-8-source bad-8-target
-eight-is true before x after led e = or-group (ill-end before x) (fixedFree (viewOf x)) (unledView led (viewOf x)) ∙ ap₂ (λ (f u : Bool). ill-end before x || f || u) (fixed-is x) (unled-is x before led e)
+eight-is true before x after led e =
+    or-group (ill-end before x) (fixedFree (viewOf x)) (unledView led (viewOf x))
+    ∙ ap₂ (λ (f u : Bool). ill-end before x || f || u) (fixed-is x) (unled-is x before led e)
 eight-is false before x after led e = ap (λ (f : Bool). ill-end before x || f) (or-none (fixedFree (viewOf x)) ∙ fixed-is x)
+
+-- the same of the code's two tests of the marker at an index
+pub eight-bad : (source : Bool) (t os : List ℕ) (i : ℕ) (v : View) (led ill alone : Bool) → v ≡ viewOf (marker-at t os i)
+    → led ≡ any is-F (earlier (marker-at t os) i) → ill ≡ ill-end (earlier (marker-at t os) i) (marker-at t os i) → alone ≡ badAlone source led v
+    → ill || alone ≡ bad-8 source (earlier (marker-at t os) i) (marker-at t os i) (items (placed-at t (drop (suc i) os)))
+eight-bad source t os i v led ill alone e f g h =
+    ap₂ _||_ g (h ∙ ap (badAlone source led) e)
+    ∙ eight-is source (earlier (marker-at t os) i) (marker-at t os i) (items (placed-at t (drop (suc i) os))) led f
 
 -- an end and its start
 matched-is : (x y : Item) → illMatched (viewOf y) (viewOf x) ≡ ill-ended x (some y)
@@ -69,11 +81,12 @@ module _ (t os : List ℕ) (i : ℕ) (v : View) (e : v ≡ viewOf (marker-at t o
     unfolding ill-ended found-at
     no-start z = rw (start-is, z, and-false)
 
-    pub with-start : 0 < r → eqb (v .class) 2 && eqb (v .half) 2 ≡ true
-        → illMatched (viewOf (marker-at t os (r - 1))) v ≡ ill-end (earlier (marker-at t os) i) (marker-at t os i)
+    pub with-start : 0 < r → eqb (v .class) 2 && eqb (v .half) 2 ≡ true → (y : View) (m : Bool) → y ≡ viewOf (marker-at t os (r - 1)) → m ≡ illMatched y v
+        → m ≡ ill-end (earlier (marker-at t os) i) (marker-at t os i)
     unfolding viewOf
-    with-start z h =
+    with-start z h y m q u =
         let k : eqb (class (marker-at t os i)) 2 && eqb (half (marker-at t os i)) 2 ≡ true = rw e at h in
-        ap (illMatched (viewOf (marker-at t os (r - 1)))) e
+        u ∙ ap (λ (x : View). illMatched x v) q
+        ∙ ap (illMatched (viewOf (marker-at t os (r - 1)))) e
         ∙ matched-is (marker-at t os i) (marker-at t os (r - 1))
         ∙ ap₂ (λ (b : Bool) (o : Option Item). b && ill-ended (marker-at t os i) o) (sym k) (sym (start-is ∙ found-some (marker-at t os) r z))

@@ -5,7 +5,7 @@ use views::View;
 ghost use mathlib.Core.Path.{_≡_};
 ghost use mathlib.Core.Bool.{true, false};
 ghost use mathlib.Core.List.{[]};
-ghost use Prim.Native.Nat.{_+_, _-_, _<_, _≤_};
+ghost use Prim.Native.Nat.{_-_, _<_};
 ghost use lib.ListN.{length};
 ghost use Rattle.answers.specs.Answers.{refusal-at, toward};
 ghost use Rattle.views.specs.Views.{viewOf};
@@ -15,9 +15,8 @@ ghost use Rattle.letters.specs.Eight.{bad-8, ill-end, endLetter, illMatc
 ghost use Rattle.xliff.specs.Sequences.{blamed};
 ghost use Rattle.xliff.specs.Rules.{fault-8};
 ghost use Rattle.xliff.specs.Parse.{unit};
-ghost use Rattle.places.specs.Passes.{Passes};
-ghost use Rattle.sequences.specs.Marks.{offsets};
-ghost use Rattle.places.specs.Markers.{placed-at, target-offsets};
+ghost use Rattle.sequences.specs.Markers.{Markers};
+ghost use Rattle.places.specs.Markers.{placed-at};
 
 // canReorder of the end whose start has `c`: "N for F and else equal".
 fn end_letter(c: u8) -> u8
@@ -95,7 +94,7 @@ fn eight_in(t: &[u8], source: bool, os: &[u16], keys: &[u32], start: Place) -> P
 
 // Rule 8, by the offsets and the keys of the markers of both sequences.
 pub fn rule_8(t: &[u8], src: &[u16], skeys: &[u32], tgt: &[u16], tkeys: &[u32]) -> Place
-    requires { ⌜ Passes (now t) × (now src ≡ offsets true 0 (now t)) × (now skeys ≡ keysAt (now t) (now src)) × (now tgt ≡ target-offsets (now t) 0 (length (unit (now t) .parts))) × (now tkeys ≡ keysAt (now t) (now tgt)) × (length (now src) ≤ 1024) × (length (now tgt) ≤ 1024) ⌝ }
+    requires { ⌜ Markers (now t) (now src) (now skeys) (now tgt) (now tkeys) ⌝ }
     ensures { λ r. ⌜ refusal-at 8 r ≡ fault-8 (unit (now (t .entry)) .parts) ⌝ }
 {
     let source = eight_in(t, true, src, skeys, Place::Nowhere);

@@ -54,9 +54,21 @@ pub hex-next : (t out xs ys zs : List ℕ) (i at k h l : ℕ) → i < length t �
 unfolding hex gather hex-byte
 hex-next t out xs ys zs i at k h l p e f u v m y z =
     let first = y ∙ over-lead out (gather hex-byte (take i t)) (h ∷ []) xs at f e in
-    let second = z ∙ over-lead out (gather hex-byte (take i t) ++ (h ∷ [])) (l ∷ []) ys k first (let q : k ≡ length (gather hex-byte (take i t) ++ (h ∷ [])) = omega (arith, m, e, length-append (gather hex-byte (take i t)) (h ∷ [])) in q) in
-    let whole = more in
-    (omega (arith, m, e, ap length whole, length-append (gather hex-byte (take i t)) (h ∷ []), length-append (gather hex-byte (take i t) ++ (h ∷ [])) (l ∷ [])), second ∙ ap (λ (w : List ℕ). lead w out) whole)
+    let second
+    = z ∙ over-lead out (gather hex-byte (take i t) ++ (h ∷ [])) (l ∷ []) ys k first
+    (let q : k ≡ length (gather hex-byte (take i t) ++ (h ∷ []))
+    = omega (arith, m, e, length-append (gather hex-byte (take i t)) (h ∷ [])) in q) in
+    let whole = more in (
+      omega (
+        arith,
+        m,
+        e,
+        ap length whole,
+        length-append (gather hex-byte (take i t)) (h ∷ []),
+        length-append (gather hex-byte (take i t) ++ (h ∷ [])) (l ∷ []),
+      ),
+      second ∙ ap (λ (w : List ℕ). lead w out) whole,
+    )
   where
     more : gather hex-byte (take i t) ++ (h ∷ []) ++ (l ∷ []) ≡ gather hex-byte (take (i + 1) t)
     more =
@@ -80,8 +92,19 @@ pub refused-returns : (out : List ℕ) (n at : ℕ) (last : List ℕ) (c d r : �
 unfolding line
 refused-returns out n at last c d r e f g h k =
     let w : (78 ∷ 79 ∷ 32 ∷ []) ++ decimal n ++ (32 ∷ []) ++ decimal at ++ (10 ∷ []) ≡ 78 ∷ 79 ∷ 32 ∷ (decimal n ++ (32 ∷ (decimal at ++ (10 ∷ []))))
-    = ap (λ (l : List ℕ). 78 ∷ 79 ∷ 32 ∷ l) (append-assoc (decimal n ++ (32 ∷ [])) (decimal at) (10 ∷ []) ∙ append-assoc (decimal n) (32 ∷ []) (decimal at ++ (10 ∷ []))) in
-    (omega (arith, e, f, g, ap length w, length-append ((78 ∷ 79 ∷ 32 ∷ []) ++ decimal n ++ (32 ∷ []) ++ decimal at) (10 ∷ []), length-append ((78 ∷ 79 ∷ 32 ∷ []) ++ decimal n ++ (32 ∷ [])) (decimal at)), h ∙ ap (λ (l : List ℕ). lead l out) w, k)
+    = ap (λ (l : List ℕ). 78 ∷ 79 ∷ 32 ∷ l) (append-assoc (decimal n ++ (32 ∷ [])) (decimal at) (10 ∷ []) ∙ append-assoc (decimal n) (32 ∷ []) (decimal at ++ (10 ∷ []))) in (
+      omega (
+        arith,
+        e,
+        f,
+        g,
+        ap length w,
+        length-append ((78 ∷ 79 ∷ 32 ∷ []) ++ decimal n ++ (32 ∷ []) ++ decimal at) (10 ∷ []),
+        length-append ((78 ∷ 79 ∷ 32 ∷ []) ++ decimal n ++ (32 ∷ [])) (decimal at),
+      ),
+      h ∙ ap (λ (l : List ℕ). lead l out) w,
+      k,
+    )
 
 pub table-line-length : (t : List ℕ) → length (table-line t) ≡ 2 * length t + 1
 unfolding table-line hex

@@ -110,7 +110,9 @@ parts-blamed before (l ∷ ls) =
     ap (blamed lone-bar before) (part-is l qs)
     ∙ content-blamed before (l .at) (placed-source l) (of-the-goal (order-at l) (l .part .target) ++ qs) (goal-bar (order-at l) (l .part .target) qs (bar-first ls))
     ∙ ap (λ (r : List ℕ). blamed lone-P [] (placed-source l) ++ r)
-    (goal-blamed (reverseAux (items (markers (placed-source l))) (text 0 ∷ before)) (order-at l) (l .part .target) qs (gather (blamed lone-P []) (placed-contents ls)) (bar-first ls) (λ b. parts-blamed b ls))
+    (goal-blamed (reverseAux (items (markers (placed-source l))) (text 0 ∷ before)) (order-at l) (l .part .target) qs
+    (gather (blamed lone-P []) (placed-contents ls)) (bar-first ls)
+    (λ b. parts-blamed b ls))
 
 -- The list is what is read at the offsets of heads and markers
 module _ (t : List ℕ) where
@@ -126,7 +128,9 @@ module _ (t : List ℕ) where
   one-back inside at (inline x) e = by (inside && not (eqb (class x) 0))
     where
       by : (b : Bool)
-          → map {B = Placed} (λ o. record { item = item-in (read (drop o t)); at = o }) (map (λ (p : Placed). p .at) (cond b (record { item = x; at = at } ∷ []) [])) ≡ cond b (record { item = x; at = at } ∷ []) []
+          → map {B = Placed} (λ o. record { item = item-in (read (drop o t)); at = o })
+          (map (λ (p : Placed). p .at) (cond b (record { item = x; at = at } ∷ []) []))
+          ≡ cond b (record { item = x; at = at } ∷ []) []
       by true = ap {B = List Placed} (λ (r : Record). record { item = item-in r; at = at } ∷ []) e
       by false = refl
   one-back inside at ill-text e = refl

@@ -1,12 +1,12 @@
 -- The orders of targets, one record further.
-use Prim.Native.Nat.{ℕ, zero, suc, _+_, _-_, _≤_, _<_}
+use Prim.Native.Nat.{ℕ, zero, suc, _+_, _≤_, _<_}
 use mathlib.Core.Path.{_≡_, refl, sym, _∙_, ap}
 use mathlib.Core.Bool.{Bool, true, false, _||_, cond}
 use mathlib.Core.List.{List, [], _∷_}
 use mathlib.Core.Option.{none}
 use native.Mathlib.Omega.{arith}
 use borrow.Author.Tests.{eqb-true, eqb-false, eq-eqb, ltb-false}
-use lib.ListN.{length, drop, getD, set, replicate}
+use lib.ListN.{length, drop, getD, set, replicate, length-set}
 use lib.Seq.{getD-set-same, getD-set-other}
 use lib.Dec.{ltb, eqb}
 use Rattle.xliff.specs.Bytes.{among}
@@ -15,8 +15,10 @@ use Rattle.xliff.specs.Encode as encode
 use Rattle.xliff.specs.Encode.{target-head, record-bytes, unit-records}
 use Rattle.xliff.specs.Parse.{unit}
 use Rattle.xliff.specs.Rules.{bad-order, fault-5}
+use Rattle.xliff.proofs.lists.Tests.{or-left, or-right}
 use Rattle.places.specs.Offsets.{At}
-use Rattle.places.proofs.Places.{at-end}
+use Rattle.places.specs.Passes.{Passes}
+use Rattle.places.proofs.Places.{at-start, at-end}
 use Rattle.places.specs.Found.{found, found-at, state-after, orders-found, first-bad-in}
 use Rattle.places.proofs.Found.{rule-5-found}
 use Rattle.table.specs.Meaning.{meaning, width, body}
@@ -125,3 +127,63 @@ marked-none q h = rw (zeros 65 q)
 
 pub orders-start : (t : List ℕ) (n : ℕ) → n ≡ length (unit t .parts) → fault-5 (unit t .parts) ≡ first-bad-in n [] (orders-found 0 (unit-records (unit t)))
 orders-start t n e = rule-5-found (unit t) ∙ ap (λ (k : ℕ). first-bad-in k [] (orders-found 0 (unit-records (unit t)))) (sym e)
+
+-- Where rule 5 stands before an offset: the records from there on, the orders used before it and the array that holds them
+pub record Ordering (t : List ℕ) (n : ℕ) (used : List ℕ) (at : ℕ) : Type 0 where
+  pub records : List encode.Record
+  pub orders : List ℕ
+  pub here : At t at records
+  pub rest : fault-5 (unit t .parts) ≡ first-bad-in n orders (orders-found at records)
+  pub marked : Marked used orders
+  pub sized : length used ≡ 65
+
+pub ordering-start : (t : List ℕ) (n : ℕ) → Passes t → n ≡ length (unit t .parts) → Ordering t n (replicate {A = ℕ} 65 0) 0
+ordering-start t n p e =
+    record { records = unit-records (unit t); orders = []; here = at-start t p; rest = orders-start t n e; marked = marked-none; sized = refl }
+
+pub ordering-end : {t : List ℕ} {n : ℕ} {used : List ℕ} {at : ℕ} → Ordering t n used at → length t ≤ at → none ≡ fault-5 (unit t .parts)
+ordering-end {t} {n} {used} {at} o l = sym (o .rest ∙ orders-end t at (o .records) n (o .orders) (o .here) l)
+
+-- one record further
+module _ {t : List ℕ} {n : ℕ} {used : List ℕ} {at : ℕ} (o : Ordering t n used at) (g : Glance) (v : Walked t at (o .records) g) where
+  pub ordering-skips : orderBy g ≡ Not → Ordering t n used (at + g .width)
+  ordering-skips e =
+      record {
+        records = v .step .others;
+        orders = o .orders;
+        here = v .rest;
+        rest = o .rest ∙ orders-skip t at (o .records) (Good (v .the) (v .size)) (v .step) n (o .orders) (order-walked t at (o .records) g v ∙ e)
+            ∙ ap (λ (k : ℕ). first-bad-in n (o .orders) (orders-found (at + k) (v .step .others))) (sym (v .wide));
+        marked = o .marked;
+        sized = o .sized;
+      }
+
+  -- a target's order q: the code's test of it, and what follows of it
+  module _ (few : n ≤ 64) (q : ℕ) (e : orderBy g ≡ Is q) where
+    abbrev is-bad : Bool
+    is-bad = eqb q 0 || (ltb n q || eqb (getD used q 0) 1)
+
+    judged : (b : Bool) → is-bad ≡ b → fault-5 (unit t .parts) ≡ cond b (refusal 5 at) (first-bad-in n (q ∷ o .orders) (orders-found (at + g .width) (v .step .others)))
+    judged b h =
+        o .rest ∙ orders-at t at (o .records) (Good (v .the) (v .size)) (v .step) n (o .orders) q (order-walked t at (o .records) g v ∙ e)
+        ∙ ap (λ (x : Bool). cond x (refusal 5 at) (first-bad-in n (q ∷ o .orders) (orders-found (at + v .size) (v .step .others))))
+        (sym (bad-same n q used (o .orders) few (o .marked)) ∙ h)
+        ∙ ap (λ (k : ℕ). cond b (refusal 5 at) (first-bad-in n (q ∷ o .orders) (orders-found (at + k) (v .step .others)))) (sym (v .wide))
+
+    pub ordering-refuses : is-bad ≡ true → refusal 5 at ≡ fault-5 (unit t .parts)
+    ordering-refuses h = sym (judged true h)
+
+    module _ (h : is-bad ≡ false) where
+      pub order-within : q < 65
+      order-within = omega (arith, ltb-false n q (or-left (ltb n q) _ (or-right (eqb q 0) _ h)))
+
+      pub ordering-uses : Ordering t n (set used q 1) (at + g .width)
+      ordering-uses =
+          record {
+            records = v .step .others;
+            orders = q ∷ o .orders;
+            here = v .rest;
+            rest = judged false h;
+            marked = marked-more used (o .orders) q (o .marked) (omega (arith, order-within, o .sized));
+            sized = length-set used q 1 ∙ o .sized;
+          }

@@ -20,8 +20,8 @@ use Rattle.halves.specs.Nearest.{half-before, half-after, run, marker-at}
 use Rattle.id_links.specs.Nearest.{next, previous}
 use Rattle.id_links.proofs.Scans.{next-same, next-low}
 use Rattle.halves.proofs.Runs.{items-run, run-split, any-next, any-previous, enclosed-some, enclosed-none}
-use Rattle.halves.proofs.Others.{key-at, before-is, after-is, not-own}
-use Rattle.overlap.specs.Nine.{strayAt, pairStart, closedStart}
+use Rattle.halves.proofs.Others.{key-at, keys-long, before-is, after-is, not-own}
+use Rattle.overlap.specs.Nine.{Halves, strayKey, strayAt, pairStart, closedStart}
 
 module _ (t os : List ℕ) where
   -- the other half of a marker that stands in a run stands there too if the nearest before or the nearest after does
@@ -121,3 +121,14 @@ module _ (t os : List ℕ) (i : ℕ) (h : i < length os) where
     pub with-end : closedStart v ≡ true → (e r : ℕ) → e ≡ half-after (keysAt t os) i → e < length os
         → r ≡ next (strayAt (keysAt t os) (i + 1) e) (i + 1) (e - (i + 1)) → ltb r e ≡ test
     with-end c e r g l s = sym (bad-is before ∙ ap₂ _&&_ (ap closedStart (sym q) ∙ c) (stray-inside e r g l s))
+
+-- arrays that hold the nearest other halves: the end of a start, and the test of one marker
+pub end-there : (t os keys starts ends : List ℕ) → keys ≡ keysAt t os → Halves keys starts ends → (i e : ℕ) → i < length os → e ≡ getD ends i 0
+    → e ≡ half-after (keysAt t os) i
+end-there t os keys starts ends k h i e l f =
+    f ∙ h .1 i (omega (arith, keys-long t os keys k)) ∙ ap (λ (ks : List ℕ). half-after ks i) k
+
+pub stray-there : (keys starts ends : List ℕ) (first end j : ℕ) → Halves keys starts ends → j < length keys → (a b : ℕ) (m : Bool)
+    → a ≡ getD starts j 0 → b ≡ getD ends j 0 → m ≡ strayKey (getD keys j 0) first end a b → m ≡ strayAt keys first end j
+stray-there keys starts ends first end j h l a b m e f g =
+    g ∙ ap₂ (strayKey (getD keys j 0) first end) (e ∙ h .0 j l) (f ∙ h .1 j l)

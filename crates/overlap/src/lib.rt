@@ -16,9 +16,8 @@ ghost use Rattle.overlap.specs.Nine.{Filled, Halves, strayKey, strayAt, 
 ghost use Rattle.xliff.specs.Sequences.{blamed, items};
 ghost use Rattle.xliff.specs.Rules.{bad-9, fault-9};
 ghost use Rattle.xliff.specs.Parse.{unit};
-ghost use Rattle.places.specs.Passes.{Passes};
-ghost use Rattle.sequences.specs.Marks.{offsets};
-ghost use Rattle.places.specs.Markers.{placed-at, target-offsets};
+ghost use Rattle.sequences.specs.Markers.{Markers};
+ghost use Rattle.places.specs.Markers.{placed-at};
 
 // The nearest other half before each marker, of keys that are linked to those before them.
 // Linear in the markers where few of them are of one group, quadratic where all are.
@@ -114,8 +113,10 @@ fn encloses_stray(
     ends: &[u16],
     i: usize,
 ) -> bool
-    requires { ⌜ (now keys ≡ keysAt (now t) (now os)) × (length (now os) ≤ 1024) × Halves (now keys) (now starts) (now ends) × (length (now starts) ≡ 1024) × (length (now ends) ≡ 1024) × (i < length (now os)) ⌝ }
-    ensures { λ r. ⌜ r ≡ bad-9 (earlier (marker-at (now (t .entry)) (now (os .entry))) i) (marker-at (now (t .entry)) (now (os .entry)) i) (items (placed-at (now (t .entry)) (drop (suc i) (now (os .entry))))) ⌝ }
+    requires { ⌜ (now keys ≡ keysAt (now t) (now os)) × (length (now os) ≤ 1024) × Halves (now keys) (now starts) (now ends)
+        × (length (now starts) ≡ 1024) × (length (now ends) ≡ 1024) × (i < length (now os)) ⌝ }
+    ensures { λ r. ⌜ r ≡ bad-9 (earlier (marker-at (now (t .entry)) (now (os .entry))) i) (marker-at (now (t .entry)) (now (os .entry)) i)
+        (items (placed-at (now (t .entry)) (drop (suc i) (now (os .entry))))) ⌝ }
 {
     if !is_pair_start(keys[i]) {
         return false;
@@ -140,7 +141,8 @@ fn overlapping(
     ends: &[u16],
     start: Place,
 ) -> Place
-    requires { ⌜ (now keys ≡ keysAt (now t) (now os)) × (length (now os) ≤ 1024) × Halves (now keys) (now starts) (now ends) × (length (now starts) ≡ 1024) × (length (now ends) ≡ 1024) ⌝ }
+    requires { ⌜ (now keys ≡ keysAt (now t) (now os)) × (length (now os) ≤ 1024) × Halves (now keys) (now starts) (now ends)
+        × (length (now starts) ≡ 1024) × (length (now ends) ≡ 1024) ⌝ }
     ensures { λ r. ⌜ refusal-at 9 r ≡ toward 9 start (blamed bad-9 [] (placed-at (now (t .entry)) (now (os .entry)))) ⌝ }
 {
     let mut best = start;
@@ -204,7 +206,7 @@ fn nine_by_halves(t: &[u8], os: &[u16], keys: &[u32], start: Place) -> Place
 
 // Rule 9, by the offsets and the keys of the markers of both sequences.
 pub fn rule_9(t: &[u8], src: &[u16], skeys: &[u32], tgt: &[u16], tkeys: &[u32]) -> Place
-    requires { ⌜ Passes (now t) × (now src ≡ offsets true 0 (now t)) × (now skeys ≡ keysAt (now t) (now src)) × (now tgt ≡ target-offsets (now t) 0 (length (unit (now t) .parts))) × (now tkeys ≡ keysAt (now t) (now tgt)) × (length (now src) ≤ 1024) × (length (now tgt) ≤ 1024) ⌝ }
+    requires { ⌜ Markers (now t) (now src) (now skeys) (now tgt) (now tkeys) ⌝ }
     ensures { λ r. ⌜ refusal-at 9 r ≡ fault-9 (unit (now (t .entry)) .parts) ⌝ }
 {
     nine_in(t, tgt, tkeys, nine_in(t, src, skeys, Place::Nowhere))

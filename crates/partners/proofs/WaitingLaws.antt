@@ -219,7 +219,11 @@ module _ (x : Item) where
     waits-unmarked seen y ys k ih =
         ap₂ (λ (b a : Content). waitsFor (key x) (map key b ++ before) (map key a ++ after)) (sym (marked-off y seen k)) (marked-off y ys k)
         ∙ ih
-        ∙ ap (λ (h : ℕ). cond (targeted after) false (any (other-half x) (cond (not (eqb h 0) && not (lone-P seen y ys || lone-S (seen ++ earlier) y (ys ++ later))) (y ∷ []) [] ++ with-partner earlier later (y ∷ seen) ys)) || Rest (y ∷ seen) ys)
+        ∙ ap (λ (h : ℕ). cond (targeted after) false
+        (any (other-half x)
+        (cond (not (eqb h 0) && not (lone-P seen y ys || lone-S (seen ++ earlier) y (ys ++ later))) (y ∷ []) []
+        ++ with-partner earlier later (y ∷ seen) ys))
+        || Rest (y ∷ seen) ys)
         (sym (no-half y k))
 
     content-waits : (seen xs : Content) → Waits seen xs

@@ -4,16 +4,14 @@ use answers::Place;
 ghost use mathlib.Core.Path.{_≡_};
 ghost use mathlib.Core.Bool.{true, false};
 ghost use mathlib.Core.List.{[], reverse};
-ghost use Prim.Native.Nat.{_+_, _-_, _/_, _<_, _≤_};
+ghost use Prim.Native.Nat.{_+_, _/_, _<_, _≤_};
 ghost use lib.ListN.{length, take, drop, getD};
 ghost use Rattle.xliff.specs.Bytes.{any, gather};
 ghost use Rattle.xliff.specs.Parse.{unit};
 ghost use Rattle.xliff.specs.Sequences.{blamed, first-of, placed-contents, located};
 ghost use Rattle.xliff.specs.Rules.{lone-P, fault-7};
 ghost use Rattle.places.specs.Passes.{Passes};
-ghost use Rattle.places.specs.Markers.{target-offsets};
-ghost use Rattle.sequences.specs.Marks.{offsets};
-ghost use Rattle.keys.specs.Keys.{keysAt};
+ghost use Rattle.sequences.specs.Markers.{Markers};
 ghost use Rattle.answers.specs.Answers.{refusal-at, toward};
 ghost use Rattle.contents.specs.Contents.{targeted, barred, barKeys};
 ghost use Rattle.partners.specs.Partners.{partnerSKey, loneSKey, halfOfId, onlyHalf, someKey, waits, waitsFor, loneInTarget, blamedKeys};
@@ -232,7 +230,7 @@ fn lone_in_targets(t: &[u8], os: &[u16], ks: &[u32], start: Place) -> Place
 
 // Rule 7, by the offsets and keys of the markers of both sequences. Quadratic in the number of markers.
 pub fn rule_7(t: &[u8], src: &[u16], skeys: &[u32], tgt: &[u16], tkeys: &[u32]) -> Place
-    requires { ⌜ Passes (now t) × (now src ≡ offsets true 0 (now t)) × (now skeys ≡ keysAt (now t) (now src)) × (now tgt ≡ target-offsets (now t) 0 (length (unit (now t) .parts))) × (now tkeys ≡ keysAt (now t) (now tgt)) × (length (now src) ≤ 1024) × (length (now tgt) ≤ 1024) × (length (now t) ≤ 8192) ⌝ }
+    requires { ⌜ Markers (now t) (now src) (now skeys) (now tgt) (now tkeys) ⌝ }
     ensures { λ r. ⌜ refusal-at 7 r ≡ fault-7 (unit (now (t .entry)) .parts) ⌝ }
 {
     lone_in_targets(

@@ -91,7 +91,9 @@ total-step cur at q (suc n) r rs =
     let e = ap (λ (b : Bool). length (marks-found false (suc q) b (at + length (record-bytes r)) rs)) s in
     omega (
       arith,
-      length-append A (marks-found false (suc q) (state-after false (λ k. not false && eqb (suc q) k) (λ h at. []) (λ k at. []) marker no-marker (eqb (suc q) cur) r) (at + length (record-bytes r)) rs),
+      length-append A (marks-found false (suc q)
+          (state-after false (λ k. not false && eqb (suc q) k) (λ h at. []) (λ k at. []) marker no-marker (eqb (suc q) cur) r)
+          (at + length (record-bytes r)) rs),
       e,
       at-few cur at q r,
       total-step cur at (suc q) n r rs,

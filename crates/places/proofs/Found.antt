@@ -53,13 +53,16 @@ module _ {S B : Type 0} (part-state : S) (target-state : ℕ → S) (on-head : H
   found-inner s at (text-inner {cs} {rs} h) qs =
       found-inner s (at + length (record-bytes (text-run cs))) h qs
       ∙ ap (λ (k : ℕ). gather (of-entry (on-item s) (no-text s)) (placed (at + length (record-bytes (text-run cs))) rs) ++ walk s k qs)
-      (let z : at + length (record-bytes (text-run cs)) + length (spell rs) ≡ at + length (record-bytes (text-run cs) ++ spell rs) = omega (arith, length-append (record-bytes (text-run cs)) (spell rs)) in z)
+      (let z : at + length (record-bytes (text-run cs)) + length (spell rs) ≡ at + length (record-bytes (text-run cs) ++ spell rs)
+      = omega (arith, length-append (record-bytes (text-run cs)) (spell rs)) in z)
   found-inner s at (inline-inner {x} {rs} h) qs =
       ap (λ (l : List B). on-item s (record { item = x; at = at }) ++ l)
       (found-inner s (at + length (record-bytes (inline x))) h qs
       ∙ ap (λ (k : ℕ). gather (of-entry (on-item s) (no-text s)) (placed (at + length (record-bytes (inline x))) rs) ++ walk s k qs)
       (let z : at + length (record-bytes (inline x)) + length (spell rs) ≡ at + length (record-bytes (inline x) ++ spell rs) = omega (arith, length-append (record-bytes (inline x)) (spell rs)) in z))
-      ∙ sym (append-assoc (on-item s (record { item = x; at = at })) (gather (of-entry (on-item s) (no-text s)) (placed (at + length (record-bytes (inline x))) rs)) (walk s (at + length (record-bytes (inline x) ++ spell rs)) qs))
+      ∙ sym (append-assoc (on-item s (record { item = x; at = at }))
+      (gather (of-entry (on-item s) (no-text s)) (placed (at + length (record-bytes (inline x))) rs))
+      (walk s (at + length (record-bytes (inline x) ++ spell rs)) qs))
 
   -- over a content
   found-content : (s : S) (at : ℕ) (xs : Content) (qs : List Record)
@@ -187,7 +190,9 @@ pub rule-5-found : (u : XliffUnit) → fault-5 (u .parts) ≡ first-bad-in (leng
 unfolding fault-5
 rule-5-found u =
     sym (bad-order-is (length (u .parts)) [] (located (u .parts)))
-    ∙ ap (first-bad-in (length (u .parts)) []) (sym (gather-same _ _ part-order-is (located (u .parts))) ∙ sym (found-unit {S = Unit {0}} tt (λ q. tt) (λ h at. []) one-order (λ s p. []) (λ s c at. refl) tt u))
+    ∙ ap (first-bad-in (length (u .parts)) [])
+    (sym (gather-same _ _ part-order-is (located (u .parts)))
+    ∙ sym (found-unit {S = Unit {0}} tt (λ q. tt) (λ h at. []) one-order (λ s p. []) (λ s c at. refl) tt u))
 
 goal-names : (at : ℕ) (g : Target) → of-goal of-source (λ q. of-target) head-name (λ q at. []) start-name no-name at g ≡ gather (start-name of-target) (placed-target (at + 4) g)
 unfolding of-goal placed-target gather

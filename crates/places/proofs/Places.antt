@@ -162,7 +162,9 @@ module _ {B : Type 0} (f : Placed → List B) (no-text : (c at : ℕ) → f (rec
 
   one-more : (at : ℕ) (ys : Content) (x : Item) → Found at (content-records (ys ++ (x ∷ []))) ≡ Found at (content-records ys) ++ f (record { item = x; at = at + length (content-bytes ys) })
   unfolding is-text
-  one-more at ys (text c) = sym (same-grown at (grown ys c)) ∙ sym (append-nil (Found at (content-records ys))) ∙ ap (λ (l : List B). Found at (content-records ys) ++ l) (sym (no-text c (at + length (content-bytes ys))))
+  one-more at ys (text c) =
+      sym (same-grown at (grown ys c)) ∙ sym (append-nil (Found at (content-records ys)))
+      ∙ ap (λ (l : List B). Found at (content-records ys) ++ l) (sym (no-text c (at + length (content-bytes ys))))
   one-more at ys (character c) = more at ys (character c) refl
   one-more at ys (standalone g) = more at ys (standalone g) refl
   one-more at ys (isolated h g) = more at ys (isolated h g) refl

@@ -95,7 +95,12 @@ module _ (x : Item) (m : is-marked x ≡ true) where
   ten-marked : (source before after : Content) → bad-10-target source before x after ≡ bad-10-target (marked source) before x after
   unfolding bad-10-target unlike-source bad-copy
   ten-marked source before after =
-      rw (any-marked (of-other-class x) other-marked source, any-marked (starts-id (id-of x)) (starts-marked (id-of x)) source, any-marked (agrees x) agrees-marked source, any-marked (may-copy x) copy-marked source)
+      rw (
+        any-marked (of-other-class x) other-marked source,
+        any-marked (starts-id (id-of x)) (starts-marked (id-of x)) source,
+        any-marked (agrees x) agrees-marked source,
+        any-marked (may-copy x) copy-marked source,
+      )
 
   ten-anew : (source b b′ a a′ : Content) → bad-10-target source b x a ≡ bad-10-target source b′ x a′
   unfolding bad-10-target

@@ -75,14 +75,20 @@ request-remove [] h c d e f = absurd (omega arith)
 request-remove (a ∷ []) h c d e f = absurd (omega arith)
 request-remove (a ∷ b ∷ s) h c d e f = rw (request, c, d, e, f) refl
 
-pub request-rewrite : (s : List ℕ) → 2 ≤ length s → marked s (83 ∷ 80 ∷ []) ≡ false → marked s (74 ∷ 78 ∷ []) ≡ false → marked s (83 ∷ 84 ∷ []) ≡ false → marked s (82 ∷ 84 ∷ []) ≡ false → marked s (82 ∷ 87 ∷ []) ≡ true
+pub request-rewrite : (s : List ℕ) → 2 ≤ length s
+    → marked s (83 ∷ 80 ∷ []) ≡ false → marked s (74 ∷ 78 ∷ []) ≡ false
+    → marked s (83 ∷ 84 ∷ []) ≡ false → marked s (82 ∷ 84 ∷ []) ≡ false
+    → marked s (82 ∷ 87 ∷ []) ≡ true
     → asked s 6 (RW (getD s 2 0) (two-at s 3) (getD s 5 0) lent) ≡ request s
 unfolding request enough is
 request-rewrite [] h c d e f g = absurd (omega arith)
 request-rewrite (a ∷ []) h c d e f g = absurd (omega arith)
 request-rewrite (a ∷ b ∷ s) h c d e f g = rw (request, c, d, e, f, g) refl
 
-pub request-other : (s : List ℕ) → 2 ≤ length s → marked s (83 ∷ 80 ∷ []) ≡ false → marked s (74 ∷ 78 ∷ []) ≡ false → marked s (83 ∷ 84 ∷ []) ≡ false → marked s (82 ∷ 84 ∷ []) ≡ false → marked s (82 ∷ 87 ∷ []) ≡ false
+pub request-other : (s : List ℕ) → 2 ≤ length s
+    → marked s (83 ∷ 80 ∷ []) ≡ false → marked s (74 ∷ 78 ∷ []) ≡ false
+    → marked s (83 ∷ 84 ∷ []) ≡ false → marked s (82 ∷ 84 ∷ []) ≡ false
+    → marked s (82 ∷ 87 ∷ []) ≡ false
     → none ≡ request s
 unfolding request enough is
 request-other [] h c d e f g = absurd (omega arith)

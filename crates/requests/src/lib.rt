@@ -39,7 +39,8 @@ pub fn size_of(r: Request) -> usize
 
 // SP part, cut, cut, id
 fn split_of(s: &[u8]) -> Asked
-    ensures { λ r. ⌜ Asks (now (s .entry)) r (asked (now (s .entry)) 10 (SP (two-at (now (s .entry)) 2) (two-at (now (s .entry)) 4) (two-at (now (s .entry)) 6) (two-at (now (s .entry)) 8) lent)) ⌝ }
+    ensures { λ r. ⌜ Asks (now (s .entry)) r (asked (now (s .entry)) 10
+        (SP (two-at (now (s .entry)) 2) (two-at (now (s .entry)) 4) (two-at (now (s .entry)) 6) (two-at (now (s .entry)) 8) lent)) ⌝ }
 {
     if s.len() < 10 {
         return Asked::Unreadable;
@@ -63,7 +64,9 @@ fn join_of(s: &[u8]) -> Asked
 
 // ST part, state, length, content
 fn set_of(s: &[u8]) -> Asked
-    ensures { λ r. ⌜ Asks (now (s .entry)) r (cond (enough 7 (now (s .entry))) (asked (now (s .entry)) (7 + two-at (now (s .entry)) 5) (ST (two-at (now (s .entry)) 2) (getD (now (s .entry)) 4 0) (take (two-at (now (s .entry)) 5) (drop 7 (now (s .entry)))) lent)) none) ⌝ }
+    ensures { λ r. ⌜ Asks (now (s .entry)) r (cond (enough 7 (now (s .entry)))
+        (asked (now (s .entry)) (7 + two-at (now (s .entry)) 5) (ST (two-at (now (s .entry)) 2) (getD (now (s .entry)) 4 0)
+        (take (two-at (now (s .entry)) 5) (drop 7 (now (s .entry)))) lent)) none) ⌝ }
 {
     if s.len() < 7 {
         return Asked::Unreadable;
@@ -87,7 +90,8 @@ fn remove_of(s: &[u8]) -> Asked
 
 // RW side, id, form
 fn rewrite_of(s: &[u8]) -> Asked
-    ensures { λ r. ⌜ Asks (now (s .entry)) r (asked (now (s .entry)) 6 (RW (getD (now (s .entry)) 2 0) (two-at (now (s .entry)) 3) (getD (now (s .entry)) 5 0) lent)) ⌝ }
+    ensures { λ r. ⌜ Asks (now (s .entry)) r (asked (now (s .entry)) 6
+        (RW (getD (now (s .entry)) 2 0) (two-at (now (s .entry)) 3) (getD (now (s .entry)) 5 0) lent)) ⌝ }
 {
     if s.len() < 6 {
         return Asked::Unreadable;

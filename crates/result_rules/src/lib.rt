@@ -10,7 +10,7 @@ ghost use Rattle.xliff.specs.Answer.{_then_, is-fault, of-result};
 ghost use Rattle.xliff.specs.Parse.{unit};
 ghost use Rattle.xliff.specs.Rules.{fault-7, fault-9, fault-6-to-10};
 ghost use Rattle.places.specs.Passes.{Passes};
-ghost use Rattle.table_check.specs.Markers.{Markers};
+ghost use Rattle.sequences.specs.Markers.{Markers};
 ghost use Rattle.result_rules.specs.Broken.{is-place, broken, number-of};
 
 fn is_at(p: Place) -> bool
@@ -43,15 +43,14 @@ fn first_broken(t: &[u8], also_9: bool) -> u8
     requires { ⌜ Passes (now t) × (length (now t) ≤ 8192) ⌝ }
     ensures { λ r. ⌜ broken r ≡ of-result (fault-7 (unit (now (t .entry)) .parts) then cond «also_9» (fault-9 (unit (now (t .entry)) .parts)) none) ⌝ }
 {
-    let parts = marks::narrow(orders::count_parts(t));
     let mut src = [0u16; 1024];
     let mut tgt = [0u16; 1024];
     let mut skeys = [0u32; 1024];
     let mut tkeys = [0u32; 1024];
-    let k = sequences::sources(t, &mut src);
-    let m = sequences::targets(t, parts, &mut tgt);
-    keys::keys_at(t, &src[..k], &mut skeys);
-    keys::keys_at(t, &tgt[..m], &mut tkeys);
+    let parts = orders::count_parts(t);
+    let counts = sequences::markers(t, parts, &mut src, &mut skeys, &mut tgt, &mut tkeys);
+    let k = counts.source;
+    let m = counts.target;
     by_markers(t, &src[..k], &skeys[..k], &tgt[..m], &tkeys[..m], also_9)
 }
 

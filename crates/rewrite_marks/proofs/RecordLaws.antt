@@ -50,7 +50,9 @@ module _ (i : ℕ) (w : Form) where
   pair-before true h v g rs = refl
   pair-before false h v g rs = refl
 
-  start-before : (b : Bool) (v : Form) (j t : ℕ) (rs : List Record) → item-before (cond b (annotation-start w j t) (annotation-start v j t)) rs ≡ inline (cond b (annotation-start w j t) (annotation-start v j t)) ∷ rs
+  start-before : (b : Bool) (v : Form) (j t : ℕ) (rs : List Record)
+      → item-before (cond b (annotation-start w j t) (annotation-start v j t)) rs
+      ≡ inline (cond b (annotation-start w j t) (annotation-start v j t)) ∷ rs
   unfolding item-before
   start-before true v j t rs = refl
   start-before false v j t rs = refl
@@ -112,7 +114,9 @@ module _ (i : ℕ) (w : Form) where
 
   one-part : (source b : Bool) (p : Part) (bs qs : List Record) → ((c : Bool) → rewritten f source c bs ≡ qs)
       → rewritten f source b (part-records p ++ bs)
-      ≡ part-records (cond source (record { head = p .head; source = map f (p .source); target = p .target }) (record { head = p .head; source = p .source; target = rewrite-target f (p .target) })) ++ qs
+      ≡ part-records (cond source
+      (record { head = p .head; source = map f (p .source); target = p .target })
+      (record { head = p .head; source = p .source; target = rewrite-target f (p .target) })) ++ qs
   one-part true b p bs qs h = source-part b p bs qs h
   one-part false b p bs qs h = target-part b p bs qs h
 

@@ -97,7 +97,8 @@ fn put_forms(out: &mut [u8], t: &[u8], source: bool, id: u32, p: bool)
 // The table with the halves of the id on the side rewritten, at the head of `out`.
 pub fn put_rewritten(out: &mut [u8], t: &[u8], side: u8, id: u16, form: u8) -> usize
     requires { ⌜ Passes (now t) × (length (now t) ≤ length (now out)) ⌝ }
-    ensures { λ r. ⌜ (r ≡ length (encode (rewrite-unit (unit (now (t .entry))) side id (form-of form)))) × (now (out .exit) ≡ lead (encode (rewrite-unit (unit (now (t .entry))) side id (form-of form))) (now (out .entry))) ⌝ }
+    ensures { λ r. ⌜ (r ≡ length (encode (rewrite-unit (unit (now (t .entry))) side id (form-of form))))
+        × (now (out .exit) ≡ lead (encode (rewrite-unit (unit (now (t .entry))) side id (form-of form))) (now (out .entry))) ⌝ }
 {
     let n = writer::put(out, t);
     put_forms(out, t, side == b'S', id as u32, form == b'P');

@@ -115,8 +115,12 @@ module _ (i : ℕ) where
     content-is p = by (eqb side 'S')
       where
         by : (b : Bool)
-            → cond b (cond {A = Part} b (record { head = p .head; source = map f (p .source); target = p .target }) (record { head = p .head; source = p .source; target = rewrite-target f (p .target) }) .source)
-            (target-items (cond {A = Part} b (record { head = p .head; source = map f (p .source); target = p .target }) (record { head = p .head; source = p .source; target = rewrite-target f (p .target) }) .target))
+            → cond b
+            (cond {A = Part} b (record { head = p .head; source = map f (p .source); target = p .target })
+            (record { head = p .head; source = p .source; target = rewrite-target f (p .target) }) .source)
+            (target-items
+            (cond {A = Part} b (record { head = p .head; source = map f (p .source); target = p .target })
+            (record { head = p .head; source = p .source; target = rewrite-target f (p .target) }) .target))
             ≡ map f (cond b (p .source) (target-items (p .target)))
         by true = refl
         by false = items-of f (p .target)

@@ -53,7 +53,9 @@ by-heads q inside at (text-run cs ∷ rs) = by-heads q inside (at + length (reco
 by-heads q true at (inline x ∷ rs) =
     map-append (λ p. p .at) (marker true (record { item = x; at = at })) _
     ∙ ap (λ (l : List ℕ). places (marker true (record { item = x; at = at })) ++ l) (by-heads q true (at + length (record-bytes (inline x))) rs)
-    ∙ sym (append-assoc (places (marker true (record { item = x; at = at }))) (content-marks (at + length (record-bytes (inline x))) rs) (gather (of-order q) (heads-from (at + length (record-bytes (inline x))) rs)))
+    ∙ sym (append-assoc (places (marker true (record { item = x; at = at })))
+    (content-marks (at + length (record-bytes (inline x))) rs)
+    (gather (of-order q) (heads-from (at + length (record-bytes (inline x))) rs)))
 by-heads q false at (inline x ∷ rs) = no-marks x at q rs (by-heads q false (at + length (record-bytes (inline x))) rs)
 by-heads q inside at (ill-text ∷ rs) = by-heads q inside (at + length (record-bytes ill-text)) rs
 by-heads q inside at (broken b ∷ rs) = by-heads q inside (at + length (record-bytes (broken b))) rs

@@ -180,8 +180,8 @@ pub fn markers(
         × (length (now skeys) ≡ 1024) × (length (now tgt) ≡ 1024) × (length (now tkeys) ≡ 1024) ⌝ }
     ensures { λ r. ⌜ Markers (now (t .entry)) (take (r .source) (now (src .exit))) (take (r .source) (now (skeys .exit)))
         (take (r .target) (now (tgt .exit))) (take (r .target) (now (tkeys .exit)))
-        × (r .source ≤ 1024) × (r .target ≤ 1024) × (length (now (src .exit)) ≡ 1024) × (length (now (skeys .exit)) ≡ 1024)
-        × (length (now (tgt .exit)) ≡ 1024) × (length (now (tkeys .exit)) ≡ 1024) ⌝ }
+        × (r .source ≡ length (take (r .source) (now (src .exit)))) × (r .source ≡ length (take (r .source) (now (skeys .exit))))
+        × (r .target ≡ length (take (r .target) (now (tgt .exit)))) × (r .target ≡ length (take (r .target) (now (tkeys .exit)))) ⌝ }
 {
     let k = sources(t, src);
     let m = targets(t, narrow(parts), tgt);

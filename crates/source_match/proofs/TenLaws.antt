@@ -26,6 +26,12 @@ unfolding offsets
 rule-10-is t src tgt p q s e f g h =
     h
     ∙ sym (first-two 10 p (blamed bad-10-source [] (placed-at t src)) (blamed (bad-10-target (itemsAt t src)) [] (placed-at t tgt)) g)
-    ∙ ap₂ (λ (a b : List ℕ). first-of 10 (blamed bad-10-source [] (placed-at t a) ++ blamed (bad-10-target (itemsAt t a)) [] (placed-at t b))) e (f ∙ ap (target-offsets t 0) (sym (length-located (unit t .parts))))
-    ∙ ap (λ (c : Content). first-of 10 (blamed bad-10-source [] (placed-at t (offsets true 0 t)) ++ blamed (bad-10-target c) [] (placed-at t (target-offsets t 0 (length (located (unit t .parts))))))) (sym (items-at t (offsets true 0 t)))
+    ∙ ap₂ (λ (a b : List ℕ). first-of 10
+    (blamed bad-10-source [] (placed-at t a)
+    ++ blamed (bad-10-target (itemsAt t a)) [] (placed-at t b)))
+    e (f ∙ ap (target-offsets t 0) (sym (length-located (unit t .parts))))
+    ∙ ap (λ (c : Content). first-of 10
+    (blamed bad-10-source [] (placed-at t (offsets true 0 t))
+    ++ blamed (bad-10-target c) [] (placed-at t (target-offsets t 0 (length (located (unit t .parts)))))))
+    (sym (items-at t (offsets true 0 t)))
     ∙ sym (rule-10-marks t s)

@@ -1,18 +1,24 @@
 -- The tests of rule 10 on views are the specification's.
-use mathlib.Core.Path.{_≡_, refl, _∙_, ap₂}
+use Prim.Native.Nat.{ℕ, suc}
+use mathlib.Core.Path.{_≡_, refl, _∙_, ap, ap₂}
 use mathlib.Core.Bool.{Bool, true, false, not, _&&_, _||_}
 use mathlib.Core.List.{List, [], _∷_}
 use lib.Dec.{eqb}
+use lib.ListN.{drop}
 use Rattle.xliff.specs.Bytes.{any, among}
 use Rattle.xliff.specs.Item as spec
 use Rattle.xliff.specs.Item.{Content, alike, class, id-of, fields}
 use Rattle.xliff.specs.Rules.{bad-10-source, bad-10-target, unlike-source, bad-copy, of-other-class, starts-id, agrees, same-half, may-copy}
 use Rattle.xliff.proofs.lists.Tests.{or-none}
+use Rattle.xliff.specs.Sequences.{items}
+use Rattle.places.specs.Markers.{placed-at}
+use Rattle.halves.specs.Nearest.{earlier, marker-at}
+use Rattle.views.specs.declared.View.{View}
 use Rattle.views.specs.Views.{viewOf}
 use Rattle.views.proofs.ViewLaws.{code-same}
 use Rattle.source_match.specs.Ten.{testOf, badTenSource, badTenTarget}
 
-pub ten-source-is : (before : Content) (x : spec.Item) (after : Content) → badTenSource (viewOf x) ≡ bad-10-source before x after
+ten-source-is : (before : Content) (x : spec.Item) (after : Content) → badTenSource (viewOf x) ≡ bad-10-source before x after
 unfolding bad-10-source viewOf among
 ten-source-is before x after = by (eqb (class x) 1) (eqb (class x) 2) (eqb (class x) 3) (eqb (class x) 4)
   where
@@ -49,7 +55,19 @@ module _ (x : spec.Item) where
   unfolding viewOf
   of-same = refl
 
-  pub ten-target-is : (source before after : Content) → badTenTarget source (viewOf x) ≡ bad-10-target source before x after
+  ten-target-is : (source before after : Content) → badTenTarget source (viewOf x) ≡ bad-10-target source before x after
   unfolding bad-10-target unlike-source bad-copy
   ten-target-is source before after =
       rw (any-each _ _ class-same source, any-each _ _ starts-same source, any-each _ _ agrees-same source, any-each _ _ copies-same source, code-same x, of-same)
+
+-- the code's tests of the marker at an index
+module _ (t os : List ℕ) (i : ℕ) (v : View) (b : Bool) (e : v ≡ viewOf (marker-at t os i)) where
+  pub ten-source-bad : b ≡ badTenSource v → b ≡ bad-10-source (earlier (marker-at t os) i) (marker-at t os i) (items (placed-at t (drop (suc i) os)))
+  ten-source-bad f =
+      f ∙ ap badTenSource e ∙ ten-source-is (earlier (marker-at t os) i) (marker-at t os i) (items (placed-at t (drop (suc i) os)))
+
+  pub ten-target-bad : (source : Content) → b ≡ badTenTarget source v
+      → b ≡ bad-10-target source (earlier (marker-at t os) i) (marker-at t os i) (items (placed-at t (drop (suc i) os)))
+  ten-target-bad source f =
+      f ∙ ap (badTenTarget source) e
+      ∙ ten-target-is (marker-at t os i) source (earlier (marker-at t os) i) (items (placed-at t (drop (suc i) os)))

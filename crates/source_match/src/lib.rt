@@ -4,10 +4,7 @@
 use answers::Place;
 use views::View;
 ghost use mathlib.Core.Path.{_≡_};
-ghost use mathlib.Core.Bool.{true};
 ghost use mathlib.Core.List.{[]};
-ghost use Prim.Native.Nat.{_≤_};
-ghost use lib.ListN.{length};
 ghost use Rattle.answers.specs.Answers.{refusal-at, toward};
 ghost use Rattle.views.specs.Views.{itemsAt};
 ghost use Rattle.keys.specs.Keys.{key, keysAt};
@@ -15,9 +12,8 @@ ghost use Rattle.source_match.specs.Ten.{testOf, matchesOf, matchesBy, m
 ghost use Rattle.xliff.specs.Sequences.{blamed, first-of};
 ghost use Rattle.xliff.specs.Rules.{bad-10-source, bad-10-target, fault-10};
 ghost use Rattle.xliff.specs.Parse.{unit};
-ghost use Rattle.places.specs.Passes.{Passes};
-ghost use Rattle.sequences.specs.Marks.{offsets};
-ghost use Rattle.places.specs.Markers.{item-at, placed-at, target-offsets};
+ghost use Rattle.sequences.specs.Markers.{Markers};
+ghost use Rattle.places.specs.Markers.{item-at, placed-at};
 
 // The tests of an item against another: 0 gives its id, 1 gives it in another class, 2 is its like in the source, 3 is what it may be a copy of.
 fn passes(kind: u8, x: View, y: View) -> bool
@@ -178,7 +174,7 @@ fn ten_target(
 
 // Rule 10, by the offsets and the keys of the markers of both sequences.
 pub fn rule_10(t: &[u8], src: &[u16], skeys: &[u32], tgt: &[u16], tkeys: &[u32]) -> Place
-    requires { ⌜ Passes (now t) × (now src ≡ offsets true 0 (now t)) × (now skeys ≡ keysAt (now t) (now src)) × (now tgt ≡ target-offsets (now t) 0 (length (unit (now t) .parts))) × (length (now src) ≤ 1024) × (now tkeys ≡ keysAt (now t) (now tgt)) ⌝ }
+    requires { ⌜ Markers (now t) (now src) (now skeys) (now tgt) (now tkeys) ⌝ }
     ensures { λ r. ⌜ refusal-at 10 r ≡ fault-10 (unit (now (t .entry)) .parts) ⌝ }
 {
     let mut links = [0u16; 1024];

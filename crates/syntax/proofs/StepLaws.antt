@@ -168,7 +168,8 @@ pub read-width : (s : List ℕ) → Bytes s → is-broken (read s) ≡ false →
 read-width s h b =
     let f = read-sound s h b in
     let g = good-length (read s) [] (f .good) in
-    let k : length s ≡ length (record-bytes (read s)) + length (drop (length (record-bytes (read s))) s) = ap length (f .bytes) ∙ length-append (record-bytes (read s)) (drop (length (record-bytes (read s))) s) in
+    let k : length s ≡ length (record-bytes (read s)) + length (drop (length (record-bytes (read s))) s)
+    = ap length (f .bytes) ∙ length-append (record-bytes (read s)) (drop (length (record-bytes (read s))) s) in
     (omega (arith, g, length-append (record-bytes (read s)) []), omega (arith, k))
 
 -- From an offset on, in a state: the first bad record of the table

@@ -12,7 +12,7 @@ ghost use Rattle.xliff.specs.Rules.{fault-5, fault-6, fault-7, fault-8, fault-9
 ghost use Rattle.xliff.specs.Check.{check};
 ghost use Rattle.places.specs.Passes.{Passes};
 ghost use Rattle.answers.specs.Answers.{answer-meaning, refusal-at};
-ghost use Rattle.table_check.specs.Markers.{Markers};
+ghost use Rattle.sequences.specs.Markers.{Markers};
 
 fn from_9(
     t: &[u8],
@@ -46,7 +46,8 @@ fn from_8(
     eight: Place,
 ) -> Answer
     requires { ⌜ Markers (now t) (now src) (now skeys) (now tgt) (now tkeys) × (len ≡ length (now t)) × (refusal-at 8 eight ≡ fault-8 (unit (now t) .parts)) ⌝ }
-    ensures { λ r. ⌜ answer-meaning r ≡ answer (unless (fault-8 (unit (now (t .entry)) .parts) then fault-9 (unit (now (t .entry)) .parts) then fault-10 (unit (now (t .entry)) .parts)) (now (t .entry))) ⌝ }
+    ensures { λ r. ⌜ answer-meaning r ≡ answer (unless (fault-8 (unit (now (t .entry)) .parts)
+        then fault-9 (unit (now (t .entry)) .parts) then fault-10 (unit (now (t .entry)) .parts)) (now (t .entry))) ⌝ }
 {
     match eight {
         Place::At(at) => Answer::Refused(8, at),
@@ -72,7 +73,8 @@ fn from_7(
     seven: Place,
 ) -> Answer
     requires { ⌜ Markers (now t) (now src) (now skeys) (now tgt) (now tkeys) × (len ≡ length (now t)) × (refusal-at 7 seven ≡ fault-7 (unit (now t) .parts)) ⌝ }
-    ensures { λ r. ⌜ answer-meaning r ≡ answer (unless (fault-7 (unit (now (t .entry)) .parts) then fault-8 (unit (now (t .entry)) .parts) then fault-9 (unit (now (t .entry)) .parts) then fault-10 (unit (now (t .entry)) .parts)) (now (t .entry))) ⌝ }
+    ensures { λ r. ⌜ answer-meaning r ≡ answer (unless (fault-7 (unit (now (t .entry)) .parts) then fault-8 (unit (now (t .entry)) .parts)
+        then fault-9 (unit (now (t .entry)) .parts) then fault-10 (unit (now (t .entry)) .parts)) (now (t .entry))) ⌝ }
 {
     match seven {
         Place::At(at) => Answer::Refused(7, at),
@@ -97,7 +99,8 @@ fn by_markers(
     tkeys: &[u32],
 ) -> Answer
     requires { ⌜ Markers (now t) (now src) (now skeys) (now tgt) (now tkeys) × (len ≡ length (now t)) ⌝ }
-    ensures { λ r. ⌜ answer-meaning r ≡ answer (unless (fault-7 (unit (now (t .entry)) .parts) then fault-8 (unit (now (t .entry)) .parts) then fault-9 (unit (now (t .entry)) .parts) then fault-10 (unit (now (t .entry)) .parts)) (now (t .entry))) ⌝ }
+    ensures { λ r. ⌜ answer-meaning r ≡ answer (unless (fault-7 (unit (now (t .entry)) .parts) then fault-8 (unit (now (t .entry)) .parts)
+        then fault-9 (unit (now (t .entry)) .parts) then fault-10 (unit (now (t .entry)) .parts)) (now (t .entry))) ⌝ }
 {
     from_7(
         t,
@@ -111,28 +114,29 @@ fn by_markers(
 }
 
 // Rules 7 to 10, with the markers of both sequences.
-fn by_sequences(t: &[u8], parts: u16, len: usize) -> Answer
-    requires { ⌜ Passes (now t) × (length (now t) ≤ 8192) × (parts ≡ length (unit (now t) .parts)) × (parts ≤ 64) × (len ≡ length (now t)) ⌝ }
-    ensures { λ r. ⌜ answer-meaning r ≡ answer (unless (fault-7 (unit (now (t .entry)) .parts) then fault-8 (unit (now (t .entry)) .parts) then fault-9 (unit (now (t .entry)) .parts) then fault-10 (unit (now (t .entry)) .parts)) (now (t .entry))) ⌝ }
+fn by_sequences(t: &[u8], parts: usize, len: usize) -> Answer
+    requires { ⌜ Passes (now t) × (length (now t) ≤ 8192) × (parts ≡ length (unit (now t) .parts)) × (len ≡ length (now t)) ⌝ }
+    ensures { λ r. ⌜ answer-meaning r ≡ answer (unless (fault-7 (unit (now (t .entry)) .parts) then fault-8 (unit (now (t .entry)) .parts)
+        then fault-9 (unit (now (t .entry)) .parts) then fault-10 (unit (now (t .entry)) .parts)) (now (t .entry))) ⌝ }
 {
     let mut src = [0u16; 1024];
     let mut tgt = [0u16; 1024];
     let mut skeys = [0u32; 1024];
     let mut tkeys = [0u32; 1024];
-    let k = sequences::sources(t, &mut src);
-    let m = sequences::targets(t, parts, &mut tgt);
-    keys::keys_at(t, &src[..k], &mut skeys);
-    keys::keys_at(t, &tgt[..m], &mut tkeys);
+    let counts = sequences::markers(t, parts, &mut src, &mut skeys, &mut tgt, &mut tkeys);
+    let k = counts.source;
+    let m = counts.target;
     by_markers(t, len, &src[..k], &skeys[..k], &tgt[..m], &tkeys[..m])
 }
 
 fn from_6(t: &[u8], parts: usize, len: usize, six: Place) -> Answer
-    requires { ⌜ Passes (now t) × (length (now t) ≤ 8192) × (parts ≡ length (unit (now t) .parts)) × (len ≡ length (now t)) × (refusal-at 6 six ≡ fault-6 (unit (now t) .parts)) ⌝ }
+    requires { ⌜ Passes (now t) × (length (now t) ≤ 8192) × (parts ≡ length (unit (now t) .parts)) × (len ≡ length (now t))
+        × (refusal-at 6 six ≡ fault-6 (unit (now t) .parts)) ⌝ }
     ensures { λ r. ⌜ answer-meaning r ≡ answer (unless (fault-6-to-10 (unit (now (t .entry)) .parts)) (now (t .entry))) ⌝ }
 {
     match six {
         Place::At(at) => Answer::Refused(6, at),
-        Place::Nowhere => by_sequences(t, marks::narrow(parts), len),
+        Place::Nowhere => by_sequences(t, parts, len),
     }
 }
 
@@ -145,7 +149,8 @@ pub fn rules_6_to_10(t: &[u8]) -> Answer
 }
 
 fn from_5(t: &[u8], parts: usize, len: usize, five: Place) -> Answer
-    requires { ⌜ Passes (now t) × (length (now t) ≤ 8192) × (parts ≡ length (unit (now t) .parts)) × (len ≡ length (now t)) × (refusal-at 5 five ≡ fault-5 (unit (now t) .parts)) ⌝ }
+    requires { ⌜ Passes (now t) × (length (now t) ≤ 8192) × (parts ≡ length (unit (now t) .parts)) × (len ≡ length (now t))
+        × (refusal-at 5 five ≡ fault-5 (unit (now t) .parts)) ⌝ }
     ensures { λ r. ⌜ answer-meaning r ≡ answer (unless (fault-5 (unit (now (t .entry)) .parts) then fault-6-to-10 (unit (now (t .entry)) .parts)) (now (t .entry))) ⌝ }
 {
     match five {

@@ -83,7 +83,8 @@ module _ (t os : List ℕ) (id e : ℕ) (h : e ≡ next (startsAt (keysAt t os) 
       sym
       (h ∙ ap (next (startsAt (keysAt t os) id) 0) (length-keys t os)
       ∙ next-same (startsAt (keysAt t os) id) (λ k. starts id (marker-at t os k)) 0 (length os)
-      (λ k g l. ap (λ (m : ℕ). eqb (halfKey m) 1 && eqb (idKey m) id) (key-at t os k (omega (arith, l))) ∙ ap₂ (λ (a b : ℕ). eqb a 1 && eqb b id) (half-key (marker-at t os k)) (id-key (marker-at t os k))))
+      (λ k g l. ap (λ (m : ℕ). eqb (halfKey m) 1 && eqb (idKey m) id) (key-at t os k (omega (arith, l)))
+      ∙ ap₂ (λ (a b : ℕ). eqb a 1 && eqb b id) (half-key (marker-at t os k)) (id-key (marker-at t os k))))
 
   pub none-started : length (keysAt t os) ≤ e → Missing ≡ pairOf (find-whole id (itemsAt t os))
   unfolding pairOf

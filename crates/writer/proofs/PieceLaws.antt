@@ -34,6 +34,17 @@ two-back out a b xs ys n e f g =
     tail-back xs b ys n g
     ∙ rw (e, f, take-append-seam, drop-append-seam, drop-drop, length-append, append-assoc)
 
+-- three pieces
+pub three-back : (o a b c l y z : List ℕ) (n e : ℕ) → n ≡ length a → l ≡ lead a o → y ≡ lead b (take (length l - n) (drop n l)) → e ≡ n + length b
+    → z ≡ lead c (take (length (take n l ++ (y ++ drop (length l - n) (drop n l))) - e) (drop e (take n l ++ (y ++ drop (length l - n) (drop n l)))))
+    → take e (take n l ++ (y ++ drop (length l - n) (drop n l)))
+    ++ (z ++ drop (length (take n l ++ (y ++ drop (length l - n) (drop n l))) - e)
+    (drop e (take n l ++ (y ++ drop (length l - n) (drop n l)))))
+    ≡ lead ((a ++ b) ++ c) o
+three-back o a b c l y z n e h k u v w =
+    two-back o (a ++ b) c (take n l ++ (y ++ drop (length l - n) (drop n l))) z e
+    (v ∙ ap (λ (m : ℕ). m + length b) h ∙ sym (length-append a b)) (two-back o a b l y n h k u) w
+
 -- the output keeps its length
 pub lead-length : (a o : List ℕ) → length a ≤ length o → length (lead a o) ≡ length o
 lead-length a o h = omega (arith, length-append a (drop (length a) o), length-drop (length a) o)

@@ -1,5 +1,6 @@
--- Stepping stones: what the numbers 2, 3 and 4 leave of a table's records. No rule is stated here: `unit-good` and `read-sound` (proofs) show that a table
--- to which none of them applies has records that are good in this sense, and inner crates ask it of what they are given.
+-- Stepping stones: what the numbers 2, 3 and 4 leave of a table's records. No rule is stated here: `unit-good` and
+-- `read-sound` (proofs) show that a table to which none of them applies has records that are good in this sense, and
+-- inner crates ask it of what they are given.
 use Prim.Native.Nat.{ℕ, zero, suc, _+_}
 use mathlib.Core.Path.{_≡_}
 use mathlib.Core.Bool.{true, false, cond}

@@ -1,7 +1,9 @@
 -- The specification. How to read it:
--- `unfoldable pub f`: a definition that a proof opens by name, with a line `unfolding f`; elsewhere it stays shut, so that goals stay short.
+-- `unfoldable pub f`: a definition that a proof opens by name, with a line `unfolding f`; elsewhere it stays shut, so
+-- that goals stay short.
 -- `abbrev pub f`: a short name for what stands behind it, always open (constants, letters, one-line tests, types).
--- `X·all`: no definition of the field; a line that opens all definitions of file X and of those it builds on, for the examples.
+-- `X·all`: no definition of the field; a line that opens all definitions of file X and of those it builds on, for the
+-- examples.
 -- Good: stepping stones; no rule is stated there.
 pub mod Bytes
 pub mod Text

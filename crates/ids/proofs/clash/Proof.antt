@@ -1,11 +1,10 @@
-use lib.ListN.{getD}
 use Prim.Native.Nat.{ℕ, _<_}
 use native.Mathlib.Omega.{arith}
-use mathlib.Core.Path.{refl, sym, _∙_, ap, subst}
-use Rattle.id_links.proofs.Search.{Searched, search-start, search-hit, search-end, search-less, search-on}
+use mathlib.Core.Path.{refl, sym, _∙_, subst}
+use Rattle.id_links.proofs.Search.{Searched, search-hit, search-end, search-less, search-on}
 use Rattle.id_links.specs.Links.{group}
 use Rattle.ids.specs.Keys.{clashTest}
-use Rattle.ids.proofs.LinkLaws.{clash-grouped}
+use Rattle.ids.proofs.LinkLaws.{clash-grouped, clash-start}
 use borrow.Author.Needs.{needs}
 use Rattle.ids.proofs.clash.Statement.{statement}
 use Rattle.ids.proofs.clash.Tie as tie
@@ -16,20 +15,16 @@ Inv-loop keys links heads k j₀ j = Searched (clashTest k) keys (group k) j
 abbrev μ-loop : tie.MeasureT-loop
 μ-loop keys links heads k j₀ j = j
 
--- src/lib.rt:139:5
+-- the loop's start
 loop-holds : tie.Need-loop-holds Inv-loop μ-loop
 loop-holds c =
     let start = c .before .before .before .before .before .before in
     let args = start .args in
-    let k = args .k in
-    let keys = args .keys .now in
-    let heads = args .heads .now in
-    subst (Searched (clashTest k) keys (group k))
-    (sym (c .wide .ensures .0 ∙ ap (λ (g : ℕ). getD heads g 0) (c .before .before .group-of .ensures .0)))
-    (search-start (clashTest k) keys (group k) heads (clash-grouped k (group k) keys refl) (start .pre .0 .3)
-    (omega arith))
+    let group-of = c .before .before .group-of in
+    clash-start (args .k) (args .keys .now) (args .links .now) (args .heads .now) (start .pre .0) (group-of .result)
+    (c .wide .result) (group-of .ensures .0) (c .wide .ensures .0)
 
--- src/lib.rt:141:13
+-- return true
 returns : tie.Need-returns Inv-loop μ-loop
 returns c =
     let args = c .before .before .before .before .before .before .before .before .before .before .before .args in
@@ -39,7 +34,6 @@ returns c =
     sym (search-hit (clashTest k) (args .keys .now) (group k) (loop .j) (loop .inv) (loop-test .taken)
     (sym (c .before .clash-with .ensures) ∙ c .if1 .taken))
 
--- src/lib.rt:139:5
 loop-less : tie.Need-loop-less Inv-loop μ-loop
 loop-less c =
     let after-loop-test = c .before .before .before .before .before in
@@ -53,7 +47,7 @@ loop-less c =
     (search-less (clashTest k) keys (group k) (args .links .now) (loop .j) (clash-grouped k (group k) keys refl)
     (start .pre .0 .2) (loop .inv) (loop-test .taken))
 
--- src/lib.rt:139:5
+-- the loop's step
 loop-again : tie.Need-loop-again Inv-loop μ-loop
 loop-again c =
     let after-loop-test = c .before .before .before .before .before in
@@ -68,7 +62,7 @@ loop-again c =
     (search-on (clashTest k) keys (group k) (args .links .now) (loop .j) (clash-grouped k (group k) keys refl)
     (start .pre .0 .2) (loop .inv) (loop-test .taken) (sym (clash-with .ensures) ∙ c .before .before .if1 .left))
 
--- src/lib.rt:134:1
+-- false
 returns-2 : tie.Need-returns-2 Inv-loop μ-loop
 returns-2 c =
     let args = c .before .before .before .before .before .before .before .before .args in
@@ -83,14 +77,14 @@ clash-spec =
     (tie.spec
     Inv-loop
     μ-loop
-    -- by search: group-of-requires 138:38, mul-wide 138:32, shared-slice-read-wide 138:32, wide-requires 138:9
+    -- by search: group-of-requires, mul-wide, shared-slice-read-wide, wide-requires
     (λ c κs. search needs) (λ c. search needs) (λ c. search needs) (λ c κs. search needs)
     loop-holds
-    -- by search: sub-clash-with 140:31, mul-clash-with 140:26, shared-slice-read-clash-with 140:26,
-    -- clash-with-requires 140:12
+    -- by search: sub-clash-with, mul-clash-with, shared-slice-read-clash-with,
+    -- clash-with-requires
     (λ c. search needs) (λ c. search needs) (λ c. search needs) (λ c κs. search needs)
     returns
-    -- by search: sub-wide 143:34, mul-wide-2 143:28, shared-slice-read-wide-2 143:28, wide-requires-2 143:9
+    -- by search: sub-wide, mul-wide-2, shared-slice-read-wide-2, wide-requires-2
     (λ c. search needs) (λ c. search needs) (λ c. search needs) (λ c κs. search needs)
     loop-less
     loop-again

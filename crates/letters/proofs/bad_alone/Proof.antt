@@ -2,7 +2,7 @@ use borrow.Author.Needs.{needs}
 use Rattle.letters.proofs.bad_alone.Statement.{statement}
 use Rattle.letters.proofs.bad_alone.Tie as tie
 
--- src/lib.rt:48:1
+-- | (source & (code & ((x.reorder == b'N') & !led)))
 returns : tie.Need-returns
 returns c =
     let is-code = c .before .before .before .before .before .is-code in
@@ -12,6 +12,6 @@ pub bad-alone-spec : {M : Type 1} → statement M
 bad-alone-spec =
     tie.close
     (tie.spec
-    -- by search: is-code-requires 51:9
+    -- by search: is-code-requires
     (λ c κs. search needs)
     returns)

@@ -1,22 +1,20 @@
-use Rattle.keys.specs.Keys.{key}
 use native.Mathlib.Omega.{arith}
-use Rattle.halves.proofs.Others.{length-keys, key-at}
-use Rattle.letters.proofs.TestLaws.{eight-is, led-on}
-use Rattle.letters.specs.Eight.{bad-8, badAlone}
+use Rattle.halves.proofs.Others.{keys-long, key-there, view-there}
+use Rattle.letters.proofs.TestLaws.{eight-bad, led-on}
+use Rattle.letters.specs.Eight.{bad-8}
 use Rattle.halves.proofs.TwoSequences.{blamed-step}
 use Rattle.halves.specs.Nearest.{earlier, marker-at}
-use Rattle.views.specs.Views.{viewOf}
-use Rattle.places.specs.Markers.{item-at, placed-at}
+use Rattle.places.specs.Markers.{placed-at}
 use Rattle.xliff.specs.Rules.{is-F}
-use Rattle.xliff.specs.Sequences.{blamed, items}
+use Rattle.xliff.specs.Sequences.{blamed}
 use Rattle.xliff.specs.Bytes.{any}
 use Rattle.answers.proofs.Places.{blamed-end}
 use Rattle.answers.specs.Answers.{toward}
-use lib.ListN.{length, drop, getD}
-use mathlib.Core.Path.{_≡_, _∙_, refl, sym, ap, ap₂}
-use mathlib.Core.List.{List, []}
+use lib.ListN.{length, drop}
+use mathlib.Core.Path.{_≡_, _∙_, refl, sym, ap}
+use mathlib.Core.List.{[]}
 use mathlib.Core.Bool.{Bool, _||_}
-use Prim.Native.Nat.{ℕ, suc, _-_, _≤_}
+use Prim.Native.Nat.{_-_, _≤_}
 use borrow.Author.Needs.{needs}
 use Rattle.letters.proofs.eight_in.Statement.{statement}
 use Rattle.letters.proofs.eight_in.Tie as tie
@@ -31,46 +29,44 @@ Inv-loop t source os keys best₀ led₀ i₀ best led i =
 abbrev μ-loop : tie.MeasureT-loop
 μ-loop t source os keys best₀ led₀ i₀ best led i = length os - i
 
--- src/lib.rt:85:5
+-- the loop's start
 loop-holds : tie.Need-loop-holds Inv-loop μ-loop
 unfolding earlier any
 loop-holds c = (search needs, refl, refl)
 
--- src/lib.rt:87:38
+-- keys[i]
 shared-slice-read-view-at : tie.Need-shared-slice-read-view-at Inv-loop μ-loop
 unfolding earlier any
 shared-slice-read-view-at c =
     let start = c .before .before .before .before .before .before .before .before in
     let loop-test = c .before .before .before .loop-test in
-    omega
-    (arith, ap length (start .pre), length-keys (start .args .t .now) (start .args .os .now), loop-test .taken)
+    omega (arith, keys-long (start .args .t .now) (start .args .os .now) _ (start .pre), loop-test .taken)
 
--- src/lib.rt:87:13
+-- keys::view_at(t, at, keys[i])
 view-at-requires : tie.Need-view-at-requires Inv-loop μ-loop
 unfolding earlier any
 view-at-requires c κs =
     let start = c .before .before .before .before .before .before .before .before in
     let args = start .args in
-    let t = args .t .now in
-    let loop = c .before .before .before .before .loop in
-    let loop-test = c .before .before .before .loop-test in
-    ap (λ (l : List ℕ). getD l (loop .i) 0) (start .pre)
-    ∙ key-at t (args .os .now) (loop .i) (loop-test .taken)
-    ∙ ap (λ (k : ℕ). key (item-at t k)) (sym (c .before .wide .ensures .0))
+    let i = c .before .before .before .before .loop .i in
+    let wide = c .before .wide in
+    key-there (args .t .now) (args .os .now) _ (start .pre) i (wide .result) (c .before .before .before .loop-test .taken)
+    (wide .ensures .0)
 
--- src/lib.rt:88:19
+-- ill_ended(t, os, keys, i, x)
 ill-ended-requires : tie.Need-ill-ended-requires Inv-loop μ-loop
 unfolding earlier any
 ill-ended-requires c κs =
     let start = c .before .before .before .before .before .before .before .before .before in
-    let loop-test = c .before .before .before .before .loop-test in (
+    let loop-test = c .before .before .before .before .loop-test in
+    let wide = c .before .before .wide in (
       start .pre,
       loop-test .taken,
-      c .view-at .ensures
-          ∙ ap (λ (k : ℕ). viewOf (item-at (start .args .t .now) k)) (c .before .before .wide .ensures .0),
+      view-there (start .args .t .now) (start .args .os .now) _ (wide .result) (c .view-at .result) (wide .ensures .0)
+          (c .view-at .ensures),
     )
 
--- src/lib.rt:85:5
+-- the loop's step
 loop-again : tie.Need-loop-again Inv-loop μ-loop
 unfolding earlier any
 loop-again c =
@@ -88,22 +84,18 @@ loop-again c =
     let view-at = c .before .before .before .before .view-at in
     let ill-ended = c .before .before .before .ill-ended in
     let bad-alone = c .before .before .bad-alone in
-    let lower-if = c .before .lower-if in (
+    let lower-if = c .before .lower-if in
+    let seen = view-there t os i (wide .result) (view-at .result) (wide .ensures .0) (view-at .ensures) in (
       search needs,
-      ap (λ (b : Bool). b || led) (c .is-leading .ensures)
-          ∙ led-on t os i (view-at .result) led
-          (view-at .ensures ∙ ap (λ (k : ℕ). viewOf (item-at t k)) (wide .ensures .0)) (inv .1),
+      ap (λ (b : Bool). b || led) (c .is-leading .ensures) ∙ led-on t os i (view-at .result) led seen (inv .1),
       inv .2
           ∙ blamed-step 8 (bad-8 source) t os i (loop .best) (ill-ended .result || bad-alone .result) (wide .result)
           (lower-if .result) (loop-test .taken) (wide .ensures .0)
-          (ap₂ _||_ (ill-ended .ensures)
-          (bad-alone .ensures
-          ∙ ap (badAlone source led) (view-at .ensures ∙ ap (λ (k : ℕ). viewOf (item-at t k)) (wide .ensures .0)))
-          ∙ eight-is source (earlier (marker-at t os) i) (marker-at t os i) (items (placed-at t (drop (suc i) os)))
-          led (inv .1)) (lower-if .ensures),
+          (eight-bad source t os i (view-at .result) led (ill-ended .result) (bad-alone .result) seen (inv .1)
+          (ill-ended .ensures) (bad-alone .ensures)) (lower-if .ensures),
     )
 
--- src/lib.rt:78:1
+-- best
 returns : tie.Need-returns Inv-loop μ-loop
 unfolding earlier any
 returns c =
@@ -123,13 +115,13 @@ eight-in-spec =
     Inv-loop
     μ-loop
     loop-holds
-    -- by search: mul-wide 86:30, shared-slice-read-wide 86:30, wide-requires 86:13, mul-view-at 87:38
+    -- by search: mul-wide, shared-slice-read-wide, wide-requires, mul-view-at
     (λ c. search needs) (λ c. search needs) (λ c κs. search needs) (λ c. search needs)
     shared-slice-read-view-at
     view-at-requires
     ill-ended-requires
-    -- by search: bad-alone-requires 88:50, lower-if-requires 89:9, is-leading-requires 90:15, add-i 91:9,
-    -- loop-less 85:5
+    -- by search: bad-alone-requires, lower-if-requires, is-leading-requires, add-i,
+    -- loop-less
     (λ c κs. search needs) (λ c κs. search needs) (λ c κs. search needs) (λ c. search needs) (λ c. search needs)
     loop-again
     returns)

@@ -2,11 +2,11 @@ use borrow.Author.Tests.{eq-eqb, ne-eqb}
 use Rattle.letters.proofs.end_letter.Statement.{statement}
 use Rattle.letters.proofs.end_letter.Tie as tie
 
--- src/lib.rt:23:1
+-- if c == b'F' { b'N' } else { c }
 returns : tie.Need-returns
 returns c = simp (eq-eqb _ _ (c .if1 .taken))
 
--- src/lib.rt:23:1
+-- if c == b'F' { b'N' } else { c }
 returns-2 : tie.Need-returns-2
 returns-2 c = simp (ne-eqb _ _ (c .if1 .left))
 

@@ -2,7 +2,7 @@ use borrow.Author.Needs.{needs}
 use Rattle.letters.proofs.ill_matched.Statement.{statement}
 use Rattle.letters.proofs.ill_matched.Tie as tie
 
--- src/lib.rt:30:1
+-- | (!(start.delete == end.delete) | (!(start.overlap == end.overlap) | reorder)))
 returns : tie.Need-returns
 returns c =
     let end-letter = c .before .before .before .before .before .before .before .before .before .before .before
@@ -13,6 +13,6 @@ pub ill-matched-spec : {M : Type 1} → statement M
 ill-matched-spec =
     tie.close
     (tie.spec
-    -- by search: end-letter-requires 33:9
+    -- by search: end-letter-requires
     (λ c κs. search needs)
     returns)

@@ -2,7 +2,7 @@ use borrow.Author.Needs.{needs}
 use Rattle.letters.proofs.is_leading.Statement.{statement}
 use Rattle.letters.proofs.is_leading.Tie as tie
 
--- src/lib.rt:41:1
+-- views::is_code(x) & (x.reorder == b'F')
 returns : tie.Need-returns
 returns c = simp (c .before .is-code .ensures)
 
@@ -10,6 +10,6 @@ pub is-leading-spec : {M : Type 1} → statement M
 is-leading-spec =
     tie.close
     (tie.spec
-    -- by search: is-code-requires 44:5
+    -- by search: is-code-requires
     (λ c κs. search needs)
     returns)

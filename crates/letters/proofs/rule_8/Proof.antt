@@ -6,7 +6,7 @@ use borrow.Author.Needs.{needs}
 use Rattle.letters.proofs.rule_8.Statement.{statement}
 use Rattle.letters.proofs.rule_8.Tie as tie
 
--- src/lib.rt:97:1
+-- eight_in(t, false, tgt, tkeys, source)
 returns : tie.Need-returns
 unfolding fault-8 offsets
 returns c =
@@ -23,6 +23,6 @@ unfolding fault-8 offsets
 rule-8-spec =
     tie.close
     (tie.spec
-    -- by search: eight-in-requires 101:9, eight-in-requires-2 102:5
+    -- by search: eight-in-requires, eight-in-requires-2
     (λ c κs. search needs) (λ c κs. search needs)
     returns)

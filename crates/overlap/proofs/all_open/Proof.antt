@@ -26,24 +26,24 @@ Inv-loop t os keys i₀ i =
 abbrev μ-loop : tie.MeasureT-loop
 μ-loop t os keys i₀ i = length os - i
 
--- src/lib.rt:173:5
+-- the loop's start
 loop-holds : tie.Need-loop-holds Inv-loop μ-loop
 unfolding earlier
 loop-holds c = (omega arith, λ p. refl)
 
--- src/lib.rt:174:12
+-- is_closed(t, os, keys, i)
 is-closed-requires : tie.Need-is-closed-requires Inv-loop μ-loop
 unfolding earlier
 is-closed-requires c κs =
     let pre = c .before .before .before .before .before .pre in
     (pre, c .loop-test .taken)
 
--- src/lib.rt:175:13
+-- return false
 returns : tie.Need-returns Inv-loop μ-loop
 unfolding earlier
 returns c = λ p e. absurd (true≢false (sym e))
 
--- src/lib.rt:173:5
+-- the loop's step
 loop-again : tie.Need-loop-again Inv-loop μ-loop
 unfolding earlier
 loop-again c =
@@ -59,7 +59,7 @@ loop-again c =
           (c .before .is-closed .ensures (earlier (marker-at t os) i) (c .if1 .left)) refl,
     )
 
--- src/lib.rt:168:1
+-- true
 returns-2 : tie.Need-returns-2 Inv-loop μ-loop
 unfolding earlier
 returns-2 c =
@@ -81,7 +81,7 @@ all-open-spec =
     loop-holds
     is-closed-requires
     returns
-    -- by search: add-i 177:9, loop-less 173:5
+    -- by search: add-i, loop-less
     (λ c. search needs) (λ c. search needs)
     loop-again
     returns-2)

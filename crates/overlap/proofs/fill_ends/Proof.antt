@@ -15,23 +15,23 @@ Inv-loop keys links ends₀ i₀ ends i = (i ≤ length keys) × (length ends �
 abbrev μ-loop : tie.MeasureT-loop
 μ-loop keys links ends₀ i₀ ends i = length keys - i
 
--- src/lib.rt:43:5
+-- the loop's start
 loop-holds : tie.Need-loop-holds Inv-loop μ-loop
 loop-holds c = (search needs, search needs, λ k h. absurd (omega (arith, h)))
 
--- src/lib.rt:44:19
+-- halves::linked_after(keys, links, i)
 linked-after-requires : tie.Need-linked-after-requires Inv-loop μ-loop
 linked-after-requires c κs =
     let pre = c .before .before .before .before .before .pre in
     (pre .3, pre .0, pre .1, c .loop-test .taken)
 
--- src/lib.rt:44:19
+-- halves::linked_after(keys, links, i)
 cast-ends : tie.Need-cast-ends Inv-loop μ-loop
 cast-ends c =
     let pre = c .before .before .before .before .before .before .pre in
     omega (arith, c .linked-after .ensures .2, c .before .loop-test .taken, pre .0)
 
--- src/lib.rt:43:5
+-- the loop's step
 loop-again : tie.Need-loop-again Inv-loop μ-loop
 loop-again c =
     let start = c .before .before .before .before .before .before in
@@ -43,7 +43,7 @@ loop-again c =
           (loop .inv .2),
     )
 
--- src/lib.rt:38:1
+-- the end
 returns : tie.Need-returns Inv-loop μ-loop
 returns c =
     let loop = c .before .loop in
@@ -58,9 +58,9 @@ fill-ends-spec =
     loop-holds
     linked-after-requires
     cast-ends
-    -- by search: mul-ends 44:9, slice-write-ends 44:9, add-i 45:9, loop-less 43:5
+    -- by search: mul-ends, slice-write-ends, add-i, loop-less
     (λ c. search needs) (λ c. search needs) (λ c. search needs) (λ c. search needs)
     loop-again
-    -- by search: same-length 38:1
+    -- by search: same-length
     (λ c. search needs)
     returns)

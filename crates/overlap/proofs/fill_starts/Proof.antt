@@ -16,23 +16,23 @@ Inv-loop keys links starts₀ i₀ starts i =
 abbrev μ-loop : tie.MeasureT-loop
 μ-loop keys links starts₀ i₀ starts i = length keys - i
 
--- src/lib.rt:30:5
+-- the loop's start
 loop-holds : tie.Need-loop-holds Inv-loop μ-loop
 loop-holds c = (search needs, search needs, λ k h. absurd (omega (arith, h)))
 
--- src/lib.rt:31:21
+-- halves::linked_before(keys, links, i)
 linked-before-requires : tie.Need-linked-before-requires Inv-loop μ-loop
 linked-before-requires c κs =
     let pre = c .before .before .before .before .before .pre in
     (pre .3, pre .0, pre .1, c .loop-test .taken)
 
--- src/lib.rt:31:21
+-- halves::linked_before(keys, links, i)
 cast-starts : tie.Need-cast-starts Inv-loop μ-loop
 cast-starts c =
     let pre = c .before .before .before .before .before .before .pre in
     omega (arith, c .linked-before .ensures .1, c .before .loop-test .taken, pre .0)
 
--- src/lib.rt:30:5
+-- the loop's step
 loop-again : tie.Need-loop-again Inv-loop μ-loop
 loop-again c =
     let start = c .before .before .before .before .before .before in
@@ -44,7 +44,7 @@ loop-again c =
           (loop .inv .2),
     )
 
--- src/lib.rt:25:1
+-- the end
 returns : tie.Need-returns Inv-loop μ-loop
 returns c =
     let loop = c .before .loop in
@@ -59,9 +59,9 @@ fill-starts-spec =
     loop-holds
     linked-before-requires
     cast-starts
-    -- by search: mul-starts 31:9, slice-write-starts 31:9, add-i 32:9, loop-less 30:5
+    -- by search: mul-starts, slice-write-starts, add-i, loop-less
     (λ c. search needs) (λ c. search needs) (λ c. search needs) (λ c. search needs)
     loop-again
-    -- by search: same-length 25:1
+    -- by search: same-length
     (λ c. search needs)
     returns)

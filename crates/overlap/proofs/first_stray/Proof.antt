@@ -1,9 +1,9 @@
-use Rattle.overlap.specs.Nine.{strayKey, strayAt}
+use Rattle.overlap.specs.Nine.{strayAt}
 use Rattle.id_links.proofs.Scans.{next-hit, next-miss, next-end}
 use Rattle.id_links.specs.Nearest.{next}
-use lib.ListN.{getD}
+use Rattle.overlap.proofs.TestLaws.{stray-there}
 use native.Mathlib.Omega.{arith}
-use mathlib.Core.Path.{_≡_, _∙_, refl, sym, ap₂}
+use mathlib.Core.Path.{_≡_, _∙_, refl, sym}
 use Prim.Native.Nat.{_-_}
 use borrow.Author.Needs.{needs}
 use Rattle.overlap.proofs.first_stray.Statement.{statement}
@@ -16,7 +16,7 @@ Inv-loop keys starts ends first end j₀ j =
 abbrev μ-loop : tie.MeasureT-loop
 μ-loop keys starts ends first end j₀ j = end - j
 
--- src/lib.rt:86:13
+-- return j
 returns : tie.Need-returns Inv-loop μ-loop
 returns c =
     let after-loop-test = c .before .before .before .before .before .before .before in
@@ -30,15 +30,15 @@ returns c =
     let j = loop .j in
     let loop-test = after-loop-test .loop-test in
     let wide = c .before .before .before .before .wide in
+    let wide2 = c .before .before .wide2 in
+    let is-stray = c .before .is-stray in
     sym (loop .inv
     ∙ next-hit (strayAt keys first end) end j (loop-test .taken)
-    (sym (ap₂ (strayKey (getD keys j 0) first end)
-    (wide .ensures .0 ∙ pre .0 .0 j (omega (arith, loop-test .taken, pre .3)))
-    (c .before .before .wide2 .ensures .0 ∙ pre .0 .1 j (omega (arith, loop-test .taken, pre .3))))
-    ∙ sym (c .before .is-stray .ensures)
+    (sym (stray-there keys (args .starts .now) (args .ends .now) first end j (pre .0) (omega (arith, loop-test .taken, pre .3)) (wide .result)
+    (wide2 .result) (is-stray .result) (wide .ensures .0) (wide2 .ensures .0) (is-stray .ensures))
     ∙ c .if1 .taken))
 
--- src/lib.rt:78:5
+-- the loop's step
 loop-again : tie.Need-loop-again Inv-loop μ-loop
 loop-again c =
     let after-loop-test = c .before .before .before .before .before .before .before in
@@ -52,15 +52,15 @@ loop-again c =
     let j = loop .j in
     let loop-test = after-loop-test .loop-test in
     let wide = c .before .before .before .before .wide in
+    let wide2 = c .before .before .wide2 in
+    let is-stray = c .before .is-stray in
     loop .inv
     ∙ next-miss (strayAt keys first end) end j (loop-test .taken)
-    (sym (ap₂ (strayKey (getD keys j 0) first end)
-    (wide .ensures .0 ∙ pre .0 .0 j (omega (arith, loop-test .taken, pre .3)))
-    (c .before .before .wide2 .ensures .0 ∙ pre .0 .1 j (omega (arith, loop-test .taken, pre .3))))
-    ∙ sym (c .before .is-stray .ensures)
+    (sym (stray-there keys (args .starts .now) (args .ends .now) first end j (pre .0) (omega (arith, loop-test .taken, pre .3)) (wide .result)
+    (wide2 .result) (is-stray .result) (wide .ensures .0) (wide2 .ensures .0) (is-stray .ensures))
     ∙ c .if1 .left)
 
--- src/lib.rt:73:1
+-- j
 returns-2 : tie.Need-returns-2 Inv-loop μ-loop
 returns-2 c =
     let args = c .before .before .before .before .before .args in
@@ -74,13 +74,13 @@ first-stray-spec =
     (tie.spec
     Inv-loop
     μ-loop
-    -- by one step: loop-holds 78:5, mul-is-stray 80:13, shared-slice-read-is-stray 80:13, mul-wide 83:25,
-    -- shared-slice-read-wide 83:25, wide-requires 83:13, mul-wide-2 84:25, shared-slice-read-wide-2 84:25,
-    -- wide-requires-2 84:13, is-stray-requires 79:12
+    -- by one step: loop-holds, mul-is-stray, shared-slice-read-is-stray, mul-wide,
+    -- shared-slice-read-wide, wide-requires, mul-wide-2, shared-slice-read-wide-2,
+    -- wide-requires-2, is-stray-requires
     (λ c. refl) (λ c. search needs) (λ c. search needs) (λ c. search needs) (λ c. search needs)
     (λ c κs. search needs) (λ c. search needs) (λ c. search needs) (λ c κs. search needs) (λ c κs. search needs)
     returns
-    -- by search: add-j 88:9, loop-less 78:5
+    -- by search: add-j, loop-less
     (λ c. search needs) (λ c. search needs)
     loop-again
     returns-2)

@@ -6,7 +6,7 @@ use borrow.Author.Needs.{needs}
 use Rattle.overlap.proofs.is_pair_start.Statement.{statement}
 use Rattle.overlap.proofs.is_pair_start.Tie as tie
 
--- src/lib.rt:94:1
+-- (keys::class_of(key) == 2) & (keys::half_of(key) == 1)
 returns : tie.Need-returns
 returns c = ap₂ (λ (x h : ℕ). eqb x 2 && eqb h 1) (c .before .class-of .ensures) (c .half-of .ensures)
 
@@ -14,6 +14,6 @@ pub is-pair-start-spec : {M : Type 1} → statement M
 is-pair-start-spec =
     tie.close
     (tie.spec
-    -- by search: class-of-requires 97:6, half-of-requires 97:35
+    -- by search: class-of-requires, half-of-requires
     (λ c κs. search needs) (λ c κs. search needs)
     returns)

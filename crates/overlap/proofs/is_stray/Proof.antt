@@ -2,7 +2,7 @@ use borrow.Author.Needs.{needs}
 use Rattle.overlap.proofs.is_stray.Statement.{statement}
 use Rattle.overlap.proofs.is_stray.Tie as tie
 
--- src/lib.rt:64:1
+-- ((class == 3) | (class == 4)) | ((class == 2) & !((first < before) | (after < end)))
 returns : tie.Need-returns
 returns c = simp (c .class-of .ensures)
 
@@ -10,6 +10,6 @@ pub is-stray-spec : {M : Type 1} → statement M
 is-stray-spec =
     tie.close
     (tie.spec
-    -- by search: class-of-requires 67:9
+    -- by search: class-of-requires
     (λ c κs. search needs)
     returns)

@@ -2,7 +2,7 @@ use borrow.Author.Needs.{needs}
 use Rattle.overlap.proofs.nine_in.Statement.{statement}
 use Rattle.overlap.proofs.nine_in.Tie as tie
 
--- src/lib.rt:189:9
+-- return start
 returns : tie.Need-returns
 returns c =
     let start = c .before .before .before .before .before .args .start in
@@ -12,8 +12,8 @@ pub nine-in-spec : {M : Type 1} → statement M
 nine-in-spec =
     tie.close
     (tie.spec
-    -- by search: all-open-requires 188:8
+    -- by search: all-open-requires
     (λ c κs. search needs)
     returns
-    -- by search: nine-by-halves-requires 191:5, returns-2 184:1
+    -- by search: nine-by-halves-requires, returns-2
     (λ c κs. search needs) (λ c. search needs))

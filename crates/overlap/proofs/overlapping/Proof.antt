@@ -22,14 +22,14 @@ Inv-loop t os keys starts ends best₀ i₀ best i =
 abbrev μ-loop : tie.MeasureT-loop
 μ-loop t os keys starts ends best₀ i₀ best i = length os - i
 
--- src/lib.rt:149:13
+-- encloses_stray(t, os, keys, starts, ends, i)
 encloses-stray-requires : tie.Need-encloses-stray-requires Inv-loop μ-loop
 unfolding earlier
 encloses-stray-requires c κs =
     let pre = c .before .before .before .before .before .before .before .pre in
     (pre .0, pre .1, pre .2, pre .3, pre .4, c .loop-test .taken)
 
--- src/lib.rt:148:5
+-- the loop's step
 loop-again : tie.Need-loop-again Inv-loop μ-loop
 unfolding earlier
 loop-again c =
@@ -46,7 +46,7 @@ loop-again c =
           (c .lower-if .ensures),
     )
 
--- src/lib.rt:135:1
+-- best
 returns : tie.Need-returns Inv-loop μ-loop
 unfolding earlier
 returns c =
@@ -64,11 +64,11 @@ overlapping-spec =
     (tie.spec
     Inv-loop
     μ-loop
-    -- by one step: loop-holds 148:5
+    -- by one step: loop-holds
     (λ c. (search needs, refl))
     encloses-stray-requires
-    -- by search: mul-wide 150:57, shared-slice-read-wide 150:57, wide-requires 150:45, lower-if-requires 150:9,
-    -- add-i 151:9, loop-less 148:5
+    -- by search: mul-wide, shared-slice-read-wide, wide-requires, lower-if-requires,
+    -- add-i, loop-less
     (λ c. search needs) (λ c. search needs) (λ c κs. search needs) (λ c κs. search needs) (λ c. search needs)
     (λ c. search needs)
     loop-again

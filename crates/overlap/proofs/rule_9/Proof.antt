@@ -6,7 +6,7 @@ use borrow.Author.Needs.{needs}
 use Rattle.overlap.proofs.rule_9.Statement.{statement}
 use Rattle.overlap.proofs.rule_9.Tie as tie
 
--- src/lib.rt:206:1
+-- nine_in(t, tgt, tkeys, nine_in(t, src, skeys, Place::Nowhere))
 returns : tie.Need-returns
 unfolding fault-9 offsets
 returns c =
@@ -22,6 +22,6 @@ unfolding fault-9 offsets
 rule-9-spec =
     tie.close
     (tie.spec
-    -- by search: nine-in-requires 210:28, nine-in-requires-2 210:5
+    -- by search: nine-in-requires, nine-in-requires-2
     (λ c κs. search needs) (λ c κs. search needs)
     returns)

@@ -1,5 +1,6 @@
 use native.Mathlib.Omega.{arith}
-use mathlib.Core.Path.{_∙_}
+use mathlib.Core.Path.{sym, _∙_}
+use lib.Seq.{length-take-le}
 use Rattle.orders.proofs.WalkLaws.{few-parts}
 use Rattle.sequences.proofs.MarkerLaws.{front-long, both-markers}
 use borrow.Author.Needs.{needs}
@@ -29,7 +30,8 @@ slice-aggregate-keys-at c =
 keys-at-requires : tie.Need-keys-at-requires
 keys-at-requires c κs =
     let sources = c .before .before .before .before .before .before .before .before .before .sources in
-    let pre = c .before .before .before .before .before .before .before .before .before .before .before .before .before .before .before .before .pre in
+    let pre = c .before .before .before .before .before .before .before .before .before .before .before .before
+    .before .before .before .before .pre in
     omega (arith, front-long _ (sources .last .1 .0) (sources .result) (sources .ensures), sources .ensures .1, pre .4)
 
 -- &tgt[..m]
@@ -42,7 +44,8 @@ slice-aggregate-keys-at-2 c =
 keys-at-requires-2 : tie.Need-keys-at-requires-2
 keys-at-requires-2 c κs =
     let targets = c .before .before .before .before .before .before .before .before .before .targets in
-    let pre = c .before .before .before .before .before .before .before .before .before .before .before .before .before .before .before .before .before .before .before .before .before .pre in
+    let pre = c .before .before .before .before .before .before .before .before .before .before .before .before
+    .before .before .before .before .before .before .before .before .before .pre in
     omega (arith, front-long _ (targets .last .1 .1 .0) (targets .result) (targets .ensures), targets .ensures .1, pre .6)
 
 -- Counts { source: k, target: m }
@@ -53,18 +56,17 @@ returns c =
     let targets = after-targets .targets in
     let keys-at = c .before .before .before .before .before .before .before .keys-at in
     let keys-at2 = c .before .before .keys-at2 in
-    let start = c .before .before .before .before .before .before .before .before .before .before .before .before .before .before .before .before .before .before .before .before .before .before .before .before in
+    let start = c .before .before .before .before .before .before .before .before .before .before .before .before
+    .before .before .before .before .before .before .before .before .before .before .before .before in
     let pre = start .pre in (
       both-markers (start .args .t .now) _ (pre .0) (pre .1) (after-targets .before .before .narrow .ensures ∙ pre .2)
           (sources .last .1 .0) (keys-at .last .1 .1 .0) (targets .last .1 .1 .0) (keys-at2 .last .1 .1 .0)
           (sources .result) (targets .result) (keys-at .result) (keys-at2 .result) (sources .ensures) (targets .ensures)
           (keys-at .ensures .0) (keys-at .ensures .1) (keys-at2 .ensures .0) (keys-at2 .ensures .1),
-      sources .ensures .1,
-      targets .ensures .1,
-      sources .ensures .2,
-      keys-at .ensures .2 ∙ pre .4,
-      targets .ensures .2,
-      keys-at2 .ensures .2 ∙ pre .6,
+      front-long _ (sources .last .1 .0) (sources .result) (sources .ensures),
+      sym (length-take-le (sources .result) (keys-at .last .1 .1 .0) (omega (arith, sources .ensures .1, keys-at .ensures .2, pre .4))),
+      front-long _ (targets .last .1 .1 .0) (targets .result) (targets .ensures),
+      sym (length-take-le (targets .result) (keys-at2 .last .1 .1 .0) (omega (arith, targets .ensures .1, keys-at2 .ensures .2, pre .6))),
     )
 
 pub markers-spec : {M : Type 1} → statement M

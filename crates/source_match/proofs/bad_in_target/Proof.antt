@@ -4,7 +4,7 @@ use borrow.Author.Needs.{needs}
 use Rattle.source_match.proofs.bad_in_target.Statement.{statement}
 use Rattle.source_match.proofs.bad_in_target.Tie as tie
 
--- src/lib.rt:125:1
+-- | (code & copies_none(t, os, keys, links, heads, x))
 returns : tie.Need-returns
 returns c =
     let after-is-code = c .before .before .before .before .before in
@@ -18,6 +18,6 @@ pub bad-in-target-spec : {M : Type 1} → statement M
 bad-in-target-spec =
     tie.close
     (tie.spec
-    -- by search: matches-by-requires 129:9, is-code-requires 130:9, copies-none-requires 132:19
+    -- by search: matches-by-requires, is-code-requires, copies-none-requires
     (λ c κs. search needs) (λ c κs. search needs) (λ c κs. search needs)
     returns)

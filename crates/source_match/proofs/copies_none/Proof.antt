@@ -5,11 +5,11 @@ use borrow.Author.Needs.{needs}
 use Rattle.source_match.proofs.copies_none.Statement.{statement}
 use Rattle.source_match.proofs.copies_none.Tie as tie
 
--- src/lib.rt:118:9
+-- return false
 returns : tie.Need-returns
 returns c = simp (eq-eqb _ _ (c .if1 .taken))
 
--- src/lib.rt:113:1
+-- !m.copies
 returns-2 : tie.Need-returns-2
 returns-2 c =
     let args = c .before .before .before .before .before .before .before .before .before .args in
@@ -22,6 +22,6 @@ copies-none-spec =
     tie.close
     (tie.spec
     returns
-    -- by search: matches-by-requires 120:9
+    -- by search: matches-by-requires
     (λ c κs. search needs)
     returns-2)

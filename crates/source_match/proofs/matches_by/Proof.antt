@@ -17,7 +17,7 @@ Inv-loop t os keys links heads id x found₀ g j₀ found j = Following t os key
 abbrev μ-loop : tie.MeasureT-loop
 μ-loop t os keys links heads id x found₀ g j₀ found j = j
 
--- src/lib.rt:97:5
+-- the loop's start
 loop-holds : tie.Need-loop-holds Inv-loop μ-loop
 loop-holds c =
     let start = c .before .before .before .before .before .before .before .before in
@@ -27,7 +27,7 @@ loop-holds c =
     (start .pre) (c .wide2 .result)
     (c .wide2 .ensures .0 ∙ ap (λ (n : ℕ). getD heads (n % 256) 0) (c .before .before .wide .ensures .0))
 
--- src/lib.rt:99:49
+-- keys[i]
 shared-slice-read-one-more : tie.Need-shared-slice-read-one-more Inv-loop μ-loop
 shared-slice-read-one-more c =
     let start = c .before .before .before .before .before .before .before .before .before .before .before .before
@@ -43,7 +43,7 @@ shared-slice-read-one-more c =
       loop-test .taken,
     )
 
--- src/lib.rt:99:9
+-- one_more(t, views::wide(os[i]), keys[i], id, x, found)
 one-more-requires : tie.Need-one-more-requires Inv-loop μ-loop
 one-more-requires c κs =
     let start = c .before .before .before .before .before .before .before .before .before .before .before .before
@@ -56,7 +56,7 @@ one-more-requires c κs =
     ∙ key-at t (args .os .now) (loop .j - 1) (omega (arith, loop .inv .0, loop-test .taken))
     ∙ ap (λ (k : ℕ). key (item-at t k)) (sym (c .before .wide3 .ensures .0))
 
--- src/lib.rt:100:25
+-- links[i]
 shared-slice-read-wide-3 : tie.Need-shared-slice-read-wide-3 Inv-loop μ-loop
 shared-slice-read-wide-3 c =
     let after-loop-test = c .before .before .before .before .before in
@@ -66,7 +66,7 @@ shared-slice-read-wide-3 c =
     let loop-test = after-loop-test .loop-test in
     omega (arith, pre .3, loop .inv .0, loop-test .taken)
 
--- src/lib.rt:97:5
+-- the loop ends
 loop-less : tie.Need-loop-less Inv-loop μ-loop
 loop-less c =
     let after-loop-test = c .before .before .before .before .before .before in
@@ -81,7 +81,7 @@ loop-less c =
           (args .x) (start .pre) (loop .found) (loop .j) (loop-test .taken) (loop .inv),
     )
 
--- src/lib.rt:97:5
+-- the loop's step
 loop-again : tie.Need-loop-again Inv-loop μ-loop
 loop-again c =
     let after-loop-test = c .before .before .before .before .before .before in
@@ -95,7 +95,7 @@ loop-again c =
     (args .x) (start .pre) (loop .found) (one-more .result) (loop .j) (wide3 .result) (c .wide4 .result)
     (loop-test .taken) (loop .inv) (wide3 .ensures .0) (one-more .ensures) (c .wide4 .ensures .0)
 
--- src/lib.rt:77:1
+-- found
 returns : tie.Need-returns Inv-loop μ-loop
 returns c =
     let start = c .before .before .before .before .before .before .before .before .before .before in
@@ -110,18 +110,18 @@ matches-by-spec =
     (tie.spec
     Inv-loop
     μ-loop
-    -- by one step: wide-requires 95:13, mul-wide 96:29, shared-slice-read-wide 96:29, wide-requires-2 96:9
+    -- by one step: wide-requires, mul-wide, shared-slice-read-wide, wide-requires-2
     (λ c κs. search needs) (λ c. search needs) (λ c. omega arith) (λ c κs. search needs)
     loop-holds
-    -- by search: sub-i 98:17, mul-wide-2 99:41, shared-slice-read-wide-2 99:41, wide-requires-3 99:29,
-    -- mul-one-more 99:49
+    -- by search: sub-i, mul-wide-2, shared-slice-read-wide-2, wide-requires-3,
+    -- mul-one-more
     (λ c. search needs) (λ c. search needs) (λ c. search needs) (λ c κs. search needs) (λ c. search needs)
     shared-slice-read-one-more
     one-more-requires
-    -- by search: mul-wide-3 100:25
+    -- by search: mul-wide-3
     (λ c. search needs)
     shared-slice-read-wide-3
-    -- by search: wide-requires-4 100:9
+    -- by search: wide-requires-4
     (λ c κs. search needs)
     loop-less
     loop-again

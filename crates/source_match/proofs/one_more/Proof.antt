@@ -9,14 +9,14 @@ use borrow.Author.Needs.{needs}
 use Rattle.source_match.proofs.one_more.Statement.{statement}
 use Rattle.source_match.proofs.one_more.Tie as tie
 
--- src/lib.rt:64:9
+-- return found
 returns : tie.Need-returns
 returns c =
     let args = c .before .before .args in
     matches-other-id (args .id) (args .x) (item-at (args .t .now) (args .at)) (args .k) (args .found)
     (c .before .before .pre) (not-true _ (c .if1 .taken))
 
--- src/lib.rt:59:1
+-- the end
 returns-2 : tie.Need-returns-2
 returns-2 c =
     let after-matches-of = c .before .before .before .before .before .before .before .before in
@@ -37,6 +37,6 @@ one-more-spec =
     tie.close
     (tie.spec
     returns
-    -- by search: view-at-requires 66:27, matches-of-requires 66:9
+    -- by search: view-at-requires, matches-of-requires
     (λ c κs. search needs) (λ c κs. search needs)
     returns-2)

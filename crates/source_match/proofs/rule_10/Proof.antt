@@ -1,39 +1,39 @@
 use native.Mathlib.Omega.{arith}
-use mathlib.Core.Path.{_∙_, sym, ap}
-use lib.ListN.{length, getD-replicate}
+use mathlib.Core.Path.{_∙_, sym}
+use lib.ListN.{getD-replicate}
 use Rattle.id_links.proofs.Scans.{previous-none}
-use Rattle.halves.proofs.Others.{length-keys}
+use Rattle.halves.proofs.Others.{keys-long}
 use Rattle.source_match.proofs.TenLaws.{rule-10-is}
 use borrow.Author.Needs.{needs}
 use Rattle.source_match.proofs.rule_10.Statement.{statement}
 use Rattle.source_match.proofs.rule_10.Tie as tie
 
--- src/lib.rt:186:5
+-- id_links::link_before(skeys, &mut links, &mut heads)
 link-before-requires : tie.Need-link-before-requires
 link-before-requires c κs =
     let start = c .before .before .before .before .before .before .before in
     let pre = start .pre in (
-      omega (arith, ap length (pre .2), length-keys (start .args .t .now) (start .args .src .now), pre .4),
+      omega (arith, keys-long (start .args .t .now) (start .args .src .now) _ (pre .2), pre .5),
       search needs,
       search needs,
       λ g l. getD-replicate 256 g 0 0 l ∙ sym (previous-none _),
     )
 
--- src/lib.rt:195:9
+-- ten_source(t, src, skeys)
 ten-source-requires : tie.Need-ten-source-requires
 ten-source-requires c κs =
     let pre = c .before .before .before .before .before .before .before .before .before .before .before .before
     .pre in
     pre .2
 
--- src/lib.rt:187:5
+-- ten_target(t, src, skeys, &links, &heads, tgt, tkeys, ten_source(t, src, skeys))
 ten-target-requires : tie.Need-ten-target-requires
 ten-target-requires c κs =
     let pre = c .before .before .before .before .before .before .before .before .before .before .before .before
     .before .pre in
-    (search needs, pre .5)
+    (search needs, pre .4)
 
--- src/lib.rt:180:1
+-- ten_target(t, src, skeys, &links, &heads, tgt, tkeys, ten_source(t, src, skeys))
 returns : tie.Need-returns
 returns c =
     let start = c .before .before .before .before .before .before .before .before .before .before .before .before
@@ -48,10 +48,10 @@ pub rule-10-spec : {M : Type 1} → statement M
 rule-10-spec =
     tie.close
     (tie.spec
-    -- by search: slice-aggregate-link-before 186:34, slice-aggregate-link-before-2 186:46
+    -- by search: slice-aggregate-link-before, slice-aggregate-link-before-2
     (λ c. search needs) (λ c. search needs)
     link-before-requires
-    -- by search: slice-aggregate-ten-target 191:9, slice-aggregate-ten-target-2 192:9
+    -- by search: slice-aggregate-ten-target, slice-aggregate-ten-target-2
     (λ c. search needs) (λ c. search needs)
     ten-source-requires
     ten-target-requires

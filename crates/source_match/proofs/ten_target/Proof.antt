@@ -1,18 +1,16 @@
-use Rattle.keys.specs.Keys.{key}
 use native.Mathlib.Omega.{arith}
-use Rattle.halves.proofs.Others.{length-keys, key-at}
-use Prim.Native.Nat.{ℕ, suc, _-_, _≤_}
-use mathlib.Core.List.{List, []}
-use mathlib.Core.Path.{_≡_, _∙_, refl, sym, ap}
-use lib.ListN.{length, drop, getD}
+use Rattle.halves.proofs.Others.{keys-long, key-there, view-there}
+use Prim.Native.Nat.{_-_, _≤_}
+use mathlib.Core.List.{[]}
+use mathlib.Core.Path.{_≡_, _∙_, refl, sym}
+use lib.ListN.{length, drop}
 use Rattle.answers.specs.Answers.{toward}
 use Rattle.answers.proofs.Places.{blamed-end}
-use Rattle.xliff.specs.Sequences.{blamed, items}
+use Rattle.xliff.specs.Sequences.{blamed}
 use Rattle.xliff.specs.Rules.{bad-10-target}
-use Rattle.views.specs.Views.{viewOf, itemsAt}
-use Rattle.source_match.specs.Ten.{badTenTarget}
-use Rattle.source_match.proofs.TestLaws.{ten-target-is}
-use Rattle.places.specs.Markers.{item-at, placed-at}
+use Rattle.views.specs.Views.{itemsAt}
+use Rattle.source_match.proofs.TestLaws.{ten-target-bad}
+use Rattle.places.specs.Markers.{placed-at}
 use Rattle.halves.specs.Nearest.{earlier, marker-at}
 use Rattle.halves.proofs.TwoSequences.{blamed-step}
 use borrow.Author.Needs.{needs}
@@ -29,29 +27,26 @@ Inv-loop t src skeys links heads os keys best₀ i₀ best i =
 abbrev μ-loop : tie.MeasureT-loop
 μ-loop t src skeys links heads os keys best₀ i₀ best i = length os - i
 
--- src/lib.rt:170:77
+-- keys[i]
 shared-slice-read-view-at : tie.Need-shared-slice-read-view-at Inv-loop μ-loop
 unfolding earlier
 shared-slice-read-view-at c =
     let start = c .before .before .before .before .before .before .before .before .before .before .before .before in
     let loop-test = c .before .before .before .loop-test in
-    omega
-    (arith, ap length (start .pre .1), length-keys (start .args .t .now) (start .args .os .now), loop-test .taken)
+    omega (arith, keys-long (start .args .t .now) (start .args .os .now) _ (start .pre .1), loop-test .taken)
 
--- src/lib.rt:170:56
+-- keys::view_at(t, at, keys[i])
 view-at-requires : tie.Need-view-at-requires Inv-loop μ-loop
 unfolding earlier
 view-at-requires c κs =
     let start = c .before .before .before .before .before .before .before .before .before .before .before .before in
     let args = start .args in
-    let t = args .t .now in
-    let loop = c .before .before .before .before .loop in
-    let loop-test = c .before .before .before .loop-test in
-    ap (λ (l : List ℕ). getD l (loop .i) 0) (start .pre .1)
-    ∙ key-at t (args .os .now) (loop .i) (loop-test .taken)
-    ∙ ap (λ (k : ℕ). key (item-at t k)) (sym (c .before .wide .ensures .0))
+    let i = c .before .before .before .before .loop .i in
+    let wide = c .before .wide in
+    key-there (args .t .now) (args .os .now) _ (start .pre .1) i (wide .result) (c .before .before .before .loop-test .taken)
+    (wide .ensures .0)
 
--- src/lib.rt:170:13
+-- bad_in_target(t, src, skeys, links, heads, keys::view_at(t, at, keys[i]))
 bad-in-target-requires : tie.Need-bad-in-target-requires Inv-loop μ-loop
 unfolding earlier
 bad-in-target-requires c κs =
@@ -59,7 +54,7 @@ bad-in-target-requires c κs =
     .before .pre in
     pre .0
 
--- src/lib.rt:174:9
+-- i += 1
 add-i : tie.Need-add-i Inv-loop μ-loop
 unfolding earlier
 add-i c =
@@ -68,14 +63,14 @@ add-i c =
     let loop-test = after-loop-test .loop-test in
     omega (arith, loop-test .taken, good)
 
--- src/lib.rt:167:5
+-- the loop ends
 loop-less : tie.Need-loop-less Inv-loop μ-loop
 unfolding earlier
 loop-less c =
     let loop-test = c .before .before .before .before .before .before .loop-test in
     omega (arith, loop-test .taken)
 
--- src/lib.rt:167:5
+-- the loop's step
 loop-again : tie.Need-loop-again Inv-loop μ-loop
 unfolding earlier
 loop-again c =
@@ -88,19 +83,18 @@ loop-again c =
     let i = loop .i in
     let loop-test = after-loop-test .loop-test in
     let wide = c .before .before .before .before .wide in
-    let bad-in-target = c .before .bad-in-target in (
+    let bad-in-target = c .before .bad-in-target in
+    let view-at = c .before .before .view-at in
+    let seen = view-there t os i (wide .result) (view-at .result) (wide .ensures .0) (view-at .ensures) in (
       search needs,
       loop .inv .1
           ∙ blamed-step 10 (bad-10-target (itemsAt t src)) t os i (loop .best) (bad-in-target .result)
           (wide .result) (c .lower-if .result) (loop-test .taken) (wide .ensures .0)
-          (bad-in-target .ensures
-          ∙ ap (badTenTarget (itemsAt t src))
-          (c .before .before .view-at .ensures ∙ ap (λ (k : ℕ). viewOf (item-at t k)) (wide .ensures .0))
-          ∙ ten-target-is (marker-at t os i) (itemsAt t src) (earlier (marker-at t os) i)
-          (items (placed-at t (drop (suc i) os)))) (c .lower-if .ensures),
+          (ten-target-bad t os i (view-at .result) (bad-in-target .result) seen (itemsAt t src) (bad-in-target .ensures))
+          (c .lower-if .ensures),
     )
 
--- src/lib.rt:152:1
+-- best
 returns : tie.Need-returns Inv-loop μ-loop
 unfolding earlier
 returns c =
@@ -119,13 +113,13 @@ ten-target-spec =
     (tie.spec
     Inv-loop
     μ-loop
-    -- by one step: loop-holds 167:5, mul-wide 168:30, shared-slice-read-wide 168:30, wide-requires 168:13,
-    -- mul-view-at 170:77
+    -- by one step: loop-holds, mul-wide, shared-slice-read-wide, wide-requires,
+    -- mul-view-at
     (λ c. (search needs, refl)) (λ c. search needs) (λ c. search needs) (λ c κs. search needs) (λ c. search needs)
     shared-slice-read-view-at
     view-at-requires
     bad-in-target-requires
-    -- by search: lower-if-requires 169:9
+    -- by search: lower-if-requires
     (λ c κs. search needs)
     add-i
     loop-less

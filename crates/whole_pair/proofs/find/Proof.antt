@@ -10,7 +10,7 @@ use borrow.Author.Needs.{needs}
 use Rattle.whole_pair.proofs.find.Statement.{statement}
 use Rattle.whole_pair.proofs.find.Tie as tie
 
--- src/lib.rt:107:9
+-- return in_source(t, id)
 returns : tie.Need-returns
 returns c =
     let args = c .before .before .before .args in
@@ -18,13 +18,13 @@ returns c =
     ∙ ap (λ (l : Content). pairOf (find-whole (args .id) l))
     (sym (of-source (args .side) (unit (args .t .now) .parts) (c .before .if1 .taken)))
 
--- src/lib.rt:109:18
+-- narrow(orders::count_parts(t))
 narrow-requires : tie.Need-narrow-requires
 narrow-requires c κs =
     let start = c .before .before .before in
     omega (arith, c .count-parts .ensures, few-parts (start .args .t .now) (start .pre .0))
 
--- src/lib.rt:109:5
+-- in_target(t, narrow(orders::count_parts(t)), id)
 in-target-requires : tie.Need-in-target-requires
 in-target-requires c κs =
     let start = c .before .before .before .before in
@@ -36,7 +36,7 @@ in-target-requires c κs =
       omega (arith, c .narrow .ensures, count-parts .ensures, few-parts (start .args .t .now) (pre .0)),
     )
 
--- src/lib.rt:102:1
+-- in_target(t, narrow(orders::count_parts(t)), id)
 returns-2 : tie.Need-returns-2
 returns-2 c =
     let args = c .before .before .before .before .before .args in
@@ -49,10 +49,10 @@ pub find-spec : {M : Type 1} → statement M
 find-spec =
     tie.close
     (tie.spec
-    -- by search: in-source-requires 107:9
+    -- by search: in-source-requires
     (λ c κs. search needs)
     returns
-    -- by search: count-parts-requires 109:25
+    -- by search: count-parts-requires
     (λ c κs. search needs)
     narrow-requires
     in-target-requires

@@ -16,7 +16,7 @@ Inv-loop ks id i₀ i =
 abbrev μ-loop : tie.MeasureT-loop
 μ-loop ks id i₀ i = length ks - i
 
--- src/lib.rt:41:5
+-- the loop's start
 loop-holds : tie.Need-loop-holds Inv-loop μ-loop
 loop-holds c = (
   omega arith,
@@ -24,7 +24,7 @@ loop-holds c = (
       (let z : length (c .args .ks .now) ≡ length (c .args .ks .now) - 0 = omega arith in z),
 )
 
--- src/lib.rt:44:13
+-- return i
 returns : tie.Need-returns Inv-loop μ-loop
 returns c =
     let args = c .before .before .before .before .args in
@@ -36,7 +36,7 @@ returns c =
       loop .inv .0,
     )
 
--- src/lib.rt:41:5
+-- the loop's step
 loop-again : tie.Need-loop-again Inv-loop μ-loop
 loop-again c =
     let args = c .before .before .before .before .args in
@@ -48,7 +48,7 @@ loop-again c =
           (c .if1 .left),
     )
 
--- src/lib.rt:37:1
+-- i
 returns-2 : tie.Need-returns-2 Inv-loop μ-loop
 returns-2 c =
     let args = c .before .before .args in
@@ -65,10 +65,10 @@ find-start-spec =
     Inv-loop
     μ-loop
     loop-holds
-    -- by search: mul-k 42:17, shared-slice-read-k 42:17
+    -- by search: mul-k, shared-slice-read-k
     (λ c. search needs) (λ c. search needs)
     returns
-    -- by search: add-i 46:9, loop-less 41:5
+    -- by search: add-i, loop-less
     (λ c. search needs) (λ c. search needs)
     loop-again
     returns-2)

@@ -12,14 +12,14 @@ use borrow.Author.Needs.{needs}
 use Rattle.whole_pair.proofs.in_source.Statement.{statement}
 use Rattle.whole_pair.proofs.in_source.Tie as tie
 
--- src/lib.rt:86:22
+-- &os[..n]
 slice-aggregate-keys-at : tie.Need-slice-aggregate-keys-at
 slice-aggregate-keys-at c =
     let sources = c .before .before .sources in
     sym (length-take-le (sources .result) (sources .last .1 .0)
     (omega (arith, sources .ensures .1, sources .ensures .2)))
 
--- src/lib.rt:86:5
+-- keys::keys_at(t, &os[..n], &mut ks)
 keys-at-requires : tie.Need-keys-at-requires
 keys-at-requires c κs =
     let sources = c .before .before .before .sources in
@@ -30,14 +30,14 @@ keys-at-requires c κs =
       sources .ensures .1,
     )
 
--- src/lib.rt:87:16
+-- &os[..n]
 slice-aggregate-pair-of : tie.Need-slice-aggregate-pair-of
 slice-aggregate-pair-of c =
     let sources = c .before .before .before .before .before .before .sources in
     sym (length-take-le (sources .result) (sources .last .1 .0)
     (omega (arith, sources .ensures .1, sources .ensures .2)))
 
--- src/lib.rt:87:26
+-- &ks[..n]
 slice-aggregate-pair-of-2 : tie.Need-slice-aggregate-pair-of-2
 slice-aggregate-pair-of-2 c =
     let sources = c .before .before .before .before .before .before .before .sources in
@@ -45,7 +45,7 @@ slice-aggregate-pair-of-2 c =
     sym (length-take-le (sources .result) (keys-at .last .1 .1 .0)
     (omega (arith, sources .ensures .1, keys-at .ensures .2)))
 
--- src/lib.rt:87:5
+-- pair_of(t, &os[..n], &ks[..n], id)
 pair-of-requires : tie.Need-pair-of-requires
 pair-of-requires c κs =
     let sources = c .before .before .before .before .before .before .before .sources in
@@ -56,7 +56,7 @@ pair-of-requires c κs =
     (omega (arith, sources .ensures .1, sources .ensures .2))))
     ∙ keys-at .ensures .1
 
--- src/lib.rt:79:1
+-- pair_of(t, &os[..n], &ks[..n], id)
 returns : tie.Need-returns
 returns c =
     let after-sources = c .before .before .before .before .before .before .before .before in
@@ -73,16 +73,16 @@ pub in-source-spec : {M : Type 1} → statement M
 in-source-spec =
     tie.close
     (tie.spec
-    -- by search: slice-aggregate-sources 85:35, sources-requires 85:9, array-share-prefix-os 86:22
+    -- by search: slice-aggregate-sources, sources-requires, array-share-prefix-os
     (λ c. search needs) (λ c κs. search needs) (λ c. search needs)
     slice-aggregate-keys-at
-    -- by search: slice-aggregate-keys-at-2 86:32
+    -- by search: slice-aggregate-keys-at-2
     (λ c. search needs)
     keys-at-requires
-    -- by search: array-share-prefix-os-2 87:16
+    -- by search: array-share-prefix-os-2
     (λ c. search needs)
     slice-aggregate-pair-of
-    -- by search: array-share-prefix-ks 87:26
+    -- by search: array-share-prefix-ks
     (λ c. search needs)
     slice-aggregate-pair-of-2
     pair-of-requires

@@ -13,14 +13,14 @@ use borrow.Author.Needs.{needs}
 use Rattle.whole_pair.proofs.in_target.Statement.{statement}
 use Rattle.whole_pair.proofs.in_target.Tie as tie
 
--- src/lib.rt:97:22
+-- &os[..n]
 slice-aggregate-keys-at : tie.Need-slice-aggregate-keys-at
 slice-aggregate-keys-at c =
     let targets = c .before .before .targets in
     sym (length-take-le (targets .result) (targets .last .1 .1 .0)
     (omega (arith, targets .ensures .1, targets .ensures .2)))
 
--- src/lib.rt:97:5
+-- keys::keys_at(t, &os[..n], &mut ks)
 keys-at-requires : tie.Need-keys-at-requires
 keys-at-requires c κs =
     let targets = c .before .before .before .targets in
@@ -31,14 +31,14 @@ keys-at-requires c κs =
       targets .ensures .1,
     )
 
--- src/lib.rt:98:16
+-- &os[..n]
 slice-aggregate-pair-of : tie.Need-slice-aggregate-pair-of
 slice-aggregate-pair-of c =
     let targets = c .before .before .before .before .before .before .targets in
     sym (length-take-le (targets .result) (targets .last .1 .1 .0)
     (omega (arith, targets .ensures .1, targets .ensures .2)))
 
--- src/lib.rt:98:26
+-- &ks[..n]
 slice-aggregate-pair-of-2 : tie.Need-slice-aggregate-pair-of-2
 slice-aggregate-pair-of-2 c =
     let targets = c .before .before .before .before .before .before .before .targets in
@@ -46,7 +46,7 @@ slice-aggregate-pair-of-2 c =
     sym (length-take-le (targets .result) (keys-at .last .1 .1 .0)
     (omega (arith, targets .ensures .1, keys-at .ensures .2)))
 
--- src/lib.rt:98:5
+-- pair_of(t, &os[..n], &ks[..n], id)
 pair-of-requires : tie.Need-pair-of-requires
 pair-of-requires c κs =
     let targets = c .before .before .before .before .before .before .before .targets in
@@ -57,7 +57,7 @@ pair-of-requires c κs =
     (omega (arith, targets .ensures .1, targets .ensures .2))))
     ∙ keys-at .ensures .1
 
--- src/lib.rt:90:1
+-- pair_of(t, &os[..n], &ks[..n], id)
 returns : tie.Need-returns
 returns c =
     let after-targets = c .before .before .before .before .before .before .before .before in
@@ -76,16 +76,16 @@ pub in-target-spec : {M : Type 1} → statement M
 in-target-spec =
     tie.close
     (tie.spec
-    -- by search: slice-aggregate-targets 96:42, targets-requires 96:9, array-share-prefix-os 97:22
+    -- by search: slice-aggregate-targets, targets-requires, array-share-prefix-os
     (λ c. search needs) (λ c κs. search needs) (λ c. search needs)
     slice-aggregate-keys-at
-    -- by search: slice-aggregate-keys-at-2 97:32
+    -- by search: slice-aggregate-keys-at-2
     (λ c. search needs)
     keys-at-requires
-    -- by search: array-share-prefix-os-2 98:16
+    -- by search: array-share-prefix-os-2
     (λ c. search needs)
     slice-aggregate-pair-of
-    -- by search: array-share-prefix-ks 98:26
+    -- by search: array-share-prefix-ks
     (λ c. search needs)
     slice-aggregate-pair-of-2
     pair-of-requires

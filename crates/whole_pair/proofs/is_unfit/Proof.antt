@@ -3,12 +3,12 @@ use Rattle.xliff.specs.Rules.{end-letter}
 use Rattle.whole_pair.proofs.is_unfit.Statement.{statement}
 use Rattle.whole_pair.proofs.is_unfit.Tie as tie
 
--- src/lib.rt:56:9
+-- return !(end == b'N')
 returns : tie.Need-returns
 unfolding end-letter
 returns c = rw (eq-eqb _ _ (c .if1 .taken))
 
--- src/lib.rt:52:1
+-- !(end == start)
 returns-2 : tie.Need-returns-2
 unfolding end-letter
 returns-2 c = rw (ne-eqb _ _ (c .if1 .left))

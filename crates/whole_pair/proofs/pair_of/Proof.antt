@@ -1,16 +1,13 @@
-use Rattle.places.specs.Markers.{item-at}
-use Rattle.views.specs.Views.{viewOf}
-use Prim.Native.Nat.{ℕ}
-use mathlib.Core.Path.{_∙_, ap}
+use mathlib.Core.Path.{ap}
 use native.Mathlib.Omega.{arith}
 use lib.ListN.{length}
-use Rattle.halves.proofs.Others.{length-keys}
+use Rattle.halves.proofs.Others.{keys-long, view-there}
 use Rattle.whole_pair.proofs.SearchLaws.{none-started, none-ended, complete}
 use borrow.Author.Needs.{needs}
 use Rattle.whole_pair.proofs.pair_of.Statement.{statement}
 use Rattle.whole_pair.proofs.pair_of.Tie as tie
 
--- src/lib.rt:68:9
+-- return FoundPair::Missing
 returns : tie.Need-returns
 returns c =
     let start = c .before .before .before .before .before .before in
@@ -21,7 +18,7 @@ returns c =
     let n = ap length pre in
     none-started (args .t .now) (args .os .now) (args .id) (find-start .result) f (omega (arith, n, c .if1 .taken))
 
--- src/lib.rt:72:9
+-- return FoundPair::Missing
 returns-2 : tie.Need-returns-2
 returns-2 c =
     let start = c .before .before .before .before .before .before .before .before in
@@ -36,23 +33,21 @@ returns-2 c =
     none-ended (args .t .now) (args .os .now) (args .id) (find-start .result) f
     (omega (arith, n, c .before .before .if1 .left)) (half-after .result) g (omega (arith, n, c .if2 .taken))
 
--- src/lib.rt:74:47
+-- os[i]
 shared-slice-read-wide : tie.Need-shared-slice-read-wide
 shared-slice-read-wide c =
     let start = c .before .before .before .before .before .before .before .before .before in
     let if1 = c .before .before .before .if1 in
-    let n = ap length (start .pre) in
-    omega (arith, n, length-keys (start .args .t .now) (start .args .os .now), if1 .left)
+    omega (arith, keys-long (start .args .t .now) (start .args .os .now) _ (start .pre), if1 .left)
 
--- src/lib.rt:75:45
+-- os[j]
 shared-slice-read-wide-2 : tie.Need-shared-slice-read-wide-2
 shared-slice-read-wide-2 c =
     let start = c .before .before .before .before .before .before .before .before .before .before .before .before in
     let if2 = c .before .before .before .before .if2 in
-    let n = ap length (start .pre) in
-    omega (arith, n, length-keys (start .args .t .now) (start .args .os .now), if2 .left)
+    omega (arith, keys-long (start .args .t .now) (start .args .os .now) _ (start .pre), if2 .left)
 
--- src/lib.rt:62:1
+-- FoundPair::Complete(start.pform, is_unfit(start.reorder, end.reorder))
 returns-3 : tie.Need-returns-3
 returns-3 c =
     let after-wide2 = c .before .before .before .before .before in
@@ -68,32 +63,33 @@ returns-3 c =
     let if2 = after-wide2 .before .before .if2 in
     let wide2 = after-wide2 .wide in
     let view-at = c .before .before .before .before .view-at in
+    let wide3 = c .before .before .wide2 in
     let view-at2 = c .before .view-at2 in
     let f = rw (pre, wide .ensures .0) at (find-start .ensures .0) in
     let n = ap length pre in
     let g = rw pre at (half-after .ensures .0) in
     complete t (args .os .now) (args .id) (find-start .result) f (omega (arith, n, if1 .left)) (half-after .result)
     g (omega (arith, n, if2 .left)) (view-at .result) (view-at2 .result)
-    (view-at .ensures ∙ ap (λ (o : ℕ). viewOf (item-at t o)) (wide2 .ensures .0))
-    (view-at2 .ensures ∙ ap (λ (o : ℕ). viewOf (item-at t o)) (c .before .before .wide2 .ensures .0))
+    (view-there t (args .os .now) _ (wide2 .result) (view-at .result) (wide2 .ensures .0) (view-at .ensures))
+    (view-there t (args .os .now) _ (wide3 .result) (view-at2 .result) (wide3 .ensures .0) (view-at2 .ensures))
     (c .is-unfit .result) (c .is-unfit .ensures)
 
 pub pair-of-spec : {M : Type 1} → statement M
 pair-of-spec =
     tie.close
     (tie.spec
-    -- by search: wide-requires 66:28, find-start-requires 66:9
+    -- by search: wide-requires, find-start-requires
     (λ c κs. search needs) (λ c κs. search needs)
     returns
-    -- by search: half-after-requires 70:9
+    -- by search: half-after-requires
     (λ c κs. search needs)
     returns-2
-    -- by search: mul-wide 74:47
+    -- by search: mul-wide
     (λ c. search needs)
     shared-slice-read-wide
-    -- by search: wide-requires-2 74:35, view-at-requires 74:9, mul-wide-2 75:45
+    -- by search: wide-requires-2, view-at-requires, mul-wide-2
     (λ c κs. search needs) (λ c κs. search needs) (λ c. search needs)
     shared-slice-read-wide-2
-    -- by search: wide-requires-3 75:33, view-at-requires-2 75:9, is-unfit-requires 76:38
+    -- by search: wide-requires-3, view-at-requires-2, is-unfit-requires
     (λ c κs. search needs) (λ c κs. search needs) (λ c κs. search needs)
     returns-3)

@@ -1,4 +1,5 @@
--- DEMAND 3, whole: what each accepted call leaves, from the laws of the five operations; then the list of calls by induction (LawBothEnds).
+-- DEMAND 3, whole: what each accepted call leaves, from the laws of the five operations; then the list of calls by
+-- induction (LawBothEnds).
 use Prim.Native.Nat.{ℕ, suc, _+_, _≤_, _<_}
 use native.Mathlib.Omega.{arith}
 use mathlib.Core.Path.{_≡_, refl, sym, ap, _∙_, subst}

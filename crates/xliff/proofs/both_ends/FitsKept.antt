@@ -126,7 +126,12 @@ join-fits ps n f = by (focus ps n) refl
         let (x, y) = rest q a w in
         fit-orders (join-order ps (p .target) (q .target)) (b ++ (join-parts p q ∷ a))
         (each-append b (join-parts p q ∷ a) u
-        (each-cons (record { head = head-one (p .head) (q .head) (v .head) (x .head); source = each-append (p .source) (q .source) (v .source) (x .source); target = goal-one (p .target) (q .target) (v .target) (x .target) }) y))
+        (each-cons
+        (record {
+          head = head-one (p .head) (q .head) (v .head) (x .head);
+          source = each-append (p .source) (q .source) (v .source) (x .source);
+          target = goal-one (p .target) (q .target) (v .target) (x .target);
+        }) y))
 
 -- Set and remove
 pub set-fits : (ps : List Part) (n st : ℕ) (new : Content) → FitContent new → FitParts ps → FitParts (set-focus ps n st new (focus ps n))

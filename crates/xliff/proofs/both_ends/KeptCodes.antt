@@ -1,4 +1,5 @@
--- Codes that may not be removed: in a valid table each stands once; an accepted setting of a target keeps each that stood there.
+-- Codes that may not be removed: in a valid table each stands once; an accepted setting of a target keeps each that
+-- stood there.
 use Prim.Native.Nat.{ℕ, zero, suc, _+_, _≤_}
 use native.Mathlib.Omega.{arith}
 use mathlib.Core.Path.{_≡_, refl, sym, ap, _∙_}

@@ -1,4 +1,5 @@
--- In a valid table a code or half of a pair stands once at most in the target sequence: a start by rule 6, an end by the shapes of rule 7.
+-- In a valid table a code or half of a pair stands once at most in the target sequence: a start by rule 6, an end by
+-- the shapes of rule 7.
 use Prim.Native.Nat.{ℕ, zero, suc, _+_, _≤_}
 use native.Mathlib.Omega.{arith}
 use mathlib.Core.Path.{_≡_, refl, sym, ap, _∙_}

@@ -151,7 +151,8 @@ two-5 b p r a q xs ys pt rt e =
     = orders-append b (p ∷ r ∷ a) ∙ ap₂ (λ (t u : Target). orders b ++ (order-list t ++ (order-list u ++ orders a))) pt rt ∙ sym (append-assoc (orders b) (q ∷ []) (suc q ∷ orders a)) in
     let fit2 : orders-fit (length (b ++ (p ∷ r ∷ a))) [] (orders b ++ (q ∷ []) ++ (suc q ∷ orders a)) ≡ true = ap (orders-fit (length (b ++ (p ∷ r ∷ a))) []) (sym shown) ∙ fit in
     let two = order-fits (length (b ++ (p ∷ r ∷ a))) [] (orders b ++ (q ∷ [])) (suc q) (orders a) fit2 in
-    let less : orders-fit (length (b ++ (p ∷ r ∷ a))) [] (orders b ++ (q ∷ []) ++ orders a) ≡ true = remove-fits (length (b ++ (p ∷ r ∷ a))) [] (orders b ++ (q ∷ [])) (suc q) (orders a) (two .not-after) fit2 in
+    let less : orders-fit (length (b ++ (p ∷ r ∷ a))) [] (orders b ++ (q ∷ []) ++ orders a) ≡ true
+    = remove-fits (length (b ++ (p ∷ r ∷ a))) [] (orders b ++ (q ∷ [])) (suc q) (orders a) (two .not-after) fit2 in
     let free : among (suc q) (orders b ++ (q ∷ []) ++ orders a) ≡ false = among-append (suc q) (orders b ++ (q ∷ [])) (orders a) ∙ or-both _ _ (two .not-before) (two .not-after) in
     let same : orders (b ++ (join-parts p r ∷ a)) ≡ orders b ++ (q ∷ []) ++ orders a
     = orders-append b (join-parts p r ∷ a) ∙ ap₂ (λ (t u : Target). orders b ++ (order-list (join-targets t u) ++ orders a)) pt rt ∙ sym (append-assoc (orders b) (q ∷ []) (orders a)) in

@@ -1,4 +1,5 @@
--- A join of two parts that both have a target, or both have none, keeps rule 7: the refusal 17 is met only where exactly one of them has a target.
+-- A join of two parts that both have a target, or both have none, keeps rule 7: the refusal 17 is met only where
+-- exactly one of them has a target.
 use mathlib.Core.Path.{_≡_, refl, sym, ap, _∙_, subst}
 use mathlib.Core.Bool.{true, false, cond, true≢false, false≢true}
 use mathlib.Core.List.{List, [], _∷_, _++_, append-assoc}

@@ -55,7 +55,11 @@ target-good (target q xs) (target r ys) a b = each-append xs ys a b
 pub part-good : (p q : Part) → GoodPart p → GoodPart q → GoodPart (join-parts p q)
 unfolding join-parts
 part-good p q a b =
-    record { head = head-good (p .head) (q .head) (a .head) (b .head); source = each-append (p .source) (q .source) (a .source) (b .source); target = target-good (p .target) (q .target) (a .target) (b .target) }
+    record {
+      head = head-good (p .head) (q .head) (a .head) (b .head);
+      source = each-append (p .source) (q .source) (a .source) (b .source);
+      target = target-good (p .target) (q .target) (a .target) (b .target);
+    }
 
 pub orders-good : (f : ℕ → ℕ) (ps : List Part) → GoodParts ps → GoodParts (order-parts f ps)
 unfolding order-parts order-part order-target

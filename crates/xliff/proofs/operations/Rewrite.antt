@@ -1,4 +1,5 @@
--- Rewriting the halves of one id: what it does to marks and shapes; the two halves of a pair that a sequence holds; and rule 8 and balance with them.
+-- Rewriting the halves of one id: what it does to marks and shapes; the two halves of a pair that a sequence holds; and
+-- rule 8 and balance with them.
 use Prim.Native.Nat.{ℕ, _+_, _≤_}
 use native.Mathlib.Omega.{arith}
 use mathlib.Core.Path.{_≡_, refl, sym, ap, ap₂, _∙_, subst}

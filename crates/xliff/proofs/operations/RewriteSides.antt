@@ -1,4 +1,5 @@
--- A rewrite on one side of a unit: the contents that hold the pair stay balanced, the other side stays, and the rules 5 to 8 are kept.
+-- A rewrite on one side of a unit: the contents that hold the pair stay balanced, the other side stays, and the rules 5
+-- to 8 are kept.
 use Prim.Native.Nat.{ℕ, zero, suc, _+_, _≤_}
 use native.Mathlib.Omega.{arith}
 use mathlib.Core.Path.{_≡_, refl, sym, ap, ap₂, _∙_, subst}
@@ -168,7 +169,8 @@ module _ (f g : Item → Item) where
   both-balanced (p ∷ ps) (each-cons b h) (each-cons c k) =
       each-cons (record { source = b; target = subst Balanced (sym (items-of g (p .target))) c }) (both-balanced ps h k)
 
--- what is asked of a change of one sequence (xs, of the contents named): no form matters to flattening, to rule 8, to what waits; shapes and balance stay
+-- what is asked of a change of one sequence (xs, of the contents named): no form matters to flattening, to rule 8, to
+-- what waits; shapes and balance stay
 pub record Keeps (f : Item → Item) (e : ℕ → ℕ → Half → Bool) (content : Part → Content) (xs : Content) (ps : List Part) : Type 0 where
   pub flat-same : (x : Item) → flat (f x) ≡ flat x
   pub eased : Eased [] xs (map f xs)

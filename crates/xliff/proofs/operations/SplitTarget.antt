@@ -70,7 +70,8 @@ without-target b p f s a pt ft st e =
     let n : ℕ = length (b ++ (p ∷ a)) in
     let len : length new ≡ n + 1 = simp (length-append, length-map) (omega arith) in
     ap (targets new 0) len ∙ targets-add new 0 n 1
-    ∙ ap₂ _++_ (targets-same new old 0 0 n (λ k l. at (suc (0 + k)))) (ap (λ (l : Content). l ++ []) (at (suc (0 + n)) ∙ unused-order (suc (0 + n)) old (too-high n (suc (0 + n)) [] (orders old) (omega arith) e)))
+    ∙ ap₂ _++_ (targets-same new old 0 0 n (λ k l. at (suc (0 + k))))
+    (ap (λ (l : Content). l ++ []) (at (suc (0 + n)) ∙ unused-order (suc (0 + n)) old (too-high n (suc (0 + n)) [] (orders old) (omega arith) e)))
     ∙ append-nil (targets old 0 n)
   where
     at : (k : ℕ) → target-of-order (order-parts (split-order no-target) b ++ (f ∷ s ∷ order-parts (split-order no-target) a)) k ≡ target-of-order (b ++ (p ∷ a)) k

@@ -1,4 +1,5 @@
--- Bytes of a result: the numbers of a table fit into their bytes, the operations bring in none that do not, so that an accepted result is bytes.
+-- Bytes of a result: the numbers of a table fit into their bytes, the operations bring in none that do not, so that an
+-- accepted result is bytes.
 use Prim.Native.Nat.{ℕ, _+_, _/_, _%_, _≤_, _<_}
 use native.Mathlib.Omega.{arith}
 use mathlib.Core.Path.{_≡_, refl, sym, subst}
@@ -171,7 +172,8 @@ record-bytes-good (part-head h) g f l = head-bytes-good h g f
 record-bytes-good (target-head q) g f l = bytes-append ('T' ∷ 'G' ∷ []) (two q) (letters ('T' ∷ 'G' ∷ []) refl) (fits-two q f)
 record-bytes-good (text-run cs) g f l =
     let a = length-append (two (length (utf8s cs))) (utf8s cs) in
-    bytes-append ('T' ∷ 'X' ∷ []) (two (length (utf8s cs)) ++ utf8s cs) (letters ('T' ∷ 'X' ∷ []) refl) (bytes-append (two (length (utf8s cs))) (utf8s cs) (fits-two (length (utf8s cs)) (omega arith)) (utf8s-bytes cs g))
+    bytes-append ('T' ∷ 'X' ∷ []) (two (length (utf8s cs)) ++ utf8s cs) (letters ('T' ∷ 'X' ∷ []) refl)
+    (bytes-append (two (length (utf8s cs))) (utf8s cs) (fits-two (length (utf8s cs)) (omega arith)) (utf8s-bytes cs g))
 record-bytes-good (inline x) g f l = bytes-append (mark x) (field-bytes x) (mark-bytes x) f
 record-bytes-good ill-text g f l = absurd g
 record-bytes-good (broken b) g f l = absurd g

@@ -1,4 +1,5 @@
--- Rule 7 for pc and mrk: in a content each such half has its partner (`lone-P` blames none) exactly when its marks run from no open key to none.
+-- Rule 7 for pc and mrk: in a content each such half has its partner (`lone-P` blames none) exactly when its marks run
+-- from no open key to none.
 use Prim.Native.Nat.{ℕ}
 use native.Mathlib.Omega.{arith}
 use mathlib.Core.Path.{_≡_, refl, sym, ap, ap₂, _∙_, subst}
@@ -17,7 +18,8 @@ use Rattle.xliff.proofs.rules.Stack.{Key, key, PM, skip, opn, cls, Run,
 abbrev pub key-of : Item → Key
 key-of y = key (class y) (id-of y)
 
--- an item as a mark of the stack, read towards its end (n = 1) or towards its start (n = 2): such a half opens, the other half closes
+-- an item as a mark of the stack, read towards its end (n = 1) or towards its start (n = 2): such a half opens, the
+-- other half closes
 abbrev pub toward : ℕ → Item → PM
 toward n y = cond (is-form-P y) (cond (eqb (half y) n) (opn (key-of y)) (cls (key-of y))) skip
 

@@ -1,4 +1,5 @@
--- What keeps rule 8: sequences whose forms change, where each end that takes the mark of pc has the PC letter; and sequences from which a stretch is taken out.
+-- What keeps rule 8: sequences whose forms change, where each end that takes the mark of pc has the PC letter; and
+-- sequences from which a stretch is taken out.
 use Prim.Native.Nat.{ℕ, _+_}
 use mathlib.Core.Path.{_≡_, refl, sym, ap, ap₂, _∙_, subst}
 use mathlib.Core.Bool.{Bool, true, false, not, _&&_, _||_, cond, true≢false, false≢true}
@@ -89,7 +90,9 @@ eased-at true (some s) e rest p q h k = by q p h k
     down : (f l : Bool) → ends ((f || true) && not l) || rest ≡ false → ends ((f || false) && not l) || rest ≡ false
     down f true m = subst (λ (z : Bool). ends z || rest ≡ false) (sym (and-false (f || false))) (subst (λ (z : Bool). ends z || rest ≡ false) (and-false (f || true)) m)
     down true false m = m
-    down false false m = lower (not (eqb (s .copyOf) (e .copyOf))) (not (eqb (s .canCopy) (e .canCopy))) (not (eqb (s .canDelete) (e .canDelete))) (not (eqb (s .canOverlap) (e .canOverlap))) true false m
+    down false false m =
+        lower (not (eqb (s .copyOf) (e .copyOf))) (not (eqb (s .canCopy) (e .canCopy)))
+        (not (eqb (s .canDelete) (e .canDelete))) (not (eqb (s .canOverlap) (e .canOverlap))) true false m
 
     up : (f l : Bool) → l ≡ true → ends ((f || false) && not l) || rest ≡ false → ends ((f || true) && not l) || rest ≡ false
     up f true z m = subst (λ (z : Bool). ends z || rest ≡ false) (sym (and-false (f || true))) (subst (λ (z : Bool). ends z || rest ≡ false) (and-false (f || false)) m)

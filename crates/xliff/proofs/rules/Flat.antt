@@ -1,4 +1,5 @@
--- Laws of flattened sequences: the rules 9 and 10 see no forms, so that two units with equal flattened sequences meet them alike.
+-- Laws of flattened sequences: the rules 9 and 10 see no forms, so that two units with equal flattened sequences meet
+-- them alike.
 use Prim.Native.Nat.{ℕ}
 use mathlib.Core.Path.{_≡_, refl, sym, ap, ap₂, _∙_}
 use mathlib.Core.Bool.{Bool, true, false, not, _&&_, _||_, cond}

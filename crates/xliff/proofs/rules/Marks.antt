@@ -1,4 +1,5 @@
--- The halves of one id in a sequence, as a list of marks; the shapes that rules 6 and 7 leave to them; and rule 7 for the marks of start and end as shapes.
+-- The halves of one id in a sequence, as a list of marks; the shapes that rules 6 and 7 leave to them; and rule 7 for
+-- the marks of start and end as shapes.
 use Prim.Native.Nat.{ℕ, _+_, _≤_}
 use native.Mathlib.Omega.{arith}
 use mathlib.Core.Path.{_≡_, refl, sym, ap, ap₂, _∙_, subst}
@@ -41,7 +42,8 @@ pub marks-append : (i : ℕ) (xs ys : Content) → marks i (xs ++ ys) ≡ marks 
 unfolding marks
 marks-append i xs ys = gather-append (mkOf i) xs ys
 
--- none; and-both halves in one form, start first; or one half alone, with the mark of a start or an end, where e allows it
+-- none; both halves in one form, start first; or one half alone, with the mark of a start or an end, where e allows
+-- it
 pub data Shape (e : ℕ → Half → Bool) : List Mk → Type 0 where
   sh-none : Shape e []
   sh-pair : (c : ℕ) (w : Bool) → Shape e (mk c w start ∷ mk c w end ∷ [])

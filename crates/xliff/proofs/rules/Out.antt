@@ -24,9 +24,13 @@ module _ (t : Item → Bool) where
   pub out-alone : (b b′ A c B : Content) → clear alone b (A ++ (c ++ B)) ≡ true → clear alone b′ (A ++ B) ≡ true
   unfolding clear
   out-alone b b′ [] [] [] e = refl
-  out-alone b b′ [] [] (x ∷ B) e = and-both (not (t x)) (clear alone (x ∷ b′) B) (and-left (not (t x)) (clear alone (x ∷ b) B) e) (out-alone (x ∷ b) (x ∷ b′) [] [] B (and-right (not (t x)) _ e))
+  out-alone b b′ [] [] (x ∷ B) e =
+      and-both (not (t x)) (clear alone (x ∷ b′) B) (and-left (not (t x)) (clear alone (x ∷ b) B) e)
+      (out-alone (x ∷ b) (x ∷ b′) [] [] B (and-right (not (t x)) _ e))
   out-alone b b′ [] (y ∷ c) B e = out-alone (y ∷ b) b′ [] c B (and-right (not (t y)) _ e)
-  out-alone b b′ (x ∷ A) c B e = and-both (not (t x)) (clear alone (x ∷ b′) (A ++ B)) (and-left (not (t x)) (clear alone (x ∷ b) (A ++ (c ++ B))) e) (out-alone (x ∷ b) (x ∷ b′) A c B (and-right (not (t x)) _ e))
+  out-alone b b′ (x ∷ A) c B e =
+      and-both (not (t x)) (clear alone (x ∷ b′) (A ++ B)) (and-left (not (t x)) (clear alone (x ∷ b) (A ++ (c ++ B))) e)
+      (out-alone (x ∷ b) (x ∷ b′) A c B (and-right (not (t x)) _ e))
 
 pub out-10 : (src A c B : Content) → clear (bad-10-target src) [] (A ++ (c ++ B)) ≡ true → clear (bad-10-target src) [] (A ++ B) ≡ true
 unfolding bad-10-target

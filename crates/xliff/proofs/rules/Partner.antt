@@ -1,5 +1,6 @@
--- Where 6 and 7 are met, beside a half there is one other half of its id at most, and that is its partner: of the same class and form, on the other side. So
--- the rules 8, 9, 10 and rewrite may take "the other half of its class and id, the nearest" for the partner (OPEN-POINTS 11).
+-- Where 6 and 7 are met, beside a half there is one other half of its id at most, and that is its partner: of the same
+-- class and form, on the other side. So the rules 8, 9, 10 and rewrite may take "the other half of its class and id,
+-- the nearest" for the partner (OPEN-POINTS 11).
 use Prim.Native.Nat.{ℕ, _+_}
 use native.Mathlib.Omega.{arith}
 use mathlib.Core.Path.{_≡_, refl, sym, ap, ap₂, _∙_, subst}

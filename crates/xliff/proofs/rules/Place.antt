@@ -1,4 +1,5 @@
--- One target in its place: the target sequence is what is before its order, its content, and what is behind its order. So when it is taken out or put in.
+-- One target in its place: the target sequence is what is before its order, its content, and what is behind its order.
+-- So when it is taken out or put in.
 use Prim.Native.Nat.{ℕ, suc, _+_, _-_, _≤_}
 use native.Mathlib.Omega.{arith}
 use mathlib.Core.Path.{_≡_, refl, sym, ap, ap₂, _∙_}

@@ -1,4 +1,5 @@
--- RULE 7, given rule 6, is this: for every id the halves in a sequence have a shape, and the marks of pc and mrk of every content are balanced.
+-- RULE 7, given rule 6, is this: for every id the halves in a sequence have a shape, and the marks of pc and mrk of
+-- every content are balanced.
 use Prim.Native.Nat.{ℕ, zero, suc, _+_, _≤_}
 use native.Mathlib.Omega.{arith}
 use mathlib.Core.Path.{_≡_, refl, sym, ap, ap₂, _∙_, subst}

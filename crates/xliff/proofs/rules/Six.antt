@@ -238,7 +238,8 @@ names-ids w i l =
   where
     by : (v : Bool)
         → num v i (part-name l ++ gather (start-name of-source) (placed-from (source-at l) [] (l .part .source)) ++ gather (start-name of-target) (placed-target (target-at l) (l .part .target)))
-        ≡ num v i (part-name l ++ gather (start-name of-source) (placed-from (source-at l) [] (l .part .source))) + num v i (gather (start-name of-target) (placed-target (target-at l) (l .part .target)))
+        ≡ num v i (part-name l ++ gather (start-name of-source) (placed-from (source-at l) [] (l .part .source)))
+        + num v i (gather (start-name of-target) (placed-target (target-at l) (l .part .target)))
         → num v i (part-name l ++ gather (start-name of-source) (placed-from (source-at l) [] (l .part .source)))
         ≡ num v i (part-name l) + num v i (gather (start-name of-source) (placed-from (source-at l) [] (l .part .source)))
         → num v i (part-name l) ≡ part-bit i (l .part)

@@ -1,4 +1,5 @@
--- Turning halves of pc and mrk to the marks of start and end, by key: what it does to marks, shapes and balance. And: a cut turns by key.
+-- Turning halves of pc and mrk to the marks of start and end, by key: what it does to marks, shapes and balance. And: a
+-- cut turns by key.
 use Prim.Native.Nat.{ℕ, _+_}
 use mathlib.Core.Path.{_≡_, refl, sym, ap, ap₂, _∙_, subst}
 use mathlib.Core.Bool.{Bool, true, false, not, _&&_, _||_, cond, true≢false, false≢true}

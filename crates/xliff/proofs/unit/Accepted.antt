@@ -1,5 +1,5 @@
--- An accepted operation: the sent unit and the result's unit are in order, and the result is the bytes of that unit. So the result is valid, it is read back
--- as that unit, and it is bytes if the unit's numbers fit.
+-- An accepted operation: the sent unit and the result's unit are in order, and the result is the bytes of that unit. So
+-- the result is valid, it is read back as that unit, and it is bytes if the unit's numbers fit.
 use Prim.Native.Nat.{ℕ, _≤_}
 use native.Mathlib.Omega.{arith}
 use mathlib.Core.Path.{_≡_, sym, ap, _∙_, subst}

@@ -1,4 +1,5 @@
--- Laws of results: a unit of good parts, within the limits, that meets 5 to 10 is valid as bytes. And what acceptance says.
+-- Laws of results: a unit of good parts, within the limits, that meets 5 to 10 is valid as bytes. And what acceptance
+-- says.
 use Rattle.xliff.specs.Good.{each-cons, GoodRecord, AllGood, GoodParts}
 use Prim.Native.Nat.{ℕ, _-_, _≤_}
 use mathlib.Core.Path.{_≡_, refl, sym, ap, _∙_, subst}

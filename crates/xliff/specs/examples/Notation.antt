@@ -1,4 +1,5 @@
--- The records and requests of document 01 in its notation, for the examples: `SG 1 '-' 'I'` is the document's `SG` 1 - I.
+-- The records and requests of document 01 in its notation, for the examples: `SG 1 '-' 'I'` is the document's `SG` 1 -
+-- I.
 use Prim.Native.Nat.{ℕ}
 use mathlib.Core.List.{List, [], _∷_, _++_}
 use lib.ListN.{length}
