@@ -12,7 +12,7 @@ use Rattle.xliff.proofs.unit.Pieces.{spell-append, part-bytes}
 use Rattle.writer.specs.Pieces.{lead, Written}
 use Rattle.writer.proofs.RunLaws.{Pieces, pair}
 use Rattle.heads.specs.Heads.{OrderIs, HeadRoom}
-use Rattle.heads.proofs.HeadLaws.{target-long, id-long}
+use Rattle.heads.proofs.HeadLaws.{id-long}
 use Rattle.part_contents.specs.Targets.{TargetIs}
 use Rattle.part_contents.proofs.TargetLaws.{Present, absent, target-bytes, no-bytes}
 use Rattle.halves_of_part.specs.Parts.{PartIs, Rises, halves}
@@ -53,9 +53,6 @@ module _ (t : List ℕ) (g : Target) (p : Present t g) (k r : ℕ) (o : OrderIs 
   -- the order can rise
   pub order-rises : Rises g → r < 65535
   order-rises s = let z = order-is in let small : p .order < 65535 = subst Rises (p .is) s in omega arith
-
-pub room-of-head : (q : ℕ) (o : List ℕ) → length (record-bytes (target-head q)) ≤ length o → 4 ≤ length o
-room-of-head q o h = omega (arith, target-long q)
 
 -- a half: its head, its source content, its target
 module _ (k j : ℕ) (p : Part) where

@@ -15,7 +15,7 @@ use Rattle.writer.specs.Pieces.{lead, overlay, numberBytes, Written}
 use Rattle.writer.proofs.PieceLaws.{over-lead}
 use Rattle.writer.proofs.RunLaws.{Pieces, pair}
 use Rattle.table.specs.declared.Segment.{Segment}
-use Rattle.heads.specs.Heads.{fields, is-segment, SomeSegment, ResegmentIs, SegmentIs, FieldsAre, OrderIs, WroteId}
+use Rattle.heads.specs.Heads.{fields, is-segment, SomeUnit, SomeTarget, SomeSegment, ResegmentIs, SegmentIs, FieldsAre, OrderIs, WroteId}
 
 -- how long they are
 pub segment-long : (f : unit.Segment) → length (head-bytes (segment f)) ≡ 6
@@ -25,6 +25,9 @@ segment-long f = refl
 pub some-long : (t : List ℕ) → SomeSegment t → length t ≡ 6
 some-long t (f, e) = sym (ap length e) ∙ segment-long f
 
+pub state-room : (t : List ℕ) → SomeSegment t → (f : unit.Segment) (o : List ℕ) → length t ≤ length o → length (head-bytes (segment f)) ≤ length o
+state-room t s f o h = omega (arith, some-long t s, segment-long f)
+
 pub head-long : (h : Head) → 4 ≤ length (head-bytes h)
 unfolding head-bytes two
 head-long (segment f) = omega arith
@@ -33,6 +36,13 @@ head-long (ignorable i) = omega arith
 pub target-long : (q : ℕ) → length (record-bytes (target-head q)) ≡ 4
 unfolding record-bytes two
 target-long q = refl
+
+pub unit-least : (t : List ℕ) → SomeUnit t → 3 ≤ length t
+unfolding record-bytes
+unit-least t (o, s, e) = omega (arith, ap length e)
+
+pub target-least : (t : List ℕ) → SomeTarget t → 4 ≤ length t
+target-least t (q, s, e) = omega (arith, ap length e, length-append (record-bytes (target-head q)) s, target-long q)
 
 pub state-long : (st : ℕ) (h : Head) → length (head-bytes (with-state st h)) ≡ length (head-bytes h)
 unfolding head-bytes with-state two
@@ -123,6 +133,3 @@ target-wrote q o a b m m2 ea eb = eb ∙ over-lead o (84 ∷ 71 ∷ []) (numberB
 -- a target: its head, then its content
 abbrev pub target-pieces : (q : ℕ) (c : List ℕ) → Pieces (record-bytes (target-head q) ++ c)
 target-pieces q c = pair (record-bytes (target-head q)) c refl
-
-pub target-room : (q : ℕ) (c o : List ℕ) → 4 + length c ≤ length o → length (record-bytes (target-head q) ++ c) ≤ length o
-target-room q c o h = omega (arith, length-append (record-bytes (target-head q)) c, target-long q)

@@ -19,7 +19,14 @@ abbrev pub is-segment : Head → Bool
 is-segment (segment f) = true
 is-segment (ignorable i) = false
 
--- the bytes are those of a head, of a segment's head
+-- the bytes begin with a unit's opening, with a target's head
+abbrev pub SomeUnit : List ℕ → Type 0
+SomeUnit t = (o : Opening) × (s : List ℕ) × (t ≡ record-bytes (opening o) ++ s)
+
+abbrev pub SomeTarget : List ℕ → Type 0
+SomeTarget t = (q : ℕ) × (s : List ℕ) × (t ≡ record-bytes (target-head q) ++ s)
+
+-- they are those of a head, of a segment's head
 abbrev pub SomeHead : List ℕ → Type 0
 SomeHead bytes = (h : Head) × (head-bytes h ≡ bytes)
 

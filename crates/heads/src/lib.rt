@@ -1,14 +1,13 @@
 // What is asked of the records that open a unit and head its parts and targets (UN, SG, IG, TG), and how they are written. Their fields are read
 // by `table`; no other crate knows where they stand.
 use table::Segment;
-ghost use mathlib.Core.Path.{_≡_};
-ghost use Prim.Native.Nat.{_+_, _≤_};
+ghost use Prim.Native.Nat.{_≤_};
 ghost use mathlib.Core.List.{_++_};
 ghost use lib.ListN.{length};
 ghost use Rattle.xliff.specs.Unit.{segment};
 ghost use Rattle.xliff.specs.Encode.{target-head, record-bytes, head-bytes};
 ghost use Rattle.writer.specs.Pieces.{Written};
-ghost use Rattle.heads.specs.Heads.{ResegmentIs, HeadRoom, SomeHead, SegmentIs, SomeSegment, FieldsAre, fields, WroteState, WroteId, OrderIs};
+ghost use Rattle.heads.specs.Heads.{fields, SomeUnit, ResegmentIs, SomeHead, SegmentIs, SomeSegment, FieldsAre, HeadRoom, WroteState, WroteId, SomeTarget, OrderIs};
 
 // Where a part's id and a target's order stand.
 const PART_ID: usize = 2;
@@ -17,7 +16,7 @@ const TARGET_ORDER: usize = 2;
 
 // The canResegment of the unit whose table `t` is.
 pub fn unit_resegment(t: &[u8]) -> u8
-    requires { ⌜ 3 ≤ length (now t) ⌝ }
+    requires { ⌜ SomeUnit (now t) ⌝ }
     ensures { λ r. ⌜ ResegmentIs (now (t .entry)) r ⌝ }
 {
     let f = table::opening_of(t);
@@ -42,7 +41,7 @@ pub fn segment_of(head: &[u8]) -> Segment
 
 // A segment's head with these fields.
 pub fn put_segment(out: &mut [u8], f: Segment) -> usize
-    requires { ⌜ 6 ≤ length (now out) ⌝ }
+    requires { ⌜ length (head-bytes (segment (fields f))) ≤ length (now out) ⌝ }
     ensures { λ r. ⌜ Written (head-bytes (segment (fields f))) (now (out .entry)) r (now (out .exit)) ⌝ }
 {
     let m = writer::put_mark(out, 0, b"SG");
@@ -82,7 +81,7 @@ pub fn put_with_id(out: &mut [u8], head: &[u8], id: u16) -> usize
 
 // The order of the target `t`.
 pub fn order_of(t: &[u8]) -> u16
-    requires { ⌜ 4 ≤ length (now t) ⌝ }
+    requires { ⌜ SomeTarget (now t) ⌝ }
     ensures { λ r. ⌜ OrderIs (now (t .entry)) r ⌝ }
 {
     marks::number_at(t, TARGET_ORDER)
@@ -90,7 +89,7 @@ pub fn order_of(t: &[u8]) -> u16
 
 // The head of a target with this order.
 pub fn put_target_head(out: &mut [u8], order: u16) -> usize
-    requires { ⌜ 4 ≤ length (now out) ⌝ }
+    requires { ⌜ length (record-bytes (target-head order)) ≤ length (now out) ⌝ }
     ensures { λ r. ⌜ Written (record-bytes (target-head order)) (now (out .entry)) r (now (out .exit)) ⌝ }
 {
     let m = writer::put_mark(out, 0, b"TG");
@@ -99,7 +98,7 @@ pub fn put_target_head(out: &mut [u8], order: u16) -> usize
 
 // A target with this order and content.
 pub fn put_target(out: &mut [u8], order: u16, content: &[u8]) -> usize
-    requires { ⌜ 4 + length (now content) ≤ length (now out) ⌝ }
+    requires { ⌜ length (record-bytes (target-head order) ++ now content) ≤ length (now out) ⌝ }
     ensures { λ r. ⌜ Written (record-bytes (target-head order) ++ now (content .entry)) (now (out .entry)) r (now (out .exit)) ⌝ }
 {
     let n = put_target_head(out, order);

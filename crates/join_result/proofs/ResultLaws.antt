@@ -20,7 +20,7 @@ use Rattle.parts.specs.Parts.{moved, ordered, TableOf}
 use Rattle.parts.proofs.TableLaws.{table-opened, table-closed}
 use Rattle.part_at.specs.declared.PartPlace.{PartPlace}
 use Rattle.part_at.specs.Stands.{TargetStands}
-use Rattle.joined_part.specs.Joined.{joined-part, part-bytes}
+use Rattle.joined_part.specs.Joined.{joined-part, part-bytes, TwoParts}
 use Rattle.join_orders.specs.Falls.{FallsAbove}
 use Rattle.join_result.specs.Result.{Beside, joined-unit, order-of-two, joined-parts}
 
@@ -36,6 +36,11 @@ module _ (f : ℕ → ℕ) (t : List ℕ) (x y : PartPlace) where
   part-same : (p q : Part) → TargetStands t x (p .target) → TargetStands t y (q .target) → order-part f (join-parts p q) ≡ joined-part (f (order-of-two x y)) p q
   unfolding order-part join-parts joined-part
   part-same p q a b = ap (λ (g : Target). record { head = join-parts p q .head; source = join-parts p q .source; target = g }) (target-same (p .target) (q .target) a b)
+
+-- two parts side by side are two parts
+abbrev pub two-parts : (t : List ℕ) (x y : PartPlace) (b : List Part) (p q : Part) (a : List Part) → Beside t x y b p q a → TwoParts t x y
+two-parts t x y b p q a s =
+    record { before = b; first = p; after = q ∷ a; there = s .first; before′ = b ++ (p ∷ []); second = q; after′ = a; there′ = s .second }
 
 -- the parts as they are written
 abbrev pub parts-pieces : (o k : ℕ) (b : List Part) (p q : Part) (a : List Part) → Pieces (joined-parts o k b p q a)

@@ -14,7 +14,6 @@ use Rattle.xliff.specs.Join.{join-heads, rank, earliest, dash}
 use Rattle.writer.specs.Pieces.{Written}
 use Rattle.table.specs.declared.Segment.{Segment}
 use Rattle.heads.specs.Heads.{fields, is-segment, FieldsAre}
-use Rattle.heads.proofs.HeadLaws.{segment-long}
 use Rattle.joined_part.specs.Heads.{JoinedSegment}
 
 -- two segments
@@ -73,8 +72,8 @@ module _ (h i : List ℕ) where
 
 -- room for a segment, and its writing
 module _ (a b : Head) (r : Segment) (e : segment (fields r) ≡ join-heads a b) where
-  pub segment-room : (o : List ℕ) → length (head-bytes (join-heads a b)) ≤ length o → 6 ≤ length o
-  segment-room o h = omega (arith, ap (λ (x : Head). length (head-bytes x)) e, segment-long (fields r))
+  pub segment-room : (o : List ℕ) → length (head-bytes (join-heads a b)) ≤ length o → length (head-bytes (segment (fields r))) ≤ length o
+  segment-room o h = omega (arith, ap (λ (x : Head). length (head-bytes x)) e)
 
   pub segment-wrote : (o l : List ℕ) (n : ℕ) → Written (head-bytes (segment (fields r))) o n l → Written (head-bytes (join-heads a b)) o n l
   segment-wrote o l n w = subst (λ (x : Head). Written (head-bytes x) o n l) e w

@@ -13,13 +13,14 @@ use Rattle.xliff.proofs.unit.Pieces.{spell-append}
 use Rattle.xliff.proofs.lists.Slices.{slice-long}
 use Rattle.writer.specs.Pieces.{Written}
 use Rattle.writer.proofs.RunLaws.{Pieces}
+use Rattle.walk.specs.Kept.{Holds}
+use Rattle.part_contents.specs.Targets.{TargetIs}
 use Rattle.part_contents.proofs.HoldLaws.{holds-source, target-ends}
 use Rattle.part_contents.proofs.TargetLaws.{target-slice}
 use Rattle.part_at.specs.declared.PartPlace.{PartPlace}
-use Rattle.part_at.specs.Stands.{PartStands}
 use Rattle.joined_content.specs.Seam.{RoomJoined, WroteJoined}
 use Rattle.joined_part.specs.Heads.{RoomHeads, WroteHeads}
-use Rattle.joined_part.specs.Joined.{joined-target, target-bytes, RoomTargets, WroteTargets, joined-part, part-bytes}
+use Rattle.joined_part.specs.Joined.{joined-target, target-bytes, RoomTargets, WroteTargets, joined-part, part-bytes, TwoParts}
 
 -- the joined part in three pieces
 pub joined-is : (o : ℕ) (p q : Part)
@@ -46,44 +47,69 @@ between-long : (t : List ℕ) (from to : ℕ) → from ≤ to → to ≤ length 
 between-long t from to h k = omega (arith, slice-long t from to h k)
 
 -- what is asked and written of the pieces of two parts
-module _ (t : List ℕ) (h : Bytes t) (b : List Part) (p : Part) (a : List Part) (x : PartPlace) (s : PartStands t b p a x)
-    (c : List Part) (q : Part) (d : List Part) (y : PartPlace) (u : PartStands t c q d y) where
-  pub heads-asked : (l : List ℕ) → length (head-bytes (join-heads (p .head) (q .head))) ≤ length l
-      → RoomHeads (between t (x .head) (x .source)) (between t (y .head) (y .source)) l
-  heads-asked l r = (p .head, q .head, sym (s .head .is), sym (u .head .is), r)
+module _ (t : List ℕ) (h : Bytes t) (x y : PartPlace) (v : TwoParts t x y) where
+  abbrev heads : List ℕ
+  heads = head-bytes (join-heads (v .first .head) (v .second .head))
 
-  pub heads-wrote : (l : List ℕ) (n : ℕ) (z : List ℕ) → WroteHeads (between t (x .head) (x .source)) (between t (y .head) (y .source)) l n z
-      → Written (head-bytes (join-heads (p .head) (q .head))) l n z
-  heads-wrote l n z w = w (p .head) (q .head) (sym (s .head .is)) (sym (u .head .is))
+  abbrev sources : List ℕ
+  sources = content-bytes (v .first .source ++ v .second .source)
 
-  pub sources-asked : (l : List ℕ) → length t ≤ 8192 → length (content-bytes (p .source ++ q .source)) ≤ length l
-      → RoomJoined (between t (x .source) (x .target)) (between t (y .source) (y .target)) l
+  pub heads-asked : (l : List ℕ) → length heads ≤ length l → RoomHeads (between t (x .head) (x .source)) (between t (y .head) (y .source)) l
+  heads-asked l r = (v .first .head, v .second .head, sym (v .there .head .is), sym (v .there′ .head .is), r)
+
+  pub heads-wrote : (l : List ℕ) (n : ℕ) (z : List ℕ) → WroteHeads (between t (x .head) (x .source)) (between t (y .head) (y .source)) l n z → Written heads l n z
+  heads-wrote l n z w = w (v .first .head) (v .second .head) (sym (v .there .head .is)) (sym (v .there′ .head .is))
+
+  first-source : Holds (between t (x .source) (x .target)) (v .first .source)
+  first-source = holds-source t h (v .before) (v .first) (v .after) x (v .there)
+
+  second-source : Holds (between t (y .source) (y .target)) (v .second .source)
+  second-source = holds-source t h (v .before′) (v .second) (v .after′) y (v .there′)
+
+  pub sources-asked : (l : List ℕ) → length t ≤ 8192 → length sources ≤ length l → RoomJoined (between t (x .source) (x .target)) (between t (y .source) (y .target)) l
   sources-asked l m r = (
-    p .source,
-    q .source,
-    holds-source t h b p a x s,
-    holds-source t h c q d y u,
-    omega (arith, between-long t (x .source) (x .target) (s .source .ordered) (s .source .within), between-long t (y .source) (y .target) (u .source .ordered) (u .source .within)),
+    v .first .source,
+    v .second .source,
+    first-source,
+    second-source,
+    omega (
+      arith,
+      between-long t (x .source) (x .target) (v .there .source .ordered) (v .there .source .within),
+      between-long t (y .source) (y .target) (v .there′ .source .ordered) (v .there′ .source .within),
+    ),
     r,
   )
 
-  pub sources-wrote : (l : List ℕ) (n : ℕ) (z : List ℕ) → WroteJoined (between t (x .source) (x .target)) (between t (y .source) (y .target)) l n z
-      → Written (content-bytes (p .source ++ q .source)) l n z
-  sources-wrote l n z w = w (p .source) (q .source) (holds-source t h b p a x s) (holds-source t h c q d y u)
+  pub sources-wrote : (l : List ℕ) (n : ℕ) (z : List ℕ) → WroteJoined (between t (x .source) (x .target)) (between t (y .source) (y .target)) l n z → Written sources l n z
+  sources-wrote l n z w = w (v .first .source) (v .second .source) first-source second-source
 
-  pub targets-asked : (o : ℕ) (l : List ℕ) → length t ≤ 8192 → length (target-bytes o (p .target) (q .target)) ≤ length l
-      → RoomTargets o (between t (x .target) (x .end)) (between t (y .target) (y .end)) l
-  targets-asked o l m r =
-      let e = target-ends t h b p a x s in
-      let f = target-ends t h c q d y u in (
-        p .target,
-        q .target,
-        target-slice t h b p a x s,
-        target-slice t h c q d y u,
-        omega (arith, between-long t (x .target) (x .end) (e .0) (e .1), between-long t (y .target) (y .end) (f .0) (f .1)),
-        r,
-      )
+  -- the targets stand within the table
+  pub first-ends : (x .target ≤ x .end) × (x .end ≤ length t)
+  first-ends = target-ends t h (v .before) (v .first) (v .after) x (v .there)
 
-  pub targets-wrote : (o : ℕ) (l : List ℕ) (n : ℕ) (z : List ℕ) → WroteTargets o (between t (x .target) (x .end)) (between t (y .target) (y .end)) l n z
-      → Written (target-bytes o (p .target) (q .target)) l n z
-  targets-wrote o l n z w = w (p .target) (q .target) (target-slice t h b p a x s) (target-slice t h c q d y u)
+  pub second-ends : (y .target ≤ y .end) × (y .end ≤ length t)
+  second-ends = target-ends t h (v .before′) (v .second) (v .after′) y (v .there′)
+
+  first-target : TargetIs (between t (x .target) (x .end)) (v .first .target)
+  first-target = target-slice t h (v .before) (v .first) (v .after) x (v .there)
+
+  second-target : TargetIs (between t (y .target) (y .end)) (v .second .target)
+  second-target = target-slice t h (v .before′) (v .second) (v .after′) y (v .there′)
+
+  module _ (o : ℕ) where
+    pub targets-asked : (l : List ℕ) → length t ≤ 8192 → length (target-bytes o (v .first .target) (v .second .target)) ≤ length l
+        → RoomTargets o (between t (x .target) (x .end)) (between t (y .target) (y .end)) l
+    targets-asked l m r =
+        let (e, f) = first-ends in
+        let (g, k) = second-ends in (
+          v .first .target,
+          v .second .target,
+          first-target,
+          second-target,
+          omega (arith, between-long t (x .target) (x .end) e f, between-long t (y .target) (y .end) g k),
+          r,
+        )
+
+    pub targets-wrote : (l : List ℕ) (n : ℕ) (z : List ℕ) → WroteTargets o (between t (x .target) (x .end)) (between t (y .target) (y .end)) l n z
+        → Written (target-bytes o (v .first .target) (v .second .target)) l n z
+    targets-wrote l n z w = w (v .first .target) (v .second .target) first-target second-target

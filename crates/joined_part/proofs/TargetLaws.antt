@@ -1,9 +1,9 @@
 -- Joined targets: their bytes, by whether there are bytes of the first and of the second.
-use Prim.Native.Nat.{ℕ, _+_, _-_, _≤_, _<_}
-use mathlib.Core.Path.{_≡_, refl, sym, ap, ap₂, _∙_}
+use Prim.Native.Nat.{ℕ, _+_, _≤_, _<_}
+use mathlib.Core.Path.{_≡_, sym, ap, ap₂, _∙_}
 use mathlib.Core.List.{List, _++_}
 use native.Mathlib.Omega.{arith}
-use lib.ListN.{length, take, drop, length-append, length-drop}
+use lib.ListN.{length, length-drop}
 use Rattle.xliff.specs.Unit.{Target, no-target, target}
 use Rattle.xliff.specs.Encode.{target-head, record-bytes, content-bytes}
 use Rattle.xliff.specs.Focus.{order-target}
@@ -11,7 +11,6 @@ use Rattle.xliff.specs.Join.{join-targets}
 use Rattle.xliff.proofs.lists.Slices.{tail-is}
 use Rattle.writer.specs.Pieces.{lead, Written, rest}
 use Rattle.writer.proofs.RunLaws.{Pieces, pair}
-use Rattle.heads.proofs.HeadLaws.{target-long}
 use Rattle.part_contents.specs.Targets.{TargetIs}
 use Rattle.part_contents.proofs.TargetLaws.{Present, absent, no-bytes, target-bytes as bytes-of}
 use Rattle.joined_content.specs.Seam.{RoomJoined}
@@ -57,13 +56,10 @@ module _ (o : ℕ) (s t : List ℕ) (g k : Target) (p : Present s g) (q : Presen
     r,
   )
 
--- room for a target that has the content c, and its writing
+-- bytes that are those of a target with the content c: room for it, and its writing
 module _ (o : ℕ) (c w : List ℕ) (e : w ≡ record-bytes (target-head o) ++ c) where
-  pub alone-room : (out : List ℕ) → length w ≤ length out → 4 + length c ≤ length out
-  alone-room out h = omega (arith, ap length e, length-append (record-bytes (target-head o)) c, target-long o)
+  pub alone-room : (out : List ℕ) → length w ≤ length out → length (record-bytes (target-head o) ++ c) ≤ length out
+  alone-room out h = omega (arith, ap length e)
 
   pub alone-wrote : (out l : List ℕ) (n : ℕ) → Written (record-bytes (target-head o) ++ c) out n l → Written w out n l
   alone-wrote out l n v = (v .0 ∙ ap length (sym e), v .1 ∙ ap (λ (x : List ℕ). lead x out) (sym e))
-
-pub room-of-head : (q : ℕ) (o : List ℕ) → length (record-bytes (target-head q)) ≤ length o → 4 ≤ length o
-room-of-head q o h = omega (arith, target-long q)

@@ -32,20 +32,20 @@ joined-part o p q = order-part (λ r. o) (join-parts p q)
 abbrev pub part-bytes : ℕ → Part → Part → List ℕ
 part-bytes o p q = spell (part-records (joined-part o p q))
 
--- two parts of a table, and room for both in one
-pub record RoomParts (o : ℕ) (t : List ℕ) (x y : PartPlace) (out : List ℕ) : Type 0 where
+-- two parts of a table
+pub record TwoParts (t : List ℕ) (x y : PartPlace) : Type 0 where
   pub before : List Part
   pub first : Part
   pub after : List Part
+  pub there : PartStands t before first after x
   pub before′ : List Part
   pub second : Part
   pub after′ : List Part
-  pub there : PartStands t before first after x
   pub there′ : PartStands t before′ second after′ y
-  pub small : length t ≤ 8192
-  pub room : length (part-bytes o first second) ≤ length out
+
+-- and room for both in one; it is written
+abbrev pub RoomParts : ℕ → List ℕ → PartPlace → PartPlace → List ℕ → Type 0
+RoomParts o t x y out = (v : TwoParts t x y) × (length t ≤ 8192) × (length (part-bytes o (v .first) (v .second)) ≤ length out)
 
 abbrev pub WroteParts : ℕ → List ℕ → PartPlace → PartPlace → List ℕ → ℕ → List ℕ → Type 0
-WroteParts o t x y out n l =
-    (b : List Part) (p : Part) (a : List Part) (c : List Part) (q : Part) (d : List Part) → PartStands t b p a x → PartStands t c q d y
-    → Written (part-bytes o p q) out n l
+WroteParts o t x y out n l = (v : TwoParts t x y) → Written (part-bytes o (v .first) (v .second)) out n l

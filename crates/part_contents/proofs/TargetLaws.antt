@@ -11,6 +11,7 @@ use Rattle.xliff.specs.Encode.{target-head, record-bytes, content-records, targ
 use Rattle.xliff.specs.Good.{AllGood}
 use Rattle.xliff.proofs.lists.Each.{each-right}
 use Rattle.xliff.proofs.lists.Slices.{tail-is}
+use Rattle.heads.specs.Heads.{SomeTarget}
 use Rattle.walk.specs.Kept.{Holds}
 use Rattle.part_at.specs.declared.PartPlace.{PartPlace}
 use Rattle.part_at.specs.Stands.{TargetStands, PartStands}
@@ -34,6 +35,9 @@ present t no-target z e = absurd (z (ap length e))
 present t (target q xs) z (e, k) =
     let c : take (length t - 4) (drop 4 t) ≡ content-bytes xs = tail-is 4 t ∙ ap (drop 4) e in
     record { order = q; items = xs; is = refl; bytes = e; content = c; holds = (k, sym c); least = omega (arith, ap length e) }
+
+pub some-target : (t : List ℕ) (g : Target) → Present t g → SomeTarget t
+some-target t g p = (p .order, content-bytes (p .items), p .bytes)
 
 -- it is not there
 pub absent : (t : List ℕ) (g : Target) → length t ≡ 0 → TargetIs t g → g ≡ no-target

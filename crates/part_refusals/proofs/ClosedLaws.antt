@@ -1,11 +1,10 @@
 -- A part's canResegment, and the orders of two parts, from where the parts stand.
-use Prim.Native.Nat.{ℕ, suc, _+_, _≤_}
+use Prim.Native.Nat.{ℕ, suc, _+_}
 use mathlib.Core.Path.{_≡_, refl, sym, ap, _∙_}
 use mathlib.Core.Bool.{Bool, false, not, _&&_}
 use mathlib.Core.List.{List, [], _∷_, _++_, append-assoc}
-use native.Mathlib.Omega.{arith}
 use native.Mathlib.Numerals.{add-one}
-use lib.ListN.{length, drop, take-append-drop}
+use lib.ListN.{drop, take-append-drop}
 use lib.Dec.{eqb}
 use Rattle.xliff.specs.Bytes.{gather}
 use Rattle.xliff.specs.Unit.{Target, no-target, target, Part, resolved, is-closed}
@@ -18,7 +17,7 @@ use Rattle.table.specs.Meaning.{meaning, body}
 use Rattle.table.specs.declared.Record.the-variants.{Unit as UnitStart, UnitEnd, Segment, Ignorable, Target as TargetHead, Text, Inline}
 use Rattle.table.specs.declared.Read.{Read}
 use Rattle.table.specs.declared.Read.the-variants.{Good, Ill, Broken}
-use Rattle.heads.specs.Heads.{ResegmentIs}
+use Rattle.heads.specs.Heads.{SomeUnit, ResegmentIs}
 use Rattle.part_at.specs.declared.PartPlace.{PartPlace}
 use Rattle.part_at.specs.Stands.{Standing, PartStands, TargetStands}
 use Rattle.part_at.proofs.ContentLaws.{Means, first-read}
@@ -47,14 +46,14 @@ closed-same u cs (Good (Inline i) w) = refl
 closed-same u cs Ill = refl
 closed-same u cs (Broken b) = refl
 
-pub long-enough : (t : List ℕ) (place : PartPlace) → Standing t place → 3 ≤ length t
-long-enough t place (b, p, a, s) = omega (arith, s .offset, s .head .ordered, s .head .within)
-
 unit-opens : (t : List ℕ) (b : List Part) (p : Part) (a : List Part) (place : PartPlace) → PartStands t b p a place
     → t ≡ record-bytes (opening (unit t .opening)) ++ (spell (gather part-records b) ++ drop (place .head) t)
 unit-opens t b p a place s =
     sym (take-append-drop (place .head) t) ∙ ap (λ (l : List ℕ). l ++ drop (place .head) t) (s .before)
     ∙ append-assoc (record-bytes (opening (unit t .opening))) (spell (gather part-records b)) (drop (place .head) t)
+
+pub some-unit : (t : List ℕ) (place : PartPlace) → Standing t place → SomeUnit t
+some-unit t place (b, p, a, s) = (unit t .opening, spell (gather part-records b) ++ drop (place .head) t, unit-opens t b p a place s)
 
 pub closed-is : (t : List ℕ) (place : PartPlace) (u : ℕ) (r : Read) → ResegmentIs t u → Means t (place .head) r → ClosedIs t place (closedBy u r)
 unfolding is-closed part-records

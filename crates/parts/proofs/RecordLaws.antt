@@ -15,7 +15,8 @@ use Rattle.walker.specs.Offsets.{WidthAt}
 use Rattle.walk.specs.Kept.{InPart, head-in, target-in, item-in, text-in, RestOf}
 use Rattle.walk.proofs.RecordLaws.{record-least, width-there, NextOf, next-of, none-left}
 use Rattle.writer.specs.Pieces.{lead, Written}
-use Rattle.heads.specs.Heads.{OrderIs}
+use Rattle.heads.specs.Heads.{SomeTarget, OrderIs}
+use Rattle.heads.proofs.HeadLaws.{target-long}
 use Rattle.parts.specs.Parts.{order-record, One}
 
 pub one-least : (t : List ℕ) → One t → 4 ≤ length t
@@ -58,12 +59,18 @@ others-stay f (target-head q) (target-in l) e = absurd (true≢false e)
 others-stay f (inline x) (item-in g) e = refl
 others-stay f (text-run cs) (text-in a l) e = refl
 
+pub some-target : (r : Record) → ATarget r → (t : List ℕ) → t ≡ record-bytes r → SomeTarget t
+some-target r b t e = (b .order, [], e ∙ ap record-bytes (b .is) ∙ sym (append-nil (record-bytes (target-head (b .order)))))
+
 -- a target whose order n was read
 module _ (r : Record) (b : ATarget r) (t : List ℕ) (e : t ≡ record-bytes r) (n : ℕ) (read : OrderIs t n) where
   pub order-is : n ≡ b .order
-  order-is = read (b .order) [] (e ∙ ap record-bytes (b .is) ∙ sym (append-nil (record-bytes (target-head (b .order)))))
+  order-is = read (b .order) [] (some-target r b t e .2)
 
   -- it is written with the order k
+  pub moved-room : (k : ℕ) (o : List ℕ) → length t ≤ length o → length (record-bytes (target-head k)) ≤ length o
+  moved-room k o h = omega (arith, ap length (e ∙ ap record-bytes (b .is)), target-long k, target-long (b .order))
+
   pub target-moved : (f : ℕ → ℕ) (k : ℕ) → k ≡ f n → (o l : List ℕ) (m : ℕ) → Written (record-bytes (target-head k)) o m l → l ≡ lead (record-bytes (order-record f r)) o
   target-moved f k h o l m w =
       w .1 ∙ ap (λ (x : ℕ). lead (record-bytes (target-head x)) o) (h ∙ ap f order-is) ∙ ap (λ (x : Record). lead (record-bytes (order-record f x)) o) (sym (b .is))

@@ -92,9 +92,6 @@ module _ (t : List ℕ) (b : List Part) (p : Part) (a : List Part) (place : Part
         length-drop (place .end) t,
       )
 
-  pub target-room : (l : List ℕ) → length (target-bytes q c) ≤ length l → 4 + length c ≤ length l
-  target-room l h = omega (arith, target-long q c)
-
   pub set-all : (xs : Content) → content-bytes xs ≡ c → encode (unit-with (unit t) st q xs b p a) ≡ all
   set-all xs is =
       sym (ap (λ (r : List ℕ). (to-source st (unit t) b p ++ target-bytes q c) ++ r) (tail-is (place .end) t) ∙ set-is t b p a place s st q xs c is)

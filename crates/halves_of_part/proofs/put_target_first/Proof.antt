@@ -1,5 +1,5 @@
-use Rattle.halves_of_part.proofs.PartLaws.{no-first, target-first, room-of-head}
-use Rattle.part_contents.proofs.TargetLaws.{present}
+use Rattle.halves_of_part.proofs.PartLaws.{no-first, target-first}
+use Rattle.part_contents.proofs.TargetLaws.{present, some-target}
 use Rattle.writer.proofs.RunLaws.{first-room, second-start, second-room, two-fit, both-wrote}
 use native.Mathlib.Omega.{arith}
 use mathlib.Core.Path.{refl}
@@ -17,9 +17,9 @@ returns c =
 order-of-requires : tie.Need-order-of-requires
 order-of-requires c κs =
     let start = c .before .before .before .before in
+    let t = start .args .t .now in
     let (g, is, rises, room) = start .pre in
-    let p = present (start .args .t .now) g (c .before .if1 .left) is in
-    p .least
+    some-target t g (present t g (c .before .if1 .left) is)
 
 -- src/lib.rt:14:9
 put-target-head-requires : tie.Need-put-target-head-requires
@@ -27,11 +27,9 @@ put-target-head-requires c κs =
     let start = c .before .before .before .before .before in
     let args = start .args in
     let t = args .t .now in
-    let out = args .out .now in
     let (g, is, rises, room) = start .pre in
     let p = present t g (c .before .before .if1 .left) is in
-    room-of-head (c .order-of .result) out
-    (first-room (target-first t g p (args .k) (c .order-of .result) (c .order-of .ensures)) out room)
+    first-room (target-first t g p (args .k) (c .order-of .result) (c .order-of .ensures)) (args .out .now) room
 
 -- src/lib.rt:15:28
 sub-put-first : tie.Need-sub-put-first

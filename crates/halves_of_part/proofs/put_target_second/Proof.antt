@@ -1,6 +1,5 @@
-use Prim.Native.Nat.{_+_}
-use Rattle.halves_of_part.proofs.PartLaws.{no-second, target-second, order-rises, room-of-head}
-use Rattle.part_contents.proofs.TargetLaws.{present}
+use Rattle.halves_of_part.proofs.PartLaws.{no-second, target-second, order-rises}
+use Rattle.part_contents.proofs.TargetLaws.{present, some-target}
 use Rattle.writer.proofs.RunLaws.{first-room, second-start, second-room, two-fit, both-wrote}
 use native.Mathlib.Omega.{arith}
 use mathlib.Core.Path.{refl}
@@ -18,9 +17,9 @@ returns c =
 order-of-requires : tie.Need-order-of-requires
 order-of-requires c κs =
     let start = c .before .before .before .before in
+    let t = start .args .t .now in
     let (g, is, rises, room) = start .pre in
-    let p = present (start .args .t .now) g (c .before .if1 .left) is in
-    p .least
+    some-target t g (present t g (c .before .if1 .left) is)
 
 -- src/lib.rt:39:41
 add-put-target-head : tie.Need-add-put-target-head
@@ -38,11 +37,9 @@ put-target-head-requires c κs =
     let start = c .before .before .before .before .before in
     let args = start .args in
     let t = args .t .now in
-    let out = args .out .now in
     let (g, is, rises, room) = start .pre in
     let p = present t g (c .before .before .if1 .left) is in
-    room-of-head (c .order-of .result + 1) out
-    (first-room (target-second t g p (args .k) (c .order-of .result) (c .order-of .ensures)) out room)
+    first-room (target-second t g p (args .k) (c .order-of .result) (c .order-of .ensures)) (args .out .now) room
 
 -- src/lib.rt:40:29
 sub-put-second : tie.Need-sub-put-second

@@ -5,7 +5,39 @@ use borrow.Author.Needs.{needs}
 use Rattle.heads.proofs.put_segment.Statement.{statement}
 use Rattle.heads.proofs.put_segment.Tie as tie
 
--- src/lib.rt:61:1
+-- src/lib.rt:64:9
+put-mark-requires : tie.Need-put-mark-requires
+put-mark-requires c κs =
+    let f = c .before .before .before .args .f in
+    omega (arith, segment-long (fields f))
+
+-- src/lib.rt:65:9
+put-number-requires : tie.Need-put-number-requires
+put-number-requires c κs =
+    let f = c .before .before .before .before .before .before .before .args .f in
+    let put-mark = c .before .before .before .put-mark in
+    omega (arith, put-mark .ensures .0, segment-long (fields f))
+
+-- src/lib.rt:66:9
+put-byte-requires : tie.Need-put-byte-requires
+put-byte-requires c κs =
+    let after-put-mark = c .before .before .before .before .before .before .before in
+    let f = after-put-mark .before .before .before .before .args .f in
+    let put-mark = after-put-mark .put-mark in
+    let put-number = c .before .before .before .put-number in
+    omega (arith, put-mark .ensures .0, put-number .ensures .0, segment-long (fields f))
+
+-- src/lib.rt:67:5
+put-byte-requires-2 : tie.Need-put-byte-requires-2
+put-byte-requires-2 c κs =
+    let after-put-number = c .before .before .before .before .before .before .before in
+    let f = after-put-number .before .before .before .before .before .before .before .before .args .f in
+    let put-mark = after-put-number .before .before .before .before .put-mark in
+    let put-number = after-put-number .put-number in
+    let put-byte = c .before .before .before .put-byte in
+    omega (arith, put-mark .ensures .0, put-number .ensures .0, put-byte .ensures .0, segment-long (fields f))
+
+-- src/lib.rt:60:1
 returns : tie.Need-returns
 returns c =
     let after-put-byte = c .before .before .before .before .before .before in
@@ -34,7 +66,10 @@ pub put-segment-spec : {M : Type 1} → statement M
 put-segment-spec =
     tie.close
     (tie.spec
-    -- by search: put-mark-requires 65:9, put-number-requires 66:9, put-byte-requires 67:9,
-    -- put-byte-requires-2 68:5, same-length 61:1
-    (λ c κs. search needs) (λ c κs. search needs) (λ c κs. search needs) (λ c κs. search needs) (λ c. search needs)
+    put-mark-requires
+    put-number-requires
+    put-byte-requires
+    put-byte-requires-2
+    -- by search: same-length 60:1
+    (λ c. search needs)
     returns)

@@ -1,62 +1,57 @@
-use Rattle.heads.proofs.HeadLaws.{target-pieces, target-room}
-use Rattle.writer.proofs.RunLaws.{second-start, second-room, two-fit, both-wrote}
+use Rattle.heads.proofs.HeadLaws.{target-pieces}
+use Rattle.writer.proofs.RunLaws.{first-room, second-start, second-room, two-fit, both-wrote}
 use native.Mathlib.Omega.{arith}
 use mathlib.Core.Path.{refl}
 use borrow.Author.Needs.{needs}
 use Rattle.heads.proofs.put_target.Statement.{statement}
 use Rattle.heads.proofs.put_target.Tie as tie
 
--- src/lib.rt:123:25
+-- src/lib.rt:121:9
+put-target-head-requires : tie.Need-put-target-head-requires
+put-target-head-requires c κs =
+    let start = c .before .before .before in
+    let args = start .args in
+    first-room (target-pieces (args .order) (args .content .now)) (args .out .now) (start .pre)
+
+-- src/lib.rt:122:25
 sub-put : tie.Need-sub-put
 sub-put c =
     let start = c .before .before .before .before .before .before in
     let args = start .args in
-    let order = args .order in
-    let content = args .content .now in
-    let out = args .out .now in
-    second-start (target-pieces order content) out (target-room order content out (start .pre))
+    second-start (target-pieces (args .order) (args .content .now)) (args .out .now) (start .pre)
     (c .before .before .put-target-head .ensures)
 
--- src/lib.rt:123:25
+-- src/lib.rt:122:25
 part-put-start : tie.Need-part-put-start
 part-put-start c =
     let start = c .before .before .before .before .before .before in
     let args = start .args in
-    let order = args .order in
-    let content = args .content .now in
-    let out = args .out .now in
-    second-start (target-pieces order content) out (target-room order content out (start .pre))
+    second-start (target-pieces (args .order) (args .content .now)) (args .out .now) (start .pre)
     (c .before .before .put-target-head .ensures)
 
--- src/lib.rt:123:9
+-- src/lib.rt:122:9
 put-requires : tie.Need-put-requires
 put-requires c κs =
     let start = c .before .before .before .before .before .before .before in
     let args = start .args in
-    let order = args .order in
-    let content = args .content .now in
-    let out = args .out .now in
     let put-target-head = c .before .before .before .put-target-head in
-    second-room (target-pieces order content) out (target-room order content out (start .pre))
+    second-room (target-pieces (args .order) (args .content .now)) (args .out .now) (start .pre)
     (put-target-head .ensures)
 
--- src/lib.rt:124:5
+-- src/lib.rt:123:5
 add-result : tie.Need-add-result
 add-result c =
     let after-put-target-head = c .before .before .before .before .before .before in
     let start = after-put-target-head .before .before .before .before in
     let args = start .args in
-    let order = args .order in
-    let content = args .content .now in
-    let out = args .out .now in
     let put-target-head = after-put-target-head .put-target-head in
     omega (
       arith,
-      two-fit (target-pieces order content) out (target-room order content out (start .pre))
+      two-fit (target-pieces (args .order) (args .content .now)) (args .out .now) (start .pre)
           (put-target-head .ensures) (c .before .before .put .ensures),
     )
 
--- src/lib.rt:118:1
+-- src/lib.rt:117:1
 returns : tie.Need-returns
 returns c =
     let after-put-target-head = c .before .before .before .before .before .before in
@@ -69,14 +64,13 @@ pub put-target-spec : {M : Type 1} → statement M
 put-target-spec =
     tie.close
     (tie.spec
-    -- by search: put-target-head-requires 122:9
-    (λ c κs. search needs)
+    put-target-head-requires
     sub-put
     part-put-start
-    -- by search: part-put-end 123:25
+    -- by search: part-put-end 122:25
     (λ c. search needs)
     put-requires
     add-result
-    -- by search: same-length 118:1
+    -- by search: same-length 117:1
     (λ c. search needs)
     returns)

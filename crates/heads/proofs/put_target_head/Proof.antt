@@ -4,7 +4,20 @@ use borrow.Author.Needs.{needs}
 use Rattle.heads.proofs.put_target_head.Statement.{statement}
 use Rattle.heads.proofs.put_target_head.Tie as tie
 
--- src/lib.rt:109:1
+-- src/lib.rt:112:9
+put-mark-requires : tie.Need-put-mark-requires
+put-mark-requires c κs =
+    let order = c .before .before .before .args .order in
+    omega (arith, target-long order)
+
+-- src/lib.rt:113:5
+put-number-requires : tie.Need-put-number-requires
+put-number-requires c κs =
+    let order = c .before .before .before .before .before .before .before .args .order in
+    let put-mark = c .before .before .before .put-mark in
+    omega (arith, put-mark .ensures .0, target-long order)
+
+-- src/lib.rt:108:1
 returns : tie.Need-returns
 returns c =
     let after-put-mark = c .before .before .before .before .before .before in
@@ -21,6 +34,8 @@ pub put-target-head-spec : {M : Type 1} → statement M
 put-target-head-spec =
     tie.close
     (tie.spec
-    -- by search: put-mark-requires 113:9, put-number-requires 114:5, same-length 109:1
-    (λ c κs. search needs) (λ c κs. search needs) (λ c. search needs)
+    put-mark-requires
+    put-number-requires
+    -- by search: same-length 108:1
+    (λ c. search needs)
     returns)

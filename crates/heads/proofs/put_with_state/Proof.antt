@@ -1,11 +1,10 @@
-use Rattle.heads.proofs.HeadLaws.{some-long, some-segment, state-set, state-kept}
-use native.Mathlib.Omega.{arith}
+use Rattle.heads.proofs.HeadLaws.{some-segment, state-room, state-set, state-kept}
 use mathlib.Core.Path.{sym, _∙_}
 use borrow.Author.Needs.{needs}
 use Rattle.heads.proofs.put_with_state.Statement.{statement}
 use Rattle.heads.proofs.put_with_state.Tie as tie
 
--- src/lib.rt:77:13
+-- src/lib.rt:76:13
 segment-of-requires : tie.Need-segment-of-requires
 segment-of-requires c κs =
     let start = c .before .before .before .before in
@@ -13,18 +12,19 @@ segment-of-requires c κs =
     let (h, e) = some in
     some-segment (start .args .head .now) h e (sym (c .before .is-segment .ensures h e) ∙ c .if1 .taken)
 
--- src/lib.rt:78:9
+-- src/lib.rt:77:9
 put-segment-requires : tie.Need-put-segment-requires
 put-segment-requires c κs =
     let start = c .before .before .before .before .before .before in
-    let head = start .args .head .now in
+    let args = start .args in
+    let head = args .head .now in
     let is-segment = c .before .before .before .is-segment in
     let (some, room) = start .pre in
     let (h, e) = some in
-    omega
-    (arith, some-long head (some-segment head h e (sym (is-segment .ensures h e) ∙ c .before .before .if1 .taken)))
+    state-room head (some-segment head h e (sym (is-segment .ensures h e) ∙ c .before .before .if1 .taken)) _
+    (args .out .now) room
 
--- src/lib.rt:78:9
+-- src/lib.rt:77:9
 returns : tie.Need-returns
 returns c =
     let after-if1 = c .before .before .before .before .before in
@@ -38,7 +38,7 @@ returns c =
     (segment-of .result) (segment-of .ensures) (put-segment .ensures) h e
     (sym (is-segment .ensures h e) ∙ if1 .taken)
 
--- src/lib.rt:72:1
+-- src/lib.rt:71:1
 returns-2 : tie.Need-returns-2
 returns-2 c =
     let after-is-segment = c .before .before .before .before .before in
@@ -54,13 +54,13 @@ pub put-with-state-spec : {M : Type 1} → statement M
 put-with-state-spec =
     tie.close
     (tie.spec
-    -- by search: is-segment-requires 76:8
+    -- by search: is-segment-requires 75:8
     (λ c κs. search needs)
     segment-of-requires
     put-segment-requires
-    -- by search: same-length 78:9
+    -- by search: same-length 77:9
     (λ c. search needs)
     returns
-    -- by search: put-requires 87:5, same-length-2 72:1
+    -- by search: put-requires 86:5, same-length-2 71:1
     (λ c κs. search needs) (λ c. search needs)
     returns-2)

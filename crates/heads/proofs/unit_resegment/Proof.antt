@@ -1,9 +1,13 @@
-use borrow.Author.Needs.{needs}
 use mathlib.Core.Path.{ap, _∙_}
+use native.Mathlib.Omega.{arith}
 use Rattle.table.specs.declared.Opening.{Opening}
-use Rattle.heads.proofs.HeadLaws.{resegment-read}
+use Rattle.heads.proofs.HeadLaws.{unit-least, resegment-read}
 use Rattle.heads.proofs.unit_resegment.Statement.{statement}
 use Rattle.heads.proofs.unit_resegment.Tie as tie
+
+-- the table has the bytes of UN
+opening-of-requires : tie.Need-opening-of-requires
+opening-of-requires c κs = omega (arith, unit-least (c .before .args .t .now) (c .before .pre))
 
 -- what the reader finds is the unit's canResegment
 returns : tie.Need-returns
@@ -12,4 +16,4 @@ returns c =
     λ o s e. ap (λ (f : Opening). f .«can_resegment») (c .opening-of .ensures) ∙ resegment-read t o s e
 
 pub unit-resegment-spec : {M : Type 1} → statement M
-unit-resegment-spec = tie.close (tie.spec (λ c κs. search needs) returns)
+unit-resegment-spec = tie.close (tie.spec opening-of-requires returns)

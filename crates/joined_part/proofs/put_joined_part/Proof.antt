@@ -1,14 +1,23 @@
-use Rattle.joined_part.proofs.PartLaws.{joined-pieces, heads-asked, heads-wrote, sources-asked, sources-wrote, targets-asked, targets-wrote}
-use Rattle.part_contents.proofs.HoldLaws.{target-ends}
+use Rattle.joined_part.proofs.PartLaws.{
+  joined-pieces,
+  heads-asked,
+  heads-wrote,
+  sources-asked,
+  sources-wrote,
+  first-ends,
+  second-ends,
+  targets-asked,
+  targets-wrote,
+}
+use Rattle.joined_part.specs.Joined.{part-bytes}
 use Rattle.table.proofs.WidthLaws.{bytes-known}
 use Rattle.writer.specs.Pieces.{rest, back}
+use Rattle.writer.proofs.PieceLaws.{lead-length}
 use Rattle.writer.proofs.RunLaws.{first-room, second-start, second-room, two-fit, third-start, third-room, three-fit, all-wrote}
 use native.Mathlib.Omega.{arith}
-use Prim.Native.Nat.{_+_}
-use Rattle.writer.proofs.PieceLaws.{lead-length}
-use Rattle.joined_part.specs.Joined.{part-bytes}
-use mathlib.Core.Path.{ap, _∙_}
 use lib.ListN.{length}
+use mathlib.Core.Path.{ap, _∙_}
+use Prim.Native.Nat.{_+_}
 use borrow.Author.Needs.{needs}
 use Rattle.joined_part.proofs.put_joined_part.Statement.{statement}
 use Rattle.joined_part.proofs.put_joined_part.Tie as tie
@@ -21,10 +30,9 @@ put-joined-head-requires c κs =
     let t = args .t .now in
     let out = args .out .now in
     let known = c .before .before .before .shared-slice-known .given in
-    let v = start .pre in
-    heads-asked t (bytes-known t known) (v .before) (v .first) (v .after) (args .x) (v .there) (v .before′)
-    (v .second) (v .after′) (args .y) (v .there′) out
-    (first-room (joined-pieces (args .order) (v .first) (v .second)) out (v .room))
+    let (v, small, room) = start .pre in
+    heads-asked t (bytes-known t known) (args .x) (args .y) v out
+    (first-room (joined-pieces (args .order) (v .first) (v .second)) out room)
 
 -- src/lib.rt:106:40
 sub-put-joined : tie.Need-sub-put-joined
@@ -36,11 +44,10 @@ sub-put-joined c =
     let t = args .t .now in
     let known = after-shared-slice-known .shared-slice-known .given in
     let put-joined-head = c .before .before .put-joined-head in
-    let v = start .pre in
-    second-start (joined-pieces (args .order) (v .first) (v .second)) out (v .room)
-    (heads-wrote t (bytes-known t known) (v .before) (v .first) (v .after) (args .x) (v .there) (v .before′)
-    (v .second) (v .after′) (args .y) (v .there′) out (put-joined-head .result) (put-joined-head .last .0)
-    (put-joined-head .ensures))
+    let (v, small, room) = start .pre in
+    second-start (joined-pieces (args .order) (v .first) (v .second)) out room
+    (heads-wrote t (bytes-known t known) (args .x) (args .y) v out (put-joined-head .result)
+    (put-joined-head .last .0) (put-joined-head .ensures))
 
 -- src/lib.rt:106:40
 part-put-joined-start : tie.Need-part-put-joined-start
@@ -52,11 +59,10 @@ part-put-joined-start c =
     let t = args .t .now in
     let known = after-shared-slice-known .shared-slice-known .given in
     let put-joined-head = c .before .before .put-joined-head in
-    let v = start .pre in
-    second-start (joined-pieces (args .order) (v .first) (v .second)) out (v .room)
-    (heads-wrote t (bytes-known t known) (v .before) (v .first) (v .after) (args .x) (v .there) (v .before′)
-    (v .second) (v .after′) (args .y) (v .there′) out (put-joined-head .result) (put-joined-head .last .0)
-    (put-joined-head .ensures))
+    let (v, small, room) = start .pre in
+    second-start (joined-pieces (args .order) (v .first) (v .second)) out room
+    (heads-wrote t (bytes-known t known) (args .x) (args .y) v out (put-joined-head .result)
+    (put-joined-head .last .0) (put-joined-head .ensures))
 
 -- src/lib.rt:106:9
 put-joined-requires : tie.Need-put-joined-requires
@@ -70,12 +76,11 @@ put-joined-requires c κs =
     let out = args .out .now in
     let known = after-put-joined-head .before .before .before .before .shared-slice-known .given in
     let put-joined-head = after-put-joined-head .put-joined-head in
-    let v = start .pre in
-    sources-asked t (bytes-known t known) (v .before) (v .first) (v .after) x (v .there) (v .before′) (v .second)
-    (v .after′) y (v .there′) (rest (put-joined-head .result) (put-joined-head .last .0)) (v .small)
-    (second-room (joined-pieces (args .order) (v .first) (v .second)) out (v .room)
-    (heads-wrote t (bytes-known t known) (v .before) (v .first) (v .after) x (v .there) (v .before′) (v .second)
-    (v .after′) y (v .there′) out (put-joined-head .result) (put-joined-head .last .0) (put-joined-head .ensures)))
+    let (v, small, room) = start .pre in
+    sources-asked t (bytes-known t known) x y v (rest (put-joined-head .result) (put-joined-head .last .0)) small
+    (second-room (joined-pieces (args .order) (v .first) (v .second)) out room
+    (heads-wrote t (bytes-known t known) x y v out (put-joined-head .result) (put-joined-head .last .0)
+    (put-joined-head .ensures)))
 
 -- src/lib.rt:107:13
 add-w : tie.Need-add-w
@@ -90,15 +95,13 @@ add-w c =
     let known = after-put-joined-head .before .before .before .before .shared-slice-known .given in
     let put-joined-head = after-put-joined-head .put-joined-head in
     let put-joined = c .before .before .put-joined in
-    let v = start .pre in
+    let (v, small, room) = start .pre in
     omega (
       arith,
-      two-fit (joined-pieces (args .order) (v .first) (v .second)) out (v .room)
-          (heads-wrote t (bytes-known t known) (v .before) (v .first) (v .after) x (v .there) (v .before′)
-          (v .second) (v .after′) y (v .there′) out (put-joined-head .result) (put-joined-head .last .0)
+      two-fit (joined-pieces (args .order) (v .first) (v .second)) out room
+          (heads-wrote t (bytes-known t known) x y v out (put-joined-head .result) (put-joined-head .last .0)
           (put-joined-head .ensures))
-          (sources-wrote t (bytes-known t known) (v .before) (v .first) (v .after) x (v .there) (v .before′)
-          (v .second) (v .after′) y (v .there′) (rest (put-joined-head .result) (put-joined-head .last .0))
+          (sources-wrote t (bytes-known t known) x y v (rest (put-joined-head .result) (put-joined-head .last .0))
           (put-joined .result) (put-joined .last .0) (put-joined .ensures)),
     )
 
@@ -115,13 +118,12 @@ sub-put-joined-target c =
     let known = after-put-joined-head .before .before .before .before .shared-slice-known .given in
     let put-joined-head = after-put-joined-head .put-joined-head in
     let put-joined = c .before .before .put-joined in
-    let v = start .pre in
-    third-start (joined-pieces (args .order) (v .first) (v .second)) out (v .room)
-    (heads-wrote t (bytes-known t known) (v .before) (v .first) (v .after) x (v .there) (v .before′) (v .second)
-    (v .after′) y (v .there′) out (put-joined-head .result) (put-joined-head .last .0) (put-joined-head .ensures))
-    (sources-wrote t (bytes-known t known) (v .before) (v .first) (v .after) x (v .there) (v .before′) (v .second)
-    (v .after′) y (v .there′) (rest (put-joined-head .result) (put-joined-head .last .0)) (put-joined .result)
-    (put-joined .last .0) (put-joined .ensures))
+    let (v, small, room) = start .pre in
+    third-start (joined-pieces (args .order) (v .first) (v .second)) out room
+    (heads-wrote t (bytes-known t known) x y v out (put-joined-head .result) (put-joined-head .last .0)
+    (put-joined-head .ensures))
+    (sources-wrote t (bytes-known t known) x y v (rest (put-joined-head .result) (put-joined-head .last .0))
+    (put-joined .result) (put-joined .last .0) (put-joined .ensures))
 
 -- src/lib.rt:108:31
 part-put-joined-target-start : tie.Need-part-put-joined-target-start
@@ -136,13 +138,12 @@ part-put-joined-target-start c =
     let known = after-put-joined-head .before .before .before .before .shared-slice-known .given in
     let put-joined-head = after-put-joined-head .put-joined-head in
     let put-joined = c .before .before .put-joined in
-    let v = start .pre in
-    third-start (joined-pieces (args .order) (v .first) (v .second)) out (v .room)
-    (heads-wrote t (bytes-known t known) (v .before) (v .first) (v .after) x (v .there) (v .before′) (v .second)
-    (v .after′) y (v .there′) out (put-joined-head .result) (put-joined-head .last .0) (put-joined-head .ensures))
-    (sources-wrote t (bytes-known t known) (v .before) (v .first) (v .after) x (v .there) (v .before′) (v .second)
-    (v .after′) y (v .there′) (rest (put-joined-head .result) (put-joined-head .last .0)) (put-joined .result)
-    (put-joined .last .0) (put-joined .ensures))
+    let (v, small, room) = start .pre in
+    third-start (joined-pieces (args .order) (v .first) (v .second)) out room
+    (heads-wrote t (bytes-known t known) x y v out (put-joined-head .result) (put-joined-head .last .0)
+    (put-joined-head .ensures))
+    (sources-wrote t (bytes-known t known) x y v (rest (put-joined-head .result) (put-joined-head .last .0))
+    (put-joined .result) (put-joined .last .0) (put-joined .ensures))
 
 -- src/lib.rt:108:46
 sub-put-joined-target-2 : tie.Need-sub-put-joined-target-2
@@ -153,8 +154,8 @@ sub-put-joined-target-2 c =
     let args = start .args in
     let t = args .t .now in
     let known = after-shared-slice-known .shared-slice-known .given in
-    let v = start .pre in
-    target-ends t (bytes-known t known) (v .before) (v .first) (v .after) (args .x) (v .there) .0
+    let (v, small, room) = start .pre in
+    first-ends t (bytes-known t known) (args .x) (args .y) v .0
 
 -- src/lib.rt:108:46
 part-put-joined-target-start-2 : tie.Need-part-put-joined-target-start-2
@@ -165,9 +166,9 @@ part-put-joined-target-start-2 c =
     let args = start .args in
     let t = args .t .now in
     let known = after-shared-slice-known .shared-slice-known .given in
-    let v = start .pre in
-    let e = target-ends t (bytes-known t known) (v .before) (v .first) (v .after) (args .x) (v .there) in
-    omega (arith, e .0, e .1)
+    let (v, small, room) = start .pre in
+    let (e, f) = first-ends t (bytes-known t known) (args .x) (args .y) v in
+    omega (arith, e, f)
 
 -- src/lib.rt:108:56
 sub-put-joined-target-3 : tie.Need-sub-put-joined-target-3
@@ -178,8 +179,8 @@ sub-put-joined-target-3 c =
     let args = start .args in
     let t = args .t .now in
     let known = after-shared-slice-known .shared-slice-known .given in
-    let v = start .pre in
-    target-ends t (bytes-known t known) (v .before′) (v .second) (v .after′) (args .y) (v .there′) .0
+    let (v, small, room) = start .pre in
+    second-ends t (bytes-known t known) (args .x) (args .y) v .0
 
 -- src/lib.rt:108:56
 part-put-joined-target-start-3 : tie.Need-part-put-joined-target-start-3
@@ -190,9 +191,9 @@ part-put-joined-target-start-3 c =
     let args = start .args in
     let t = args .t .now in
     let known = after-shared-slice-known .shared-slice-known .given in
-    let v = start .pre in
-    let e = target-ends t (bytes-known t known) (v .before′) (v .second) (v .after′) (args .y) (v .there′) in
-    omega (arith, e .0, e .1)
+    let (v, small, room) = start .pre in
+    let (e, f) = second-ends t (bytes-known t known) (args .x) (args .y) v in
+    omega (arith, e, f)
 
 -- src/lib.rt:108:9
 put-joined-target-requires : tie.Need-put-joined-target-requires
@@ -209,17 +210,15 @@ put-joined-target-requires c κs =
     let known = after-put-joined-head .before .before .before .before .shared-slice-known .given in
     let put-joined-head = after-put-joined-head .put-joined-head in
     let put-joined = after-put-joined .put-joined in
-    let v = start .pre in
-    targets-asked t (bytes-known t known) (v .before) (v .first) (v .after) x (v .there) (v .before′) (v .second)
-    (v .after′) y (v .there′) order
+    let (v, small, room) = start .pre in
+    targets-asked t (bytes-known t known) x y v order
     (rest (put-joined-head .result + put-joined .result)
-    (back (put-joined-head .result) (put-joined-head .last .0) (put-joined .last .0))) (v .small)
-    (third-room (joined-pieces order (v .first) (v .second)) out (v .room)
-    (heads-wrote t (bytes-known t known) (v .before) (v .first) (v .after) x (v .there) (v .before′) (v .second)
-    (v .after′) y (v .there′) out (put-joined-head .result) (put-joined-head .last .0) (put-joined-head .ensures))
-    (sources-wrote t (bytes-known t known) (v .before) (v .first) (v .after) x (v .there) (v .before′) (v .second)
-    (v .after′) y (v .there′) (rest (put-joined-head .result) (put-joined-head .last .0)) (put-joined .result)
-    (put-joined .last .0) (put-joined .ensures)))
+    (back (put-joined-head .result) (put-joined-head .last .0) (put-joined .last .0))) small
+    (third-room (joined-pieces order (v .first) (v .second)) out room
+    (heads-wrote t (bytes-known t known) x y v out (put-joined-head .result) (put-joined-head .last .0)
+    (put-joined-head .ensures))
+    (sources-wrote t (bytes-known t known) x y v (rest (put-joined-head .result) (put-joined-head .last .0))
+    (put-joined .result) (put-joined .last .0) (put-joined .ensures)))
 
 -- src/lib.rt:109:5
 add-result : tie.Need-add-result
@@ -237,18 +236,15 @@ add-result c =
     let put-joined-head = after-put-joined-head .put-joined-head in
     let put-joined = after-put-joined .put-joined in
     let put-joined-target = c .before .before .put-joined-target in
-    let v = start .pre in
+    let (v, small, room) = start .pre in
     omega (
       arith,
-      three-fit (joined-pieces order (v .first) (v .second)) out (v .room)
-          (heads-wrote t (bytes-known t known) (v .before) (v .first) (v .after) x (v .there) (v .before′)
-          (v .second) (v .after′) y (v .there′) out (put-joined-head .result) (put-joined-head .last .0)
+      three-fit (joined-pieces order (v .first) (v .second)) out room
+          (heads-wrote t (bytes-known t known) x y v out (put-joined-head .result) (put-joined-head .last .0)
           (put-joined-head .ensures))
-          (sources-wrote t (bytes-known t known) (v .before) (v .first) (v .after) x (v .there) (v .before′)
-          (v .second) (v .after′) y (v .there′) (rest (put-joined-head .result) (put-joined-head .last .0))
+          (sources-wrote t (bytes-known t known) x y v (rest (put-joined-head .result) (put-joined-head .last .0))
           (put-joined .result) (put-joined .last .0) (put-joined .ensures))
-          ((targets-wrote t (bytes-known t known) (v .before) (v .first) (v .after) x (v .there) (v .before′)
-          (v .second) (v .after′) y (v .there′) order
+          ((targets-wrote t (bytes-known t known) x y v order
           (rest (put-joined-head .result + put-joined .result)
           (back (put-joined-head .result) (put-joined-head .last .0) (put-joined .last .0)))
           (put-joined-target .result) (put-joined-target .last .0) (put-joined-target .ensures)) .0),
@@ -270,19 +266,17 @@ same-length c =
     let put-joined-head = after-put-joined-head .put-joined-head in
     let put-joined = after-put-joined .put-joined in
     let put-joined-target = c .before .before .put-joined-target in
-    let v = start .pre in
+    let (v, small, room) = start .pre in
     ap length (all-wrote (joined-pieces order (v .first) (v .second)) out
-    (heads-wrote t (bytes-known t known) (v .before) (v .first) (v .after) x (v .there) (v .before′) (v .second)
-    (v .after′) y (v .there′) out (put-joined-head .result) (put-joined-head .last .0) (put-joined-head .ensures))
-    (sources-wrote t (bytes-known t known) (v .before) (v .first) (v .after) x (v .there) (v .before′) (v .second)
-    (v .after′) y (v .there′) (rest (put-joined-head .result) (put-joined-head .last .0)) (put-joined .result)
-    (put-joined .last .0) (put-joined .ensures))
-    (targets-wrote t (bytes-known t known) (v .before) (v .first) (v .after) x (v .there) (v .before′) (v .second)
-    (v .after′) y (v .there′) order
+    (heads-wrote t (bytes-known t known) x y v out (put-joined-head .result) (put-joined-head .last .0)
+    (put-joined-head .ensures))
+    (sources-wrote t (bytes-known t known) x y v (rest (put-joined-head .result) (put-joined-head .last .0))
+    (put-joined .result) (put-joined .last .0) (put-joined .ensures))
+    (targets-wrote t (bytes-known t known) x y v order
     (rest (put-joined-head .result + put-joined .result)
     (back (put-joined-head .result) (put-joined-head .last .0) (put-joined .last .0))) (put-joined-target .result)
     (put-joined-target .last .0) (put-joined-target .ensures)) .1)
-    ∙ lead-length (part-bytes order (v .first) (v .second)) out (v .room)
+    ∙ lead-length (part-bytes order (v .first) (v .second)) out room
 
 -- src/lib.rt:93:1
 returns : tie.Need-returns
@@ -299,13 +293,13 @@ returns c =
     let put-joined-head = after-put-joined-head .put-joined-head in
     let put-joined = after-put-joined .put-joined in
     let put-joined-target = c .before .before .put-joined-target in
-    λ b p a e q d s u.
-    all-wrote (joined-pieces order p q) out
-    (heads-wrote t (bytes-known t known) b p a x s e q d y u out (put-joined-head .result)
-    (put-joined-head .last .0) (put-joined-head .ensures))
-    (sources-wrote t (bytes-known t known) b p a x s e q d y u
-    (rest (put-joined-head .result) (put-joined-head .last .0)) (put-joined .result) (put-joined .last .0)
-    (put-joined .ensures)) (targets-wrote t (bytes-known t known) b p a x s e q d y u order
+    λ v.
+    all-wrote (joined-pieces order (v .first) (v .second)) out
+    (heads-wrote t (bytes-known t known) x y v out (put-joined-head .result) (put-joined-head .last .0)
+    (put-joined-head .ensures))
+    (sources-wrote t (bytes-known t known) x y v (rest (put-joined-head .result) (put-joined-head .last .0))
+    (put-joined .result) (put-joined .last .0) (put-joined .ensures))
+    (targets-wrote t (bytes-known t known) x y v order
     (rest (put-joined-head .result + put-joined .result)
     (back (put-joined-head .result) (put-joined-head .last .0) (put-joined .last .0))) (put-joined-target .result)
     (put-joined-target .last .0) (put-joined-target .ensures))

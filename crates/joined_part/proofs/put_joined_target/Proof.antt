@@ -1,4 +1,4 @@
-use Rattle.joined_part.proofs.TargetLaws.{neither-wrote, first-alone, second-alone, both-pieces, contents-room, alone-room, alone-wrote, room-of-head}
+use Rattle.joined_part.proofs.TargetLaws.{neither-wrote, first-alone, second-alone, both-pieces, contents-room, alone-room, alone-wrote}
 use Rattle.joined_part.specs.Joined.{target-bytes}
 use Rattle.part_contents.proofs.TargetLaws.{present}
 use Rattle.writer.specs.Pieces.{rest}
@@ -106,14 +106,11 @@ put-target-head-requires : tie.Need-put-target-head-requires
 put-target-head-requires c κs =
     let start = c .before .before .before .before .before .before in
     let args = start .args in
-    let order = args .order in
-    let out = args .out .now in
     let g₀ = args .g .now in
     let k₀ = args .k .now in
     let (g, k, a, b, small, room) = start .pre in
-    room-of-head order out (first-room
-    (both-pieces order g₀ k₀ g k (present g₀ g (c .before .before .if1 .left) a)
-    (present k₀ k (c .before .if3 .left) b)) out room)
+    first-room (both-pieces (args .order) g₀ k₀ g k (present g₀ g (c .before .before .if1 .left) a)
+    (present k₀ k (c .before .if3 .left) b)) (args .out .now) room
 
 -- src/lib.rt:85:9
 sub-put-joined : tie.Need-sub-put-joined
