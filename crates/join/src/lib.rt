@@ -85,7 +85,8 @@ fn wide(x: u16) -> usize
     x as usize
 }
 
-// Accepted: the output's first bytes are the joined table, the rest is unchanged. Refused: the whole output is unchanged.
+// Accepted: the output's first bytes are the joined table, the rest is unchanged. Refused: the whole output is
+// unchanged.
 pub fn join(table: &[u8], part: u16, out: &mut [u8]) -> Answer
     ensures { λ r. ⌜ Answers (join (now (table .entry)) part (length (now (out .entry)))) r (now (out .entry)) (now (out .exit)) ⌝ }
 {

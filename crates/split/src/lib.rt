@@ -92,7 +92,8 @@ fn wide(x: u16) -> usize
     x as usize
 }
 
-// Accepted: the output's first bytes are the split table, the rest is unchanged. Refused: the whole output is unchanged.
+// Accepted: the output's first bytes are the split table, the rest is unchanged. Refused: the whole output is
+// unchanged.
 pub fn split(
     table: &[u8],
     part: u16,
