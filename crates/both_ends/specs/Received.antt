@@ -1,4 +1,5 @@
--- Demand 3 of the desk program: the list of calls is what it reads from a job, the received table what it prints last. A statement, not its proof.
+-- Demand 3 of the desk program: the list of calls is what it reads from a job, the received table what it prints last.
+-- A statement, not its proof.
 use Prim.Native.Nat.{ℕ, zero, suc, _+_}
 use mathlib.Core.Path.{_≡_}
 use mathlib.Core.List.{List, [], _∷_, _++_}

@@ -1,4 +1,5 @@
-// The desk's operations for programs in C or Rust. Each returns whether it accepts; `number` is that of the refusal, else 0; `value` is the result's length, or the refusal's place.
+// The desk's operations for programs in C or Rust. Each returns whether it accepts; `number` is that of the refusal,
+// else 0; `value` is the result's length, or the refusal's place.
 use answers::Answer;
 ghost use mathlib.Core.Path.{_≡_};
 ghost use lib.ListN.{length};

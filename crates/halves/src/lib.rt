@@ -1,4 +1,5 @@
-// The nearest other half of a marker, before and after it in its sequence: by a scan of the keys, or along the links of its group.
+// The nearest other half of a marker, before and after it in its sequence: by a scan of the keys, or along the links of
+// its group.
 ghost use mathlib.Core.Path.{_≡_};
 ghost use Prim.Native.Nat.{_<_, _≤_};
 ghost use lib.ListN.{length};

@@ -31,7 +31,8 @@ fn keep(table: &mut [u8], n: usize, a: Answer, result: &[u8]) -> usize
     }
 }
 
-// The request `r` at the head of `s`, on the table in the first `n` bytes of `table`: its line at the head of `out`, and in `table` the table that it leaves.
+// The request `r` at the head of `s`, on the table in the first `n` bytes of `table`: its line at the head of `out`,
+// and in `table` the table that it leaves.
 fn answer_request(r: Request, s: &[u8], table: &mut [u8], n: usize, out: &mut [u8]) -> Step
     requires { ⌜ (n ≤ 8192) × (length (now table) ≡ 8192) × (48 ≤ length (now out)) × (request-size r ≤ length (now s)) ⌝ }
     ensures { λ x. ⌜ Performed (call-of (now (s .entry)) r) (take n (now (table .entry))) (now (out .entry)) x (now (table .exit))
@@ -57,7 +58,8 @@ fn put_unreadable(out: &mut [u8], at: usize, t: &[u8]) -> usize
     k + lines::put_table(&mut out[k..], t)
 }
 
-// The lines of the requests behind the first `n` bytes of a job, whose table stands at the head of `table`; last the table.
+// The lines of the requests behind the first `n` bytes of a job, whose table stands at the head of `table`; last the
+// table.
 // No line is longer than 48 bytes and no request shorter than 4.
 fn put_requests(job: &[u8], n: usize, table: &mut [u8], out: &mut [u8]) -> usize
     requires { ⌜ (n ≤ length (now job)) × (n ≤ 8192) × (length (now job) ≤ 65535) × (length (now table) ≡ 8192) × (length (now out) ≡ 1048576) ⌝ }

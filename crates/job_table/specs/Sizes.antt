@@ -1,4 +1,5 @@
--- The size of a record that is whole. A stepping stone: `whole-size` of crates/xliff/specs/Desk.antt is `wholeOf` of the size by the mark.
+-- The size of a record that is whole. A stepping stone: `whole-size` of crates/xliff/specs/Desk.antt is `wholeOf` of
+-- the size by the mark.
 use Prim.Native.Nat.{ℕ}
 use mathlib.Core.Bool.{cond}
 use mathlib.Core.List.{List}

@@ -79,7 +79,8 @@ fn join_checked(table: &[u8], a: Answer, n: usize, out: &mut [u8]) -> Answer
     }
 }
 
-// Accepted: the output's first bytes are the joined table, the rest is unchanged. Refused: the whole output is unchanged.
+// Accepted: the output's first bytes are the joined table, the rest is unchanged. Refused: the whole output is
+// unchanged.
 pub fn join(table: &[u8], part: u16, out: &mut [u8]) -> Answer
     ensures { λ r. ⌜ Answers (join (now (table .entry)) part (length (now (out .entry)))) r (now (out .entry)) (now (out .exit)) ⌝ }
 {

@@ -2,3 +2,4 @@ pub mod KeyLaws
 pub mod FillLaws
 pub mod SeenLaws
 pub mod MarkLaws
+pub mod FilledLaws

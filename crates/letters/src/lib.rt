@@ -1,5 +1,6 @@
 // Rule 8: the letters of partners agree, and a fixed code is neither copied nor deleted.
-// Throughout, `t` is the table, `src` and `tgt` the offsets of the markers of the source and the target sequence, `skeys` and `tkeys` their keys.
+// Throughout, `t` is the table, `src` and `tgt` the offsets of the markers of the source and the target sequence,
+// `skeys` and `tkeys` their keys.
 use answers::Place;
 use views::View;
 ghost use mathlib.Core.Path.{_≡_};

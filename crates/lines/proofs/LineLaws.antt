@@ -3,8 +3,8 @@ use Prim.Native.Nat.{ℕ, zero, suc, _+_, _*_, _/_, _%_, _-_, _≤_, _<_}
 use mathlib.Core.Path.{_≡_, refl, sym, ap, ap₂, _∙_}
 use mathlib.Core.List.{List, [], _∷_, _++_, append-assoc}
 use native.Mathlib.Omega.{arith}
-use lib.ListN.{length, take, drop, getD, set, length-append}
-use lib.Seq.{take-suc}
+use lib.ListN.{length, take, drop, getD, set, length-append, length-set, length-drop}
+use lib.Seq.{take-suc, take-all}
 use borrow.Author.Tests.{lt-ltb, le-ltb}
 use Rattle.xliff.specs.Answer.{refused}
 use Rattle.xliff.specs.Bytes.{gather}
@@ -34,12 +34,20 @@ digit-more l (suc (suc k)) m p q h b =
     let e : suc (suc k) - 1 ≡ suc k = omega arith in
     rw e (rw (le-ltb m 10 h) (ap (digits (suc k) (m / 10)) (placed l (suc k) (48 + m % 10) (omega arith))), omega arith, omega arith)
 
-pub digit-last : (l : List ℕ) (k m : ℕ) → 1 ≤ k → k ≤ length l → m < 10 → digits k m (drop k l) ≡ drop (k - 1) (set l (k - 1) (48 + m % 10))
+digit-last : (l : List ℕ) (k m : ℕ) → 1 ≤ k → k ≤ length l → m < 10 → digits k m (drop k l) ≡ drop (k - 1) (set l (k - 1) (48 + m % 10))
 unfolding digits
 digit-last l zero m p q h = absurd (omega arith)
 digit-last l (suc k) m p q h =
     let e : suc k - 1 ≡ k = omega arith in
     rw (e, lt-ltb m 10 h) (placed l k (48 + m % 10) (omega arith))
+
+-- the digits of a number stand at the end of an array of 20 once the last one is there
+pub digits-there : (l : List ℕ) (k m d : ℕ) → 1 ≤ k → k ≤ 20 → length l ≡ 20 → m < 10 → d ≡ 48 + m % 10
+    → take (20 - (k - 1)) (drop (k - 1) (set l (k - 1) d)) ≡ digits k m (drop k l)
+digits-there l k m d p q n h e =
+    take-all (20 - (k - 1)) (drop (k - 1) (set l (k - 1) d)) (omega (arith, length-drop (k - 1) (set l (k - 1) d), length-set l (k - 1) d))
+    ∙ ap (λ (v : ℕ). drop (k - 1) (set l (k - 1) v)) e
+    ∙ sym (digit-last l k m p (omega arith) h)
 
 -- a piece at the head, a second one behind it through the lent tail, and a byte behind both
 pub tail-byte : (out p d xs ys zs : List ℕ) (a b x : ℕ) → a ≡ length p → xs ≡ lead p out → b ≡ length d → ys ≡ lead d (take (length xs - a) (drop a xs))
@@ -79,6 +87,13 @@ hex-next t out xs ys zs i at k h l p e f u v m y z =
       where
         digits-of : h ∷ l ∷ [] ≡ gather hex-byte (getD t i 0 ∷ [])
         digits-of = ap₂ (λ (a b : ℕ). a ∷ b ∷ []) u v
+
+-- all bytes
+pub hex-end : (t out last : List ℕ) (i at : ℕ) → i ≤ length t → length t ≤ i → at ≡ 2 * i → at ≡ length (hex (take i t)) → last ≡ lead (hex (take i t)) out
+    → (at ≡ length (hex t)) × (last ≡ lead (hex t) out) × (at ≡ 2 * length t)
+hex-end t out last i at p q n e f =
+    let w : take i t ≡ t = take-all i t q in
+    (e ∙ ap (λ (l : List ℕ). length (hex l)) w, f ∙ ap (λ (l : List ℕ). lead (hex l) out) w, omega (arith, n))
 
 pub hex-length : (t : List ℕ) → length (hex t) ≡ 2 * length t
 unfolding hex gather hex-byte

@@ -102,7 +102,8 @@ pub fn is_lone(keys: &[u32], i: usize, stack: &mut [u32]) -> bool
 }
 
 // The first half of pc or mrk without partner, over all contents.
-// Work: for each half the steps to its partner, or to the end of its content: at most the square of the number of markers.
+// Work: for each half the steps to its partner, or to the end of its content: at most the square of the number of
+// markers.
 pub fn first_lone(t: &[u8], os: &[u16], keys: &[u32]) -> Place
     requires { ⌜ Passes (now t) × (now os ≡ barred true (now t)) × (now keys ≡ barKeys (now t) (now os)) × (length (now os) ≤ 1024) ⌝ }
     ensures { λ r. ⌜ refusal-at 7 r ≡ first-of 7 (gather (blamed lone-P []) (placed-contents (located (unit (now (t .entry)) .parts)))) ⌝ }

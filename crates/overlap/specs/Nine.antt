@@ -23,7 +23,8 @@ Filled f n l = (k : ℕ) → k < n → getD l k 0 ≡ f k
 abbrev pub Halves : List ℕ → List ℕ → List ℕ → Type 0
 Halves keys starts ends = Filled (half-before keys) (length keys) starts × Filled (half-after keys) (length keys) ends
 
--- a marker between the indices `first` and `end`, by its nearest other halves: isolated, or of a pair whose other half is not there too
+-- a marker between the indices `first` and `end`, by its nearest other halves: isolated, or of a pair whose other half
+-- is not there too
 abbrev pub strayKey : ℕ → ℕ → ℕ → ℕ → ℕ → Bool
 strayKey key first end before after =
     eqb (classKey key) 3 || eqb (classKey key) 4 || eqb (classKey key) 2 && not (ltb first before || ltb after end)

@@ -1,5 +1,6 @@
 // Rule 9: a pair with canOverlap N encloses neither an isolated code nor one half alone of another pair.
-// Throughout, `t` is the table, `src` and `tgt` the offsets of the markers of the source and the target sequence, `skeys` and `tkeys` their keys.
+// Throughout, `t` is the table, `src` and `tgt` the offsets of the markers of the source and the target sequence,
+// `skeys` and `tkeys` their keys.
 use answers::Place;
 use views::View;
 ghost use mathlib.Core.Path.{_≡_};
@@ -59,7 +60,8 @@ fn fill(keys: &[u32], starts: &mut [u16], ends: &mut [u16])
     fill_ends(keys, &links, ends);
 }
 
-// Whether a marker between `first` and `end`, with these nearest other halves, is isolated or has its other half elsewhere.
+// Whether a marker between `first` and `end`, with these nearest other halves, is isolated or has its other half
+// elsewhere.
 fn is_stray(key: u32, first: usize, end: usize, before: usize, after: usize) -> bool
     ensures { λ r. ⌜ r ≡ strayKey key first end before after ⌝ }
 {

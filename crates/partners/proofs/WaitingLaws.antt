@@ -105,7 +105,8 @@ lone-holds before y after bs zs m e f =
     ∙ sym (lone-keys (marked bs) y (marked zs))
     ∙ sym (lone-marked bs y zs m)
 
--- one half, by what is known of it: it is the other half, has no partner in its content (p) or in its sequence (s), is in a part with target
+-- one half, by what is known of it: it is the other half, has no partner in its content (p) or in its sequence (s), is
+-- in a part with target
 one-waits : (o h p s t : Bool) → h && o ≡ o → o && (not p && (not s && not t)) ≡ cond t false (h && not (p || s) && o)
 one-waits false h p s true e = refl
 one-waits false h p s false e = sym (and-false (h && not (p || s)))

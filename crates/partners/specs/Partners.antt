@@ -1,4 +1,5 @@
--- Rule 7 for the marks of start and end (SC EC SM EM), on keys: the specification's definitions with keys in place of items.
+-- Rule 7 for the marks of start and end (SC EC SM EM), on keys: the specification's definitions with keys in place of
+-- items.
 use Prim.Native.Nat.{ℕ}
 use mathlib.Core.Bool.{Bool, false, not, _&&_, _||_, cond}
 use mathlib.Core.List.{List, [], _∷_, _++_, map}
@@ -15,7 +16,8 @@ unfoldable pub partnerSKey : ℕ → List ℕ → Bool
 partnerSKey k [] = false
 partnerSKey k (y ∷ ys) = cond (alikeKeys k y && not (formKey y)) (otherKey k y) (partnerSKey k ys)
 
--- a half with the mark of a start or an end without partner; what stands before it in its sequence, the nearest first, and after it
+-- a half with the mark of a start or an end without partner; what stands before it in its sequence, the nearest first,
+-- and after it
 unfoldable pub loneSKey : List ℕ → ℕ → List ℕ → Bool
 loneSKey before k after = not (eqb (halfKey k) 0) && (not (formKey k) && not (partnerSKey k (cond (eqb (halfKey k) 1) after before)))
 
@@ -26,7 +28,8 @@ halfOfId i k = not (eqb (halfKey k) 0) && eqb (idKey k) i
 unfoldable pub onlyHalf : List ℕ → ℕ → List ℕ → Bool
 onlyHalf before k after = not (any (halfOfId (idKey k)) before) && not (any (halfOfId (idKey k)) after)
 
--- Of the keys of the source contents with bars between them: k is the other half of x, has its partner, and is in a part without target
+-- Of the keys of the source contents with bars between them: k is the other half of x, has its partner, and is in a
+-- part without target
 unfoldable pub waits : ℕ → List ℕ → ℕ → List ℕ → Bool
 waits x before k after =
     otherKey x k && (not (lonePKey (run before) k (run after)) && (not (loneSKey before k after) && not (targeted after)))

@@ -1,5 +1,6 @@
 // Rule 7: a half without partner.
-// Throughout, `t` is the table, `src` and `tgt` the offsets of the markers of the source and the target sequence, `skeys` and `tkeys` their keys.
+// Throughout, `t` is the table, `src` and `tgt` the offsets of the markers of the source and the target sequence,
+// `skeys` and `tkeys` their keys.
 use answers::Place;
 ghost use mathlib.Core.Path.{_≡_};
 ghost use mathlib.Core.Bool.{true, false};
@@ -46,7 +47,8 @@ fn partner_before(ks: &[u32], k: u32) -> bool
     false
 }
 
-// The key at `i` is a half with the mark of a start or an end, and has no partner: a start looks at what is after it, an end at what is before it.
+// The key at `i` is a half with the mark of a start or an end, and has no partner: a start looks at what is after it,
+// an end at what is before it.
 fn lone_s(ks: &[u32], i: usize) -> bool
     requires { ⌜ i < length (now ks) ⌝ }
     ensures { λ r. ⌜ r ≡ loneSKey (reverse (take i (now (ks .entry)))) (getD (now (ks .entry)) i 0) (drop (i + 1) (now (ks .entry))) ⌝ }
@@ -100,7 +102,8 @@ fn is_targeted(ks: &[u32]) -> bool
     false
 }
 
-// The halves with the mark of a start or an end that have no partner in the source sequence. Quadratic: each looks at the others.
+// The halves with the mark of a start or an end that have no partner in the source sequence. Quadratic: each looks at
+// the others.
 fn lone_in_source(os: &[u16], ks: &[u32], start: Place) -> Place
     requires { ⌜ length (now ks) ≡ length (now os) ⌝ }
     ensures { λ r. ⌜ refusal-at 7 r ≡ toward 7 start (blamedKeys loneSKey [] (now (os .entry)) (now (ks .entry))) ⌝ }
@@ -114,8 +117,8 @@ fn lone_in_source(os: &[u16], ks: &[u32], start: Place) -> Place
     best
 }
 
-// Of the keys of the source contents with bars between them, that at `i` is the other half of `x`, has its partner, and is in a part without target.
-// One step if it is not the other half of `x`, else linear.
+// Of the keys of the source contents with bars between them, that at `i` is the other half of `x`, has its partner, and
+// is in a part without target. One step if it is not the other half of `x`, else linear.
 fn waits(x: u32, bars: &[u32], i: usize, stack: &mut [u32]) -> bool
     requires { ⌜ (i < length (now bars)) × (length (now bars) ≤ 1024) × (length (now stack) ≡ 1024) ⌝ }
     ensures { λ r. ⌜ (r ≡ waits x (reverse (take i (now (bars .entry)))) (getD (now (bars .entry)) i 0) (drop (i + 1) (now (bars .entry)))) × (length (now (stack .exit)) ≡ 1024) ⌝ }
@@ -144,8 +147,8 @@ fn waits_for(x: u32, bars: &[u32], stack: &mut [u32]) -> bool
     false
 }
 
-// The key at `i` of the target sequence is a half at fault: it has no partner, and is not the only half of its id with another that waits in the source.
-// Linear, and as `waits_for` where it is the only half of its id: at most quadratic.
+// The key at `i` of the target sequence is a half at fault: it has no partner, and is not the only half of its id with
+// another that waits in the source. Linear, and as `waits_for` where it is the only half of its id: at most quadratic.
 fn stays_lone(ks: &[u32], i: usize, bars: &[u32], stack: &mut [u32]) -> bool
     requires { ⌜ (i < length (now ks)) × (length (now bars) ≤ 1024) × (length (now stack) ≡ 1024) ⌝ }
     ensures { λ r. ⌜ (r ≡ loneInTarget (now (bars .entry)) (reverse (take i (now (ks .entry)))) (getD (now (ks .entry)) i 0) (drop (i + 1) (now (ks .entry)))) × (length (now (stack .exit)) ≡ 1024) ⌝ }
@@ -159,8 +162,9 @@ fn stays_lone(ks: &[u32], i: usize, bars: &[u32], stack: &mut [u32]) -> bool
     !waits_for(ks[i], bars, stack)
 }
 
-// The halves at fault in the target sequence. Quadratic: each looks at the others and at the source keys; it looks closer, once more linear, only at source
-// keys of its id, and the ids of those that get so far differ, so that no source key is looked at closer twice.
+// The halves at fault in the target sequence. Quadratic: each looks at the others and at the source keys; it looks
+// closer, once more linear, only at source keys of its id, and the ids of those that get so far differ, so that no
+// source key is looked at closer twice.
 fn lone_in_target(os: &[u16], ks: &[u32], bars: &[u32], start: Place) -> Place
     requires { ⌜ (length (now ks) ≡ length (now os)) × (length (now bars) ≤ 1024) ⌝ }
     ensures { λ r. ⌜ refusal-at 7 r ≡ toward 7 start (blamedKeys (loneInTarget (now (bars .entry))) [] (now (os .entry)) (now (ks .entry))) ⌝ }
@@ -179,7 +183,8 @@ fn lone_in_target(os: &[u16], ks: &[u32], bars: &[u32], start: Place) -> Place
     best
 }
 
-// The halves of pc and mrk without partner in their content, with the keys of all contents. Quadratic, as `first_lone` is.
+// The halves of pc and mrk without partner in their content, with the keys of all contents. Quadratic, as `first_lone`
+// is.
 fn lone_in_contents(t: &[u8]) -> Place
     requires { ⌜ Passes (now t) × (length (now t) ≤ 8192) ⌝ }
     ensures { λ r. ⌜ refusal-at 7 r ≡ first-of 7 (gather (blamed lone-P []) (placed-contents (located (unit (now (t .entry)) .parts)))) ⌝ }

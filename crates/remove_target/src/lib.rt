@@ -62,7 +62,8 @@ fn remove_checked(table: &[u8], a: Answer, n: usize, out: &mut [u8]) -> Answer
     }
 }
 
-// Accepted: the output's first bytes are the table without the target, the rest is unchanged. Refused: the whole output is unchanged.
+// Accepted: the output's first bytes are the table without the target, the rest is unchanged. Refused: the whole output
+// is unchanged.
 pub fn remove_target(table: &[u8], part: u16, out: &mut [u8]) -> Answer
     ensures { λ r. ⌜ Answers (remove-target (now (table .entry)) part (length (now (out .entry)))) r (now (out .entry)) (now (out .exit)) ⌝ }
 {

@@ -1,4 +1,5 @@
--- A unit of good parts within the limits, as bytes: it passes 1 to 4 and is read back as that unit, whichever of the rules 5 to 10 it meets.
+-- A unit of good parts within the limits, as bytes: it passes 1 to 4 and is read back as that unit, whichever of the
+-- rules 5 to 10 it meets.
 use Rattle.xliff.specs.Good.{GoodRecord, AllGood, part-heads, GoodParts}
 use Prim.Native.Nat.{ℕ, _≤_}
 use mathlib.Core.Path.{_≡_, sym, ap, subst}

@@ -22,7 +22,8 @@ fn is_at(p: Place) -> bool
     }
 }
 
-// 7, or 9 if that is asked too, or 0. `src` and `tgt` are the offsets of the markers of the source and the target sequence, `skeys` and `tkeys` their keys.
+// 7, or 9 if that is asked too, or 0. `src` and `tgt` are the offsets of the markers of the source and the target
+// sequence, `skeys` and `tkeys` their keys.
 fn by_markers(t: &[u8], src: &[u16], skeys: &[u32], tgt: &[u16], tkeys: &[u32], also_9: bool) -> u8
     requires { ⌜ Markers (now t) (now src) (now skeys) (now tgt) (now tkeys) ⌝ }
     ensures { λ r. ⌜ broken r ≡ of-result (fault-7 (unit (now (t .entry)) .parts) then cond «also_9» (fault-9 (unit (now (t .entry)) .parts)) none) ⌝ }

@@ -17,7 +17,8 @@ fn is_already(form: u8, is_p: bool) -> bool
     if form == b'P' { is_p } else { !is_p }
 }
 
-// 20, 21, 15, then the bytes: every refusal is decided before the first store. Each record keeps its length, so 15 is only a matter of the room.
+// 20, 21, 15, then the bytes: every refusal is decided before the first store. Each record keeps its length, so 15 is
+// only a matter of the room.
 fn rewrite_pair(
     table: &[u8],
     is_p: bool,
@@ -86,7 +87,8 @@ fn rewrite_checked(table: &[u8], a: Answer, side: u8, id: u16, form: u8, out: &m
     }
 }
 
-// Accepted: the output's first bytes are the rewritten table, the rest is unchanged. Refused: the whole output is unchanged.
+// Accepted: the output's first bytes are the rewritten table, the rest is unchanged. Refused: the whole output is
+// unchanged.
 pub fn rewrite(table: &[u8], side: u8, id: u16, form: u8, out: &mut [u8]) -> Answer
     ensures { λ r. ⌜ Answers (rewrite (now (table .entry)) side id form (length (now (out .entry)))) r (now (out .entry)) (now (out .exit)) ⌝ }
 {

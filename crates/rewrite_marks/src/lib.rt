@@ -65,7 +65,8 @@ fn put_half(out: &mut [u8], at: usize, class: u32, half: u32, p: bool) -> usize
     put_end(out, at, class == 2, p)
 }
 
-// The mark of the item at an offset of `t`, in form P or S, if it is a half of the id in a content of the side. `out` has the bytes of `t` there.
+// The mark of the item at an offset of `t`, in form P or S, if it is a half of the id in a content of the side. `out`
+// has the bytes of `t` there.
 fn put_form(out: &mut [u8], t: &[u8], at: usize, inside: bool, id: u32, p: bool)
     requires { ⌜ at + 2 ≤ length (now out) ⌝ }
     ensures { λ r. ⌜ now (out .exit) ≡ formed inside id p (item-at (now (t .entry)) at) (now (out .entry)) at ⌝ }

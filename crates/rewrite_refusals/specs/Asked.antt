@@ -1,4 +1,5 @@
--- The tests of 2 and 21. 21 is asked of a valid table and a complete pair or annotation of the id on the side, in the other form.
+-- The tests of 2 and 21. 21 is asked of a valid table and a complete pair or annotation of the id on the side, in the
+-- other form.
 use Prim.Native.Nat.{ℕ}
 use mathlib.Core.Path.{_≡_}
 use mathlib.Core.Bool.{Bool, true, false, not, _||_}

@@ -4,7 +4,8 @@ ghost use Rattle.xliff.specs.Parse.{unit};
 ghost use Rattle.xliff.specs.Rewrite.{form-of};
 ghost use Rattle.rewrite_refusals.specs.Asked.{apart, SomeAsked, Fitting, Refused21};
 
-// With the marks of pc or mrk a half that has no partner in its content breaks rule 7, so the table is rewritten aside and judged by it.
+// With the marks of pc or mrk a half that has no partner in its content breaks rule 7, so the table is rewritten aside
+// and judged by it.
 fn is_apart(t: &[u8], side: u8, id: u16) -> bool
     requires { ⌜ Fitting (now t) side id ⌝ }
     ensures { λ r. ⌜ r ≡ apart (unit (now (t .entry))) side id ⌝ }

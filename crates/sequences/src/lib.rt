@@ -62,7 +62,8 @@ fn target_heads(t: &[u8], heads: &mut [u16]) -> usize
     m
 }
 
-// The markers of the target whose TG is number `i` of the heads, if its order is `q`, behind the first `n`: those up to the next head.
+// The markers of the target whose TG is number `i` of the heads, if its order is `q`, behind the first `n`: those up to
+// the next head.
 fn target_markers(t: &[u8], heads: &[u16], i: usize, q: u16, out: &mut [u16], n: usize) -> usize
     requires { ⌜ Passes (now t) × (length (now t) ≤ 8192) × (now heads ≡ head-offsets (now t)) × (i < length (now heads))
         × (length (of-order q (head-number (now t) i)) + n ≤ length (now out)) × (length (now out) ≤ 1024) ⌝ }
@@ -120,7 +121,8 @@ fn markers_of(
     target_markers(t, heads, i, q, out, n)
 }
 
-// The markers of the targets of order `q`, behind the first `n`; `heads` and `orders` are the offsets and the orders of the TG records.
+// The markers of the targets of order `q`, behind the first `n`; `heads` and `orders` are the offsets and the orders of
+// the TG records.
 fn collect(t: &[u8], heads: &[u16], orders: &[u16], q: u16, out: &mut [u16], n: usize) -> usize
     requires { ⌜ Passes (now t) × (length (now t) ≤ 8192) × (now heads ≡ head-offsets (now t))
         × (length (offsets false q (now t)) + n ≤ length (now out)) × (length (now out) ≤ 1024)
@@ -167,7 +169,8 @@ pub struct Counts {
     pub target: usize,
 }
 
-// The markers of both sequences of a table with so many parts: their offsets at the front of `src` and `tgt`, their keys at the front of `skeys` and `tkeys`.
+// The markers of both sequences of a table with so many parts: their offsets at the front of `src` and `tgt`, their
+// keys at the front of `skeys` and `tkeys`.
 pub fn markers(
     t: &[u8],
     parts: usize,

@@ -1,6 +1,6 @@
 // Rule 10: codes of targets match those of the source.
-// Throughout, `t` is the table, `src` and `tgt` the offsets of the markers of the source and the target sequence, `skeys` and `tkeys` their keys.
-// `links` and `heads` link keys by the groups of their ids (`id_links`).
+// Throughout, `t` is the table, `src` and `tgt` the offsets of the markers of the source and the target sequence,
+// `skeys` and `tkeys` their keys. `links` and `heads` link keys by the groups of their ids (`id_links`).
 use answers::Place;
 use views::View;
 ghost use mathlib.Core.Path.{_≡_};
@@ -15,7 +15,8 @@ ghost use Rattle.xliff.specs.Parse.{unit};
 ghost use Rattle.sequences.specs.Markers.{Markers};
 ghost use Rattle.places.specs.Markers.{item-at, placed-at};
 
-// The tests of an item against another: 0 gives its id, 1 gives it in another class, 2 is its like in the source, 3 is what it may be a copy of.
+// The tests of an item against another: 0 gives its id, 1 gives it in another class, 2 is its like in the source, 3 is
+// what it may be a copy of.
 fn passes(kind: u8, x: View, y: View) -> bool
     ensures { λ r. ⌜ r ≡ testOf kind x y ⌝ }
 {
@@ -144,7 +145,8 @@ fn ten_source(t: &[u8], os: &[u16], keys: &[u32]) -> Place
 }
 
 // Rule 10 over the markers of the target sequence, below `start`.
-// Each looks at the source items of two groups: linear in the markers, at most quadratic, where all ids fall into one group.
+// Each looks at the source items of two groups: linear in the markers, at most quadratic, where all ids fall into one
+// group.
 fn ten_target(
     t: &[u8],
     src: &[u16],

@@ -86,7 +86,8 @@ fn split_checked(
     }
 }
 
-// Accepted: the output's first bytes are the split table, the rest is unchanged. Refused: the whole output is unchanged.
+// Accepted: the output's first bytes are the split table, the rest is unchanged. Refused: the whole output is
+// unchanged.
 pub fn split(
     table: &[u8],
     part: u16,

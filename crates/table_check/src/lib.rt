@@ -1,5 +1,6 @@
 // The check of a table: the numbers 1 to 10. A rule is tried only where all before it are met.
-// Throughout, `t` is the table, `src` and `tgt` the offsets of the markers of the source and the target sequence, `skeys` and `tkeys` their keys.
+// Throughout, `t` is the table, `src` and `tgt` the offsets of the markers of the source and the target sequence,
+// `skeys` and `tkeys` their keys.
 use answers::Answer;
 use answers::Place;
 ghost use mathlib.Core.Path.{_≡_};

@@ -85,7 +85,8 @@ fn in_target(t: &[u8], parts: u16, id: u16) -> FoundPair
     pair_of(t, &os[..n], &ks[..n], id)
 }
 
-// The pair or annotation of the id on a side. Linear in the markers but for the target sequence, which takes one look at each TG for each order.
+// The pair or annotation of the id on a side. Linear in the markers but for the target sequence, which takes one look
+// at each TG for each order.
 pub fn find(t: &[u8], side: u8, id: u16) -> FoundPair
     requires { ⌜ Passes (now t) × (length (now t) ≤ 8192) ⌝ }
     ensures { λ r. ⌜ r ≡ pairOf (find-whole id (side-sequence side (unit (now (t .entry)) .parts))) ⌝ }

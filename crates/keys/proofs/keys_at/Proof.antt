@@ -1,54 +1,39 @@
 use native.Mathlib.Omega.{arith}
-use mathlib.Core.List.{map}
 use Rattle.places.specs.Markers.{item-at}
-use lib.ListN.{length, take, set, length-set}
-use Prim.Native.Nat.{ℕ, _≤_, _-_, _+_}
-use mathlib.Core.Path.{_≡_, _∙_, ap, refl}
+use lib.ListN.{length}
+use Prim.Native.Nat.{ℕ, _-_}
+use mathlib.Core.Path.{_∙_}
 use Rattle.keys.specs.Keys.{key}
 use Rattle.keys.proofs.KeyLaws.{keys-each}
-use Rattle.keys.proofs.FillLaws.{filled-next, filled-all}
+use Rattle.keys.proofs.FilledLaws.{Filling, filling-start, filling-next, filling-all}
 use borrow.Author.Needs.{needs}
 use Rattle.keys.proofs.keys_at.Statement.{statement}
 use Rattle.keys.proofs.keys_at.Tie as tie
 
 abbrev Inv-loop : tie.InvT-loop
-Inv-loop t os out₀ i₀ out i =
-    (i ≤ length os) × (length out ≡ length out₀) × (take i out ≡ map (λ (o : ℕ). key (item-at t o)) (take i os))
+Inv-loop t os out₀ i₀ out i = Filling (λ (o : ℕ). key (item-at t o)) os out₀ out i
 
 abbrev μ-loop : tie.MeasureT-loop
 μ-loop t os out₀ i₀ out i = length os - i
 
 -- no key yet
 loop-holds : tie.Need-loop-holds Inv-loop μ-loop
-loop-holds c = (omega arith, refl, refl)
+loop-holds c = filling-start _ _ _
 
 -- one key more
 loop-again : tie.Need-loop-again Inv-loop μ-loop
 loop-again c =
-    let args = c .before .before .before .before .before .before .before .before .args in
-    let t = args .t .now in
-    let loop = c .before .before .before .before .loop in
-    let i = loop .i in (
-      omega arith,
-      simp length-set (loop .inv .1),
-      ap (λ (k : ℕ). take (i + 1) (set (loop .out) i k))
-          (c .key-at .ensures ∙ ap (λ (k : ℕ). key (item-at t k)) (c .before .wide .ensures .0))
-          ∙ filled-next (λ (o : ℕ). key (item-at t o)) (args .os .now) (loop .out) i (omega arith) (omega arith)
-          (loop .inv .2),
-    )
+    let start = c .before .before .before .before .before .before .before .before in
+    let wide = c .before .wide in
+    filling-next (c .before .before .before .before .loop .inv) (c .before .before .before .loop-test .taken) (start .pre)
+    (wide .result) (c .key-at .result) (wide .ensures .0) (c .key-at .ensures)
 
 -- all keys
 returns : tie.Need-returns Inv-loop μ-loop
 returns c =
     let args = c .before .before .before .before .before .args in
-    let t = args .t .now in
-    let os = args .os .now in
-    let loop = c .before .loop in (
-      omega arith,
-      filled-all (λ (o : ℕ). key (item-at t o)) os (loop .out) (loop .i) (omega arith) (loop .inv .2)
-          ∙ keys-each t os,
-      loop .inv .1,
-    )
+    let inv = c .before .loop .inv in
+    (omega (arith, inv .within), filling-all inv (c .loop-test .left) ∙ keys-each (args .t .now) (args .os .now), inv .sized)
 
 pub keys-at-spec : {M : Type 1} → statement M
 keys-at-spec =

@@ -1,13 +1,12 @@
 use lib.ListN.{length-take}
-use lib.Seq.{take-all}
-use lib.ListN.{length, take, drop, set, length-set, length-drop}
+use lib.ListN.{length, drop, set, length-set}
 use Prim.Native.Nat.{ℕ, _-_, _≤_, _<_, _/_}
 use mathlib.Core.List.{List}
 use mathlib.Core.Path.{_≡_, refl, sym, ap, _∙_}
 use native.Mathlib.Omega.{arith}
 use Rattle.writer.specs.Pieces.{lead}
 use Rattle.xliff.specs.Desk.{digits as spell-digits, decimal}
-use Rattle.lines.proofs.LineLaws.{ten, digit-more, digit-last}
+use Rattle.lines.proofs.LineLaws.{ten, digit-more, digits-there}
 use borrow.Author.Needs.{needs}
 use Rattle.lines.proofs.put_decimal.Statement.{statement}
 use Rattle.lines.proofs.put_decimal.Tie as tie
@@ -19,12 +18,12 @@ Inv-loop out n digits₀ k₀ m₀ digits k m =
 abbrev μ-loop : tie.MeasureT-loop
 μ-loop out n digits₀ k₀ m₀ digits k m = m
 
--- src/lib.rt:26:5
+-- the loop's start
 loop-holds : tie.Need-loop-holds Inv-loop μ-loop
 unfolding decimal
 loop-holds c = (omega arith, omega arith, omega (arith, c .before .fits), refl, refl)
 
--- src/lib.rt:26:5
+-- the loop's step
 loop-again : tie.Need-loop-again Inv-loop μ-loop
 unfolding decimal
 loop-again c =
@@ -44,14 +43,14 @@ loop-again c =
           (sym (c .digit .ensures)),
     )
 
--- src/lib.rt:33:22
+-- &digits[k..]
 part-put-end : tie.Need-part-put-end Inv-loop μ-loop
 unfolding decimal
 part-put-end c =
     let loop = c .before .before .before .before .loop in
     omega (arith, length-set (loop .digits) (loop .k - 1) (c .before .before .digit2 .result), loop .inv .3)
 
--- src/lib.rt:19:1
+-- writer::put(out, &digits[k..])
 returns : tie.Need-returns Inv-loop μ-loop
 unfolding decimal
 returns c =
@@ -63,17 +62,11 @@ returns c =
     let inv = loop .inv in
     let loop-test = after-digit2 .before .loop-test in
     let digit2 = after-digit2 .digit2 in
-    let the-set = set digits (k - 1) (digit2 .result) in
-    let the-drop = drop (k - 1) the-set in
     let put = c .before .before .put in
-    let w : take (20 - (k - 1)) the-drop ≡ decimal (args .n) =
-    take-all (20 - (k - 1)) the-drop
-    (omega (arith, length-drop (k - 1) the-set, length-set digits (k - 1) (digit2 .result), inv .3))
-    ∙ ap (λ (v : ℕ). drop (k - 1) (set digits (k - 1) v)) (digit2 .ensures)
-    ∙ sym (inv .4 ∙ digit-last digits k (loop .m) (inv .1) (omega (arith, inv .0, inv .3)) (loop-test .left)) in (
+    let w = digits-there digits k (loop .m) (digit2 .result) (inv .1) (inv .0) (inv .3) (loop-test .left) (digit2 .ensures) ∙ sym (inv .4) in (
       put .ensures .0 ∙ ap length w,
       put .ensures .1 ∙ ap (λ (l : List ℕ). lead l (args .out .now)) w,
-      omega (arith, put .ensures .0, length-take (20 - (k - 1)) the-drop),
+      omega (arith, put .ensures .0, length-take (20 - (k - 1)) (drop (k - 1) (set digits (k - 1) (digit2 .result)))),
     )
 
 pub put-decimal-spec : {M : Type 1} → statement M
@@ -84,13 +77,13 @@ put-decimal-spec =
     Inv-loop
     μ-loop
     loop-holds
-    -- by search: sub-k 27:9, digit-requires 28:21, array-write-digits 28:9, loop-less 26:5
+    -- by search: sub-k, digit-requires, array-write-digits, loop-less
     (λ c. search needs) (λ c κs. search needs) (λ c. search needs) (λ c. search needs)
     loop-again
-    -- by search: sub-k-2 31:5, digit-requires-2 32:17, array-write-digits-2 32:5, sub-put 33:22,
-    -- part-put-start 33:22
+    -- by search: sub-k-2, digit-requires-2, array-write-digits-2, sub-put,
+    -- part-put-start
     (λ c. search needs) (λ c κs. search needs) (λ c. search needs) (λ c. search needs) (λ c. search needs)
     part-put-end
-    -- by search: put-requires 33:5, same-length 19:1
+    -- by search: put-requires, same-length
     (λ c κs. search needs) (λ c. search needs)
     returns)

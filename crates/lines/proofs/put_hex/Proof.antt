@@ -1,13 +1,11 @@
 use Rattle.xliff.specs.Bytes.{gather}
-use lib.Seq.{take-all}
 use lib.ListN.{length, take}
-use Prim.Native.Nat.{ℕ, _-_, _≤_, _*_}
-use mathlib.Core.List.{List}
-use mathlib.Core.Path.{_≡_, refl, ap, _∙_}
+use Prim.Native.Nat.{_-_, _≤_, _*_}
+use mathlib.Core.Path.{_≡_, refl, _∙_}
 use native.Mathlib.Omega.{arith}
 use Rattle.writer.specs.Pieces.{lead}
 use Rattle.lines.specs.Lines.{hex}
-use Rattle.lines.proofs.LineLaws.{hex-next}
+use Rattle.lines.proofs.LineLaws.{hex-next, hex-end}
 use borrow.Author.Needs.{needs}
 use Rattle.lines.proofs.put_hex.Statement.{statement}
 use Rattle.lines.proofs.put_hex.Tie as tie
@@ -23,19 +21,19 @@ Inv-loop out₀ t i₀ at₀ out i at =
 abbrev μ-loop : tie.MeasureT-loop
 μ-loop out₀ t i₀ at₀ out i at = length t - i
 
--- src/lib.rt:86:5
+-- the loop's start
 loop-holds : tie.Need-loop-holds Inv-loop μ-loop
 unfolding hex gather
 loop-holds c = (omega arith, refl, refl, refl, refl)
 
--- src/lib.rt:88:43
+-- hex_digit(b / 16)
 hex-digit-requires : tie.Need-hex-digit-requires Inv-loop μ-loop
 unfolding hex gather
 hex-digit-requires c κs =
     let loop = c .before .before .before .loop in
     omega (arith, (c .before .shared-slice-known2 .given) (loop .i))
 
--- src/lib.rt:86:5
+-- the loop's step
 loop-again : tie.Need-loop-again Inv-loop μ-loop
 unfolding hex gather
 loop-again c =
@@ -59,19 +57,14 @@ loop-again c =
       e .1,
     )
 
--- src/lib.rt:80:1
+-- at
 returns : tie.Need-returns Inv-loop μ-loop
 unfolding hex gather
 returns c =
     let args = c .before .before .before .before .args in
-    let t = args .t .now in
     let loop = c .before .loop in
     let inv = loop .inv in
-    let w : take (loop .i) t ≡ t = take-all (loop .i) t (omega arith) in (
-      inv .3 ∙ ap (λ (l : List ℕ). length (hex l)) w,
-      inv .4 ∙ ap (λ (l : List ℕ). lead (hex l) (args .out .now)) w,
-      omega (arith, inv .1, inv .0),
-    )
+    hex-end (args .t .now) (args .out .now) (loop .out) (loop .i) (loop .at) (inv .0) (c .loop-test .left) (inv .1) (inv .3) (inv .4)
 
 pub put-hex-spec : {M : Type 1} → statement M
 unfolding hex gather
@@ -81,13 +74,13 @@ put-hex-spec =
     Inv-loop
     μ-loop
     loop-holds
-    -- by search: shared-slice-read-b 87:17
+    -- by search: shared-slice-read-b
     (λ c. search needs)
     hex-digit-requires
-    -- by search: put-byte-requires 88:13, hex-digit-requires-2 89:39, put-byte-requires-2 89:9, add-i 90:9,
-    -- loop-less 86:5
+    -- by search: put-byte-requires, hex-digit-requires-2, put-byte-requires-2, add-i,
+    -- loop-less
     (λ c κs. search needs) (λ c κs. search needs) (λ c κs. search needs) (λ c. search needs) (λ c. search needs)
     loop-again
-    -- by search: same-length 80:1
+    -- by search: same-length
     (λ c. search needs)
     returns)
