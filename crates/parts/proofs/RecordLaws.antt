@@ -64,7 +64,8 @@ unfolding two-at record-bytes two
 order-is q = two-value q
 
 -- the order written over that of a copy
-pub order-over : (q n : ℕ) (o l m : List ℕ) → l ≡ lead (record-bytes (target-head q)) o → m ≡ overlay l 2 (numberBytes n) → m ≡ lead (record-bytes (target-head n)) o
+pub order-over : (q n : ℕ) (o l m : List ℕ) → l ≡ lead (record-bytes (target-head q)) o → m ≡ overlay l 2 (numberBytes n)
+    → m ≡ lead (record-bytes (target-head n)) o
 unfolding record-bytes two
 order-over q n o l m e f = f ∙ ap (λ (x : List ℕ). overlay x 2 (numberBytes n)) e
 
@@ -80,7 +81,8 @@ marked-target f r b t o l m n k e g h i j =
 each-first : (r : Record) (rs : List Record) → Each InPart (r ∷ rs) → InPart r × Each InPart rs
 each-first r rs (each-cons g h) = (g, h)
 
-pub next : (t : List ℕ) (at w : ℕ) (rs : List Record) → at < length t → RestOf (Each InPart) t at rs → WidthAt t at w → NextOf InPart (Each InPart) t at w rs
+pub next : (t : List ℕ) (at w : ℕ) (rs : List Record) → at < length t → RestOf (Each InPart) t at rs → WidthAt t at w
+    → NextOf InPart (Each InPart) t at w rs
 next t at w rs h m e = next-of InPart (Each InPart) each-first (λ r g. g) t at w rs h m (width-there t at w e)
 
 pub rest-end : (t : List ℕ) (at : ℕ) (rs : List Record) → length t ≤ at → RestOf (Each InPart) t at rs → rs ≡ []

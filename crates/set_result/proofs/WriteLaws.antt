@@ -27,7 +27,8 @@ abbrev tail : ℕ → List ℕ → List ℕ
 tail n l = take (length l - n) (drop n l)
 
 -- TG, its order, the content
-module _ (q : ℕ) (c o : List ℕ) (l : List ℕ) (first : l ≡ overlay o 0 (84 ∷ 71 ∷ [])) (k : List ℕ) (m : ℕ) (e : m ≡ 2) (second : k ≡ overlay l m (numberBytes q)) where
+module _ (q : ℕ) (c o : List ℕ) (l : List ℕ) (first : l ≡ overlay o 0 (84 ∷ 71 ∷ [])) (k : List ℕ) (m : ℕ) (e : m ≡ 2)
+    (second : k ≡ overlay l m (numberBytes q)) where
   pub head-wrote : k ≡ lead (record-bytes (target-head q)) o
   unfolding record-bytes two
   head-wrote = second ∙ over-lead o (84 ∷ 71 ∷ []) (numberBytes q) l m first e
@@ -40,7 +41,8 @@ module _ (q : ℕ) (c o : List ℕ) (l : List ℕ) (first : l ≡ overlay o 0 (8
 
   pub target-wrote : (n : ℕ) → n ≡ 4 → (y : List ℕ) (i : ℕ) → Written c (tail n k) i y → Written (target-bytes q c) o (n + i) (back n k y)
   unfolding record-bytes two
-  target-wrote n h y i w = (ap₂ (λ (a b : ℕ). a + b) h (w .0) ∙ sym (target-long q c), two-back o (record-bytes (target-head q)) c k y n h head-wrote (w .1))
+  target-wrote n h y i w =
+      (ap₂ (λ (a b : ℕ). a + b) h (w .0) ∙ sym (target-long q c), two-back o (record-bytes (target-head q)) c k y n h head-wrote (w .1))
 
 module _ (t : List ℕ) (b : List Part) (p : Part) (a : List Part) (place : PartPlace) (s : PartStands t b p a place) (c o : List ℕ)
     (room : size-with t place c ≤ length o) where
@@ -49,7 +51,8 @@ module _ (t : List ℕ) (b : List Part) (p : Part) (a : List Part) (place : Part
     source-ends = first b p a s .0 ∙ to-source-long t b p a place s st
 
     output-long : length l ≡ length o
-    output-long = ap length (first b p a s .1) ∙ lead-length (to-source st (unit t) b p) o (omega (arith, to-source-long t b p a place s st))
+    output-long = ap length (first b p a s .1)
+        ∙ lead-length (to-source st (unit t) b p) o (omega (arith, to-source-long t b p a place s st))
 
     pub source-within : n ≤ length l
     source-within = omega (arith, source-ends, output-long)
@@ -83,11 +86,13 @@ module _ (t : List ℕ) (b : List Part) (p : Part) (a : List Part) (place : Part
         pub all-within : n + m + i ≤ length o
         all-within = omega (arith, rest-ends)
 
-        pub set-wrote : (xs : Content) → content-bytes xs ≡ c → Written (encode (unit-with (unit t) st q xs b p a)) o (n + m + i) (back (n + m) (back n l y) x)
+        pub set-wrote : (xs : Content) → content-bytes xs ≡ c
+            → Written (encode (unit-with (unit t) st q xs b p a)) o (n + m + i) (back (n + m) (back n l y) x)
         set-wrote xs is = (
           rest-ends ∙ sym (set-long t b p a place s st q xs c is),
           three-back o (to-source st (unit t) b p) (target-bytes q c) (tail (place .end) t) l y x n (n + m)
               (first b p a s .0) (first b p a s .1) (second .1) (ap (λ (k : ℕ). n + k) (second .0)) (third .1)
               ∙ ap (λ (r : List ℕ). lead r o)
-              (ap (λ (r : List ℕ). (to-source st (unit t) b p ++ target-bytes q c) ++ r) (tail-is (place .end) t) ∙ set-is t b p a place s st q xs c is),
+              (ap (λ (r : List ℕ). (to-source st (unit t) b p ++ target-bytes q c) ++ r) (tail-is (place .end) t)
+              ∙ set-is t b p a place s st q xs c is),
         )

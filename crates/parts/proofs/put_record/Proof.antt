@@ -31,7 +31,8 @@ moved-order-requires c κs =
     let start = c .before .before .before .before .before .before .before .before .before .before .before in
     let (r, g, e) = start .pre .0 in
     let marked-by = c .before .before .before .marked-by in
-    let b = target-marked r g (ap (λ (l : List ℕ). marked l (84 ∷ 71 ∷ [])) (sym e) ∙ sym (marked-by .ensures) ∙ c .before .before .if1 .taken) in
+    let b = target-marked r g (ap (λ (l : List ℕ). marked l (84 ∷ 71 ∷ [])) (sym e) ∙ sym (marked-by .ensures)
+    ∙ c .before .before .if1 .taken) in
     let n = ap number e ∙ ap (λ (k : Record). number (record-bytes k)) (b .is) ∙ order-is (b .order) in
     omega (arith, c .number-at .ensures, b .small)
 
@@ -56,8 +57,10 @@ returns c =
     let moved-order = c .before .before .before .moved-order in
     let put-number = c .before .before .put-number in
     λ r g e.
-    let b = target-marked r g (ap (λ (l : List ℕ). marked l (84 ∷ 71 ∷ [])) (sym e) ∙ sym (after-if .before .marked-by .ensures) ∙ after-if .if1 .taken) in
-    marked-target (moved (args .up) (args .q)) r b t (args .out .now) (put .last .0) (put-number .last .0) (number-at .result) (moved-order .result)
+    let b = target-marked r g (ap (λ (l : List ℕ). marked l (84 ∷ 71 ∷ [])) (sym e) ∙ sym (after-if .before .marked-by .ensures)
+    ∙ after-if .if1 .taken) in
+    marked-target (moved (args .up) (args .q)) r b t (args .out .now) (put .last .0) (put-number .last .0) (number-at .result)
+    (moved-order .result)
     e (number-at .ensures) (moved-order .ensures) (put .ensures .1) (put-number .ensures .1)
 
 -- every other record stays as it is
