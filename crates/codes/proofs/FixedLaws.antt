@@ -17,7 +17,7 @@ use Rattle.xliff.proofs.lists.Tests.{two-value, and-left}
 use Rattle.walk.specs.Kept.{items, Inline, an-item, a-text, Rest}
 use Rattle.walk.specs.Marks.{number, kindAt, kind}
 use Rattle.walk.proofs.WalkLaws.{Next, item-kind, rest-end, first-of}
-use Rattle.codes.specs.Codes.{codeAt, code}
+use Rattle.codes.specs.Codes.{codeAt}
 use Rattle.codes.proofs.CodeLaws.{code-long}
 use Rattle.codes.specs.Fixed.{fixedAt, Found}
 
@@ -73,7 +73,8 @@ unfolding fixed-list keep is-fixed class among
 fixed-texts [] ys = refl
 fixed-texts (c ∷ cs) ys = fixed-texts cs ys
 
-first-off : (r : Record) (rs : List Record) (s : List ℕ) → Inline r → fixedAt (record-bytes r ++ s) ≡ false → fixed-list (items (r ∷ rs)) ≡ fixed-list (items rs)
+first-off : (r : Record) (rs : List Record) (s : List ℕ) → Inline r → fixedAt (record-bytes r ++ s) ≡ false
+    → fixed-list (items (r ∷ rs)) ≡ fixed-list (items rs)
 unfolding fixed-list keep reading take-record
 first-off (inline x) rs s (an-item g) e = rw (sym (item-fixed s x g) ∙ e)
 first-off (text-run cs) rs s (a-text a l) e = fixed-texts cs (items rs)
@@ -110,7 +111,8 @@ pub record Code (c : List ℕ) (rs : List Record) (at : ℕ) : Type 0 where
 code-here : (c : List ℕ) (at w : ℕ) (rs : List Record) → Next c at w rs → fixedAt (drop at c) ≡ true → Code c rs at
 code-here c at w rs n e =
     let f : fixedAt (record-bytes (n .first) ++ spell (n .others)) ≡ true = ap fixedAt (sym (n .bytes)) ∙ e in
-    let l : length (record-bytes (n .first)) ≡ 12 = code-long (n .first) (spell (n .others)) (n .good) (fixed-code (record-bytes (n .first) ++ spell (n .others)) f) in
+    let l : length (record-bytes (n .first)) ≡ 12 =
+    code-long (n .first) (spell (n .others)) (n .good) (fixed-code (record-bytes (n .first) ++ spell (n .others)) f) in
     let wide : w ≡ 12 = n .width ∙ l in
     record {
       others = n .others;
@@ -140,7 +142,8 @@ pub sought-start : (c : List ℕ) (rs : List Record) (at : ℕ) → Rest c at rs
 sought-start c rs at m = record { after = rs; rest = m; list = refl }
 
 -- a record that is not fixed is passed over
-pub sought-on : (c : List ℕ) (rs : List Record) (at w : ℕ) (m : Sought c rs at) (n : Next c at w (m .after)) → fixedAt (drop at c) ≡ false → Sought c rs (at + w)
+pub sought-on : (c : List ℕ) (rs : List Record) (at w : ℕ) (m : Sought c rs at) (n : Next c at w (m .after))
+    → fixedAt (drop at c) ≡ false → Sought c rs (at + w)
 sought-on c rs at w m n e =
     record {
       after = n .others;

@@ -28,7 +28,8 @@ pub record Compared (c d : List ℕ) (rs qs : List Record) (i j : ℕ) : Type 0 
   pub new-found : Found d new j
   pub equals : equal-lists rs qs ≡ equal-lists old new
 
-pub compared-start : (c d : List ℕ) (rs qs : List Record) (i j : ℕ) → Of c rs → Of d qs → NextFixed c 0 i → NextFixed d 0 j → Compared c d rs qs i j
+pub compared-start : (c d : List ℕ) (rs qs : List Record) (i j : ℕ) → Of c rs → Of d qs → NextFixed c 0 i → NextFixed d 0 j
+    → Compared c d rs qs i j
 compared-start c d rs qs i j o p a b =
     record { old = rs; new = qs; old-found = a .2 rs (rest-start c rs o); new-found = b .2 qs (rest-start d qs p); equals = refl }
 
@@ -53,7 +54,8 @@ equal-codes : (c d : List ℕ) (rs qs : List Record) (i j : ℕ) (m : Code c rs 
 unfolding equal
 equal-codes c d rs qs i j m n =
     ap₂ equal (m .list) (n .list)
-    ∙ and-three (eqb (number (drop i c)) (number (drop j d))) (eqb (kindAt (drop i c)) (kindAt (drop j d))) (equal-lists (m .others) (n .others))
+    ∙ and-three (eqb (number (drop i c)) (number (drop j d))) (eqb (kindAt (drop i c)) (kindAt (drop j d)))
+    (equal-lists (m .others) (n .others))
 
 pub compared-on : (c d : List ℕ) (rs qs : List Record) (i j k l : ℕ) → (m : Compared c d rs qs i j) → i < length c → j < length d
     → same-halves (drop i c) (drop j d) ≡ true → NextFixed c (i + 12) k → NextFixed d (j + 12) l → Compared c d rs qs k l
@@ -76,21 +78,25 @@ compared-off c d rs qs i j m x y e =
     m .equals ∙ equal-codes c d (m .old) (m .new) i j f g ∙ ap (λ (b : Bool). b && equal-lists (f .others) (g .others)) e
 
 -- the new content has no fixed code more, the old one has
-pub compared-short : (c d : List ℕ) (rs qs : List Record) (i j : ℕ) → (m : Compared c d rs qs i j) → i < length c → length d ≤ j → equal-lists rs qs ≡ false
+pub compared-short : (c d : List ℕ) (rs qs : List Record) (i j : ℕ) → (m : Compared c d rs qs i j) → i < length c → length d ≤ j
+    → equal-lists rs qs ≡ false
 unfolding equal
 compared-short c d rs qs i j m x y =
     m .equals ∙ ap₂ equal (found-code c (m .old) i (m .old-found) x .list) (found-end d (m .new) j (m .new-found) y)
 
 -- the old content has no fixed code more
-pub compared-end : (c d : List ℕ) (rs qs : List Record) (i j : ℕ) → (m : Compared c d rs qs i j) → length c ≤ i → ltb j (length d) ≡ not (equal-lists rs qs)
+pub compared-end : (c d : List ℕ) (rs qs : List Record) (i j : ℕ) → (m : Compared c d rs qs i j) → length c ≤ i
+    → ltb j (length d) ≡ not (equal-lists rs qs)
 unfolding equal
 compared-end c d rs qs i j m x = by (ltb j (length d)) refl
   where
     by : (b : Bool) → ltb j (length d) ≡ b → b ≡ not (equal-lists rs qs)
     by true e =
-        sym (ap not (m .equals ∙ ap₂ equal (found-end c (m .old) i (m .old-found) x) (found-code d (m .new) j (m .new-found) (ltb-true j (length d) e) .list)))
+        sym (ap not (m .equals
+        ∙ ap₂ equal (found-end c (m .old) i (m .old-found) x) (found-code d (m .new) j (m .new-found) (ltb-true j (length d) e) .list)))
     by false e =
-        sym (ap not (m .equals ∙ ap₂ equal (found-end c (m .old) i (m .old-found) x) (found-end d (m .new) j (m .new-found) (ltb-false j (length d) e))))
+        sym (ap not (m .equals
+        ∙ ap₂ equal (found-end c (m .old) i (m .old-found) x) (found-end d (m .new) j (m .new-found) (ltb-false j (length d) e))))
 
 -- the answer for two contents
 pub lists-differ : (xs ys : Content) (r : Bool) → r ≡ not (equal-lists (content-records xs) (content-records ys)) → r ≡ fixed-differ xs ys

@@ -88,7 +88,8 @@ same-step : (i : ℕ) (t u : List ℕ) → i < 12 → same-from i t u ≡ eqb (g
 unfolding gets equal
 same-step i t u l =
     ap (λ (k : ℕ). equal (gets i k t) (gets i k u)) (let e : 12 - i ≡ suc (12 - (i + 1)) = omega arith in e)
-    ∙ ap (λ (k : ℕ). eqb (getD t i 0) (getD u i 0) && equal (gets k (12 - (i + 1)) t) (gets k (12 - (i + 1)) u)) (let e : suc i ≡ i + 1 = omega arith in e)
+    ∙ ap (λ (k : ℕ). eqb (getD t i 0) (getD u i 0) && equal (gets k (12 - (i + 1)) t) (gets k (12 - (i + 1)) u))
+    (let e : suc i ≡ i + 1 = omega arith in e)
 
 pub same-on : (i : ℕ) (t u : List ℕ) → i < 12 → eqb (getD t i 0) (getD u i 0) ≡ true → same-from i t u ≡ same-from (i + 1) t u
 same-on i t u l e = same-step i t u l ∙ ap (λ (b : Bool). b && same-from (i + 1) t u) e

@@ -24,7 +24,8 @@ two-same a b r = by (eqb a b) (eqb (a / 256) (b / 256)) (eqb (a % 256) (b % 256)
     by : (e h l : Bool) → eqb a b ≡ e → eqb (a / 256) (b / 256) ≡ h → eqb (a % 256) (b % 256) ≡ l → h && (l && r) ≡ e && r
     by true true true p q s = refl
     by false true true p q s =
-        let z : a ≡ b = let u = eqb-true (a / 256) (b / 256) q in let v = eqb-true (a % 256) (b % 256) s in omega (arith, two-value a, two-value b) in
+        let z : a ≡ b = let u = eqb-true (a / 256) (b / 256) q in let v = eqb-true (a % 256) (b % 256) s in
+        omega (arith, two-value a, two-value b) in
         let w : true ≡ false = sym (eq-eqb a b z) ∙ p in
         absurd (true≢false w)
     by false false l p q s = refl
@@ -40,7 +41,8 @@ fields-same f g =
     (two-same (f .copyOf) (g .copyOf) _ ∙ ap (λ (r : Bool). eqb (f .copyOf) (g .copyOf) && r) (two-same (f .dataRef) (g .dataRef) _))
 
 -- a code and any item, flattened
-flat-same : (x y : Item) → 1 ≤ code x → same-flat x y ≡ not (eqb (code y) 0) && (eqb (code x) (code y) && equal (code-numbers (fields x)) (code-numbers (fields y)))
+flat-same : (x y : Item) → 1 ≤ code x
+    → same-flat x y ≡ not (eqb (code y) 0) && (eqb (code x) (code y) && equal (code-numbers (fields x)) (code-numbers (fields y)))
 unfolding same-flat same flat in-form mark numbers fields equal
 flat-same (text c) y h = absurd (let z : ⊥ = omega arith in z)
 flat-same (character c) y h = absurd (let z : ⊥ = omega arith in z)

@@ -1,4 +1,5 @@
--- The inline codes by number, marks taken as when flattened: by the mark of a good record, and of an item. Stepping stones: `item-code` (proofs/CodeLaws) ties the two.
+-- The inline codes by number, marks taken as when flattened: by the mark of a good record, and of an item. Stepping
+-- stones: `item-code` (proofs/CodeLaws) ties the two.
 use Prim.Native.Nat.{ℕ}
 use mathlib.Core.List.{List}
 use Rattle.xliff.specs.Item.{Item, Content, start, end, text, character, standalone, isolated, pair, annotation-start, annotation-end}

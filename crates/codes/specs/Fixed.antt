@@ -1,11 +1,12 @@
--- Fixed codes of two contents. Document 01, set target: "19: the list of ids and halves with canReorder F or N" differs.
+-- Fixed codes of two contents. Document 01, set target: "19: the list of ids and halves with canReorder F or N"
+-- differs.
 use Prim.Native.Nat.{ℕ, _<_, _≤_}
 use mathlib.Core.Path.{_≡_}
 use mathlib.Core.Bool.{Bool, true, not, _&&_}
 use mathlib.Core.List.{List, [], _∷_}
 use lib.ListN.{length, getD, drop}
 use lib.Dec.{eqb}
-use Rattle.xliff.specs.Bytes.{'F', 'N', among, equal}
+use Rattle.xliff.specs.Bytes.{'F', 'N', among}
 use Rattle.xliff.specs.Item.{Content}
 use Rattle.xliff.specs.Encode.{Record}
 use Rattle.xliff.specs.SetTarget.{fixed-list, fixed-differ}

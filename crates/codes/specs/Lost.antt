@@ -1,4 +1,5 @@
--- Codes that a new content has lost. Document 01, set target: "18: a half or code with canDelete N of [the old content] is not in the new content with
+-- Codes that a new content has lost. Document 01, set target: "18: a half or code with canDelete N of [the old
+-- content] is not in the new content with
 -- every field equal (marks compared as when flattened)".
 use Rattle.xliff.specs.Good.{gets}
 use Prim.Native.Nat.{ℕ}

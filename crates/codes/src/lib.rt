@@ -1,6 +1,7 @@
 // The inline codes of a good content: which code a record is, marks taken as when flattened.
 pub mod fixed;
 pub mod kept;
+
 use marks::Mark;
 ghost use mathlib.Core.Path.{_≡_};
 ghost use lib.ListN.{drop};

@@ -56,7 +56,8 @@ fine : (rs : List Record) → Only rs → AllGood rs → Bytes (spell rs) → Fi
 unfolding spell gather
 fine [] only-end each-nil h = fine-end
 fine (inline x ∷ rs) (only-item o) (each-cons g a) h = fine-item g (fine rs o a (bytes-behind (record-bytes (inline x)) (spell rs) h))
-fine (text-run cs ∷ rs) (only-text o) (each-cons g a) h = fine-text g (short-text cs (spell rs) h) (fine rs o a (bytes-behind (record-bytes (text-run cs)) (spell rs) h))
+fine (text-run cs ∷ rs) (only-text o) (each-cons g a) h =
+    fine-text g (short-text cs (spell rs) h) (fine rs o a (bytes-behind (record-bytes (text-run cs)) (spell rs) h))
 
 again : (x : Item) (rs : List Record) → Kept false (inline x ∷ rs) → Kept true (inline x ∷ rs)
 again x rs (kept-item g k) = kept-item g k
@@ -70,7 +71,9 @@ unfolding text-before utf8s gather
 kept-before c [] only-end (fine-text a l f) ih = kept-text a l kept-end
 kept-before c (inline x ∷ rs) (only-item o) (fine-text a l f) ih = kept-text a l (again x rs (ih f))
 kept-before c (text-run cs ∷ rs) (only-text o) (fine-text (one-point p a) l f) ih =
-    kept-text (one-point p a) l (behind cs rs (ih (fine-text a (let z : length (utf8s cs) < 65536 = omega (arith, length-append (utf8 c) (gather utf8 cs)) in z) f)))
+    kept-text (one-point p a) l
+    (behind cs rs (ih (fine-text a
+    (let z : length (utf8s cs) < 65536 = omega (arith, length-append (utf8 c) (gather utf8 cs)) in z) f)))
 
 kept-fine : (xs : Content) → Fine (content-records xs) → Kept false (content-records xs)
 unfolding content-records item-before

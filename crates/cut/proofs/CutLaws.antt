@@ -5,7 +5,7 @@ use mathlib.Core.Path.{_≡_, refl, sym, ap, ap₂, _∙_}
 use mathlib.Core.Bool.{Bool, true, false, _&&_, _||_, cond}
 use mathlib.Core.List.{List, [], _∷_, _++_, map, append-nil}
 use native.Mathlib.Omega.{arith}
-use lib.ListN.{length, getD, take, drop}
+use lib.ListN.{length, take, drop}
 use Rattle.xliff.specs.Bytes.{two, four, any, two-at}
 use Rattle.xliff.specs.Item.{Item, Content, start, end, form-P, form-S, text, character, standalone, isolated, pair, annotation-start, annotation-end, mark, id-of, class, half, alike, other-half, in-form}
 use Rattle.xliff.specs.Encode.{Record, text-run, inline, code-bytes, field-bytes, record-bytes, spell, content-records, content-bytes, item-before}
@@ -80,7 +80,8 @@ no-other i [] = refl
 no-other i (y ∷ ys) = no-other i ys
 
 -- the test on a record's bytes
-turn-is : (x : Item) (s : List ℕ) (ys : Content) → GoodItem x → has-other (kindAt (record-bytes (inline x) ++ s)) (number (record-bytes (inline x) ++ s)) ys ≡ any (other-half x) ys
+turn-is : (x : Item) (s : List ℕ) (ys : Content) → GoodItem x
+    → has-other (kindAt (record-bytes (inline x) ++ s)) (number (record-bytes (inline x) ++ s)) ys ≡ any (other-half x) ys
 unfolding kindAt mark-at mark-of is two-at record-bytes mark field-bytes code-bytes two four id-of
 turn-is (text c) s ys g = absurd g
 turn-is (character c) s ys g = no-other _ ys ∙ sym (any-other (character c) ys ∙ no-other _ ys)
@@ -144,12 +145,15 @@ unfolding turnIf
 cut-if x true g = turned-is x g
 cut-if x false g = refl
 
-text-stays : (cs : List ℕ) (ys : Content) → turnIf (has-other (kindAt (record-bytes (text-run cs))) (number (record-bytes (text-run cs))) ys) (record-bytes (text-run cs)) ≡ record-bytes (text-run cs)
+text-stays : (cs : List ℕ) (ys : Content)
+    → turnIf (has-other (kindAt (record-bytes (text-run cs))) (number (record-bytes (text-run cs))) ys)
+    (record-bytes (text-run cs)) ≡ record-bytes (text-run cs)
 unfolding kindAt mark-at mark-of is record-bytes two turnIf
 text-stays cs ys = rw (no-other _ ys)
 
 -- one record
-cut-one : (r : Record) (ys : Content) → Inline r → turnIf (has-other (kindAt (record-bytes r)) (number (record-bytes r)) ys) (record-bytes r) ≡ record-bytes (cut-record ys r)
+cut-one : (r : Record) (ys : Content) → Inline r
+    → turnIf (has-other (kindAt (record-bytes r)) (number (record-bytes r)) ys) (record-bytes r) ≡ record-bytes (cut-record ys r)
 unfolding cut-item
 cut-one (inline x) ys (an-item g) =
     ap (λ (b : Bool). turnIf b (record-bytes (inline x)))
@@ -158,11 +162,14 @@ cut-one (inline x) ys (an-item g) =
 cut-one (text-run cs) ys (a-text a l) = text-stays cs ys
 
 -- the bytes that are written, where the record's mark and number are read
-pub cut-written : (r : Record) (qs : List Record) (t o l : List ℕ) (m : Mark) (k i : ℕ) (b : Bool) → Inline r → t ≡ record-bytes r → m ≡ mark-at t
-    → k ≡ kindOf m → i ≡ number t → b ≡ has-other k i (items qs) → l ≡ lead (turnIf b t) o → l ≡ lead (record-bytes (cut-record (items qs) r)) o
+pub cut-written : (r : Record) (qs : List Record) (t o l : List ℕ) (m : Mark) (k i : ℕ) (b : Bool) → Inline r → t ≡ record-bytes r
+    → m ≡ mark-at t
+    → k ≡ kindOf m → i ≡ number t → b ≡ has-other k i (items qs) → l ≡ lead (turnIf b t) o
+    → l ≡ lead (record-bytes (cut-record (items qs) r)) o
 unfolding kindAt
 cut-written r qs t o l m k i b g e mark kind id turn out =
-    let found : b ≡ has-other (kindAt t) (number t) (items qs) = turn ∙ ap₂ (λ (x y : ℕ). has-other x y (items qs)) (kind ∙ ap kindOf mark) id in
+    let found : b ≡ has-other (kindAt t) (number t) (items qs) = turn
+    ∙ ap₂ (λ (x y : ℕ). has-other x y (items qs)) (kind ∙ ap kindOf mark) id in
     out ∙ ap (λ (x : Bool). lead (turnIf x t) o) found
     ∙ ap (λ (x : List ℕ). lead (turnIf (has-other (kindAt x) (number x) (items qs)) x) o) e
     ∙ ap (λ (x : List ℕ). lead x o) (cut-one r (items qs) g)
@@ -228,15 +235,18 @@ item-alone (annotation-end w i) rs g = refl
 pub kept-records : (b : Bool) (rs : List Record) → Kept b rs → content-records (items rs) ≡ rs
 unfolding content-records reading take-record
 kept-records b [] k = refl
-kept-records b (inline x ∷ rs) (kept-item g k) = item-alone x (content-records (items rs)) g ∙ ap {B = List Record} (λ l. inline x ∷ l) (kept-records false rs k)
+kept-records b (inline x ∷ rs) (kept-item g k) = item-alone x (content-records (items rs)) g
+    ∙ ap {B = List Record} (λ l. inline x ∷ l) (kept-records false rs k)
 kept-records b (text-run (d ∷ ds) ∷ rs) (kept-text a l k) =
     let e : content-records (items rs) ≡ rs = kept-records true rs k in
     content-records-text d ds (items rs) (ap starts-text e ∙ no-text-first rs k) ∙ ap {B = List Record} (λ l. text-run (d ∷ ds) ∷ l) e
 
-pub cut-bytes : (b : Bool) (ys : Content) (rs : List Record) → Kept b rs → content-bytes (map (cut-item ys) (items rs)) ≡ spell (cut-records ys rs)
+pub cut-bytes : (b : Bool) (ys : Content) (rs : List Record) → Kept b rs
+    → content-bytes (map (cut-item ys) (items rs)) ≡ spell (cut-records ys rs)
 unfolding content-bytes
 cut-bytes b ys rs k =
-    ap (λ (l : Content). spell (content-records l)) (sym (cut-items b ys rs k)) ∙ ap spell (kept-records b (cut-records ys rs) (cut-kept b ys rs k))
+    ap (λ (l : Content). spell (content-records l)) (sym (cut-items b ys rs k))
+    ∙ ap spell (kept-records b (cut-records ys rs) (cut-kept b ys rs k))
 
 -- for the code: the turned mark written over that of a copy
 over-copy : (m : Mark) (a b : ℕ) (s o : List ℕ) → lead (turnedMark m) (lead (a ∷ b ∷ s) o) ≡ lead (lead (turnedMark m) (a ∷ b ∷ s)) o
@@ -260,7 +270,8 @@ over-copy MC a b s o = refl
 over-copy EM a b s o = refl
 over-copy unknown a b s o = refl
 
-pub turned-over : (t o l n : List ℕ) (m : Mark) → 4 ≤ length t → m ≡ mark-at t → l ≡ lead t o → n ≡ lead (turnedMark m) l → n ≡ lead (turnIf true t) o
+pub turned-over : (t o l n : List ℕ) (m : Mark) → 4 ≤ length t → m ≡ mark-at t → l ≡ lead t o → n ≡ lead (turnedMark m) l
+    → n ≡ lead (turnIf true t) o
 unfolding turnIf
 turned-over [] o l n m h e f g = absurd (let z : ⊥ = omega arith in z)
 turned-over (a ∷ []) o l n m h e f g = absurd (let z : ⊥ = omega arith in z)
@@ -272,8 +283,10 @@ unfolding turnIf
 not-turned t o l e = e
 
 -- three pieces one behind the other
-pub text-over : (t out l m n : List ℕ) (i j : ℕ) → l ≡ overlay out 0 (84 ∷ 88 ∷ []) → i ≡ 0 + 2 → m ≡ overlay l i (numberBytes (length t)) → j ≡ i + 2
-    → n ≡ lead t (take (length m - j) (drop j m)) → 4 ≤ length out → take j m ++ (n ++ drop (length m - j) (drop j m)) ≡ lead (textPiece t) out
+pub text-over : (t out l m n : List ℕ) (i j : ℕ) → l ≡ overlay out 0 (84 ∷ 88 ∷ []) → i ≡ 0 + 2
+    → m ≡ overlay l i (numberBytes (length t)) → j ≡ i + 2
+    → n ≡ lead t (take (length m - j) (drop j m)) → 4 ≤ length out
+    → take j m ++ (n ++ drop (length m - j) (drop j m)) ≡ lead (textPiece t) out
 unfolding two
 text-over t out l m n i j e f g h k p =
     let a : l ≡ lead (84 ∷ 88 ∷ []) out = e in

@@ -44,7 +44,8 @@ weaken false rs k = k
 beyond-texts : (cs : List ℕ) (ys : Content) (x : Item) → cut-item (map text cs ++ ys) x ≡ cut-item ys x
 unfolding cut-item
 beyond-texts cs ys x =
-    ap (λ (b : Bool). cond b (in-form form-S x) x) (any-other x (map text cs ++ ys) ∙ texts-other (kind x) (id-of x) cs ys ∙ sym (any-other x ys))
+    ap (λ (b : Bool). cond b (in-form form-S x) x) (any-other x (map text cs ++ ys) ∙ texts-other (kind x) (id-of x) cs ys
+    ∙ sym (any-other x ys))
 
 -- nor at its end
 texts-behind : (k i : ℕ) (ys : Content) (cs : List ℕ) → has-other k i (ys ++ map text cs) ≡ has-other k i ys
@@ -55,7 +56,8 @@ texts-behind k i (y ∷ ys) cs = ap (λ (b : Bool). is-other k i y || b) (texts-
 beyond-behind : (ys : Content) (cs : List ℕ) (x : Item) → cut-item (ys ++ map text cs) x ≡ cut-item ys x
 unfolding cut-item
 beyond-behind ys cs x =
-    ap (λ (b : Bool). cond b (in-form form-S x) x) (any-other x (ys ++ map text cs) ∙ texts-behind (kind x) (id-of x) ys cs ∙ sym (any-other x ys))
+    ap (λ (b : Bool). cond b (in-form form-S x) x) (any-other x (ys ++ map text cs) ∙ texts-behind (kind x) (id-of x) ys cs
+    ∙ sym (any-other x ys))
 
 map-same : (f g : Item → Item) → ((x : Item) → f x ≡ g x) → (xs : Content) → map f xs ≡ map g xs
 map-same f g h [] = refl
@@ -72,7 +74,8 @@ module _ (k : ℕ) (a b : List Record) (kp : Kept false (a ++ b)) where
   pub clean-first : length (items a) ≡ k → content-bytes (first-items k (items (a ++ b))) ≡ spell (cut-records (items b) a)
   unfolding first-items
   clean-first e =
-      ap₂ (λ (u v : Content). content-bytes (map (cut-item u) v)) (halves-dropped e) (halves-taken e) ∙ cut-bytes false (items b) a (kept-front false a b kp)
+      ap₂ (λ (u v : Content). content-bytes (map (cut-item u) v)) (halves-dropped e) (halves-taken e)
+      ∙ cut-bytes false (items b) a (kept-front false a b kp)
 
   pub clean-second : length (items a) ≡ k → content-bytes (second-items k (items (a ++ b))) ≡ spell (cut-records (items a) b)
   unfolding second-items
@@ -100,7 +103,8 @@ text-kept b (inline x ∷ us) cs rs (kept-item g k) = text-kept false us cs rs k
 text-kept b (text-run ds ∷ us) cs rs (kept-text a l k) = text-kept true us cs rs k
 
 -- another text in its place
-text-instead : (b : Bool) (us : List Record) (cs : List ℕ) (rs : List Record) (e : ℕ) (es : List ℕ) → Kept b (us ++ (text-run cs ∷ rs)) → Allowed (e ∷ es) → length (utf8s (e ∷ es)) < 65536
+text-instead : (b : Bool) (us : List Record) (cs : List ℕ) (rs : List Record) (e : ℕ) (es : List ℕ)
+    → Kept b (us ++ (text-run cs ∷ rs)) → Allowed (e ∷ es) → length (utf8s (e ∷ es)) < 65536
     → Kept b (us ++ (text-run (e ∷ es) ∷ []))
 text-instead b [] cs rs e es (kept-text a l k) p q = kept-text p q kept-end
 text-instead b (inline x ∷ us) cs rs e es (kept-item g k) p q = kept-item g (text-instead false us cs rs e es k p q)
@@ -147,18 +151,21 @@ module _ (k u : ℕ) (us : List ℕ) (v : ℕ) (vs : List ℕ) (a rs : List Reco
   kept-text-front : Kept false (a ++ (text-run (u ∷ us) ∷ []))
   kept-text-front =
       text-instead false a ((u ∷ us) ++ (v ∷ vs)) rs u us kp (allowed-front (u ∷ us) (v ∷ vs) (tk .allowed))
-      (let l : length (utf8s ((u ∷ us) ++ (v ∷ vs))) ≡ length (utf8s (u ∷ us) ++ utf8s (v ∷ vs)) = ap length (utf8s-append (u ∷ us) (v ∷ vs)) in
+      (let l : length (utf8s ((u ∷ us) ++ (v ∷ vs))) ≡ length (utf8s (u ∷ us) ++ utf8s (v ∷ vs)) =
+      ap length (utf8s-append (u ∷ us) (v ∷ vs)) in
       omega (arith, tk .small, length-append (utf8s (u ∷ us)) (utf8s (v ∷ vs))))
 
   kept-text-back : Kept false (text-run (v ∷ vs) ∷ rs)
   kept-text-back =
       kept-text (allowed-back (u ∷ us) (v ∷ vs) (tk .allowed))
-      (let l : length (utf8s ((u ∷ us) ++ (v ∷ vs))) ≡ length (utf8s (u ∷ us) ++ utf8s (v ∷ vs)) = ap length (utf8s-append (u ∷ us) (v ∷ vs)) in
+      (let l : length (utf8s ((u ∷ us) ++ (v ∷ vs))) ≡ length (utf8s (u ∷ us) ++ utf8s (v ∷ vs)) =
+      ap length (utf8s-append (u ∷ us) (v ∷ vs)) in
       omega (arith, tk .small, length-append (utf8s (u ∷ us)) (utf8s (v ∷ vs)))) (tk .others)
 
   front-items : items (a ++ (text-run (u ∷ us) ∷ [])) ≡ items a ++ map text (u ∷ us)
   unfolding reading take-record
-  front-items = kept-items false a (text-run (u ∷ us) ∷ []) kept-text-front ∙ ap (λ (l : Content). items a ++ l) (append-nil (map text (u ∷ us)))
+  front-items = kept-items false a (text-run (u ∷ us) ∷ []) kept-text-front
+      ∙ ap (λ (l : Content). items a ++ l) (append-nil (map text (u ∷ us)))
 
   pub inner-first : content-bytes (first-items k all) ≡ spell (cut-records beyond a) ++ record-bytes (text-run (u ∷ us))
   unfolding first-items spell gather
@@ -187,7 +194,8 @@ pub record Inner (k : ℕ) (c : List ℕ) (xs : Content) (p : Place) (before aft
   pub fit : p .at + (4 + size) ≤ length c
   pub rest : Of (drop (p .at + (4 + size)) c) others
   pub first : content-bytes (first-items k xs) ≡ spell (cut-records (items after) before) ++ textPiece (take (p .into) (drop (p .at + 4) c))
-  pub second : content-bytes (second-items k xs) ≡ textPiece (take (size - p .into) (drop (p .at + 4 + p .into) c)) ++ spell (cut-records (items before) others)
+  pub second : content-bytes (second-items k xs) ≡ textPiece (take (size - p .into) (drop (p .at + 4 + p .into) c)) ++ spell
+      (cut-records (items before) others)
 
 pub record Sides (k : ℕ) (c : List ℕ) (xs : Content) (p : Place) : Type 0 where
   pub before : List Record
@@ -207,27 +215,35 @@ module _ (k : ℕ) (c : List ℕ) (at : ℕ) (a b : List Record) (o : Of c (a ++
   the-front = (kept-front false a b (o .0), sym (ap (take at) pieces ∙ take-at (spell a) (spell b) at (sym h)))
 
   the-back : Of (drop at c) b
-  the-back = (weaken (kept-back false a b (o .0) .0) b (kept-back false a b (o .0) .1), sym (ap (drop at) pieces ∙ drop-at (spell a) (spell b) at (sym h)))
+  the-back = (
+    weaken (kept-back false a b (o .0) .0) b (kept-back false a b (o .0) .1),
+    sym (ap (drop at) pieces ∙ drop-at (spell a) (spell b) at (sym h)),
+  )
 
   the-fit : at ≤ length c
   the-fit = let l : length c ≡ length (spell a ++ spell b) = ap length pieces in omega (arith, length-append (spell a) (spell b))
 
 -- nothing behind the cut
-over-first : (k : ℕ) (a : List Record) → Kept false (a ++ []) → length (items a) ≤ k → content-bytes (first-items k (items (a ++ []))) ≡ spell (cut-records (items []) a)
+over-first : (k : ℕ) (a : List Record) → Kept false (a ++ []) → length (items a) ≤ k
+    → content-bytes (first-items k (items (a ++ []))) ≡ spell (cut-records (items []) a)
 unfolding first-items reading
 over-first k a kp h =
     let e : items (a ++ []) ≡ items a = ap (λ (l : List Record). items l) (append-nil a) in
-    ap₂ (λ (u v : Content). content-bytes (map (cut-item u) v)) (ap (drop k) e ∙ drop-of-length-le (items a) {i = k} h) (ap (take k) e ∙ take-all k (items a) h)
+    ap₂ (λ (u v : Content). content-bytes (map (cut-item u) v)) (ap (drop k) e ∙ drop-of-length-le (items a) {i = k} h)
+    (ap (take k) e ∙ take-all k (items a) h)
     ∙ cut-bytes false [] a (kept-front false a [] kp)
 
-over-second : (k : ℕ) (a : List Record) → length (items a) ≤ k → content-bytes (second-items k (items (a ++ []))) ≡ spell (cut-records (items a) [])
+over-second : (k : ℕ) (a : List Record) → length (items a) ≤ k
+    → content-bytes (second-items k (items (a ++ []))) ≡ spell (cut-records (items a) [])
 unfolding second-items content-bytes content-records
 over-second k a h =
     let e : items (a ++ []) ≡ items a = ap (λ (l : List Record). items l) (append-nil a) in
-    ap (λ (u : Content). content-bytes (map (cut-item (take k (items (a ++ [])))) u)) (ap (drop k) e ∙ drop-of-length-le (items a) {i = k} h)
+    ap (λ (u : Content). content-bytes (map (cut-item (take k (items (a ++ [])))) u)) (ap (drop k) e
+    ∙ drop-of-length-le (items a) {i = k} h)
 
 -- inside a text
-module _ (k : ℕ) (c : List ℕ) (at u : ℕ) (us : List ℕ) (v : ℕ) (vs : List ℕ) (a rs : List Record) (o : Of c (a ++ (text-run ((u ∷ us) ++ (v ∷ vs)) ∷ rs)))
+module _ (k : ℕ) (c : List ℕ) (at u : ℕ) (us : List ℕ) (v : ℕ) (vs : List ℕ) (a rs : List Record)
+    (o : Of c (a ++ (text-run ((u ∷ us) ++ (v ∷ vs)) ∷ rs)))
     (h : at ≡ length (spell a)) (count : length (items a) + length (u ∷ us) ≡ k) where
   abbrev us′ : List ℕ
   us′ = utf8s (u ∷ us)
@@ -284,13 +300,15 @@ module _ (k : ℕ) (c : List ℕ) (at u : ℕ) (us : List ℕ) (v : ℕ) (vs : L
   unfolding utf8s gather
   some-before = omega (arith, length-append (utf8 u) (gather utf8 us), utf8-some u)
 
-  pub the-inner : Inner k c (items (a ++ (text-run ((u ∷ us) ++ (v ∷ vs)) ∷ rs))) (record { at = at; into = length us′; left = 0 }) a (text-run ((u ∷ us) ++ (v ∷ vs)) ∷ rs)
+  pub the-inner : Inner k c (items (a ++ (text-run ((u ∷ us) ++ (v ∷ vs)) ∷ rs)))
+      (record { at = at; into = length us′; left = 0 }) a (text-run ((u ∷ us) ++ (v ∷ vs)) ∷ rs)
   the-inner =
       let kept = text-kept false a ((u ∷ us) ++ (v ∷ vs)) rs (o .0) in
       record {
         size = length whole;
         others = rs;
-        width = λ w h. width-there c at w h (text-run ((u ∷ us) ++ (v ∷ vs))) (spell rs) (text-in (kept .allowed) (kept .small)) from-record ∙ record-size;
+        width = λ w h. width-there c at w h (text-run ((u ∷ us) ++ (v ∷ vs))) (spell rs)
+            (text-in (kept .allowed) (kept .small)) from-record ∙ record-size;
         less = omega (arith, whole-size, some-more);
         small = kept .small;
         fit = fits-in;
@@ -302,10 +320,13 @@ module _ (k : ℕ) (c : List ℕ) (at u : ℕ) (us : List ℕ) (v : ℕ) (vs : L
             ∙ ap (λ (l : List ℕ). l ++ spell (cut-records (items a) rs))
             (piece (v ∷ vs)
             ∙ ap textPiece
-            (sym (ap (take (length whole - length us′)) from-cut ∙ take-at vs′ (spell rs) (length whole - length us′) (let z : length vs′ ≡ length whole - length us′ = omega (arith, whole-size) in z))));
+            (sym (ap (take (length whole - length us′)) from-cut
+            ∙ take-at vs′ (spell rs) (length whole - length us′)
+            (let z : length vs′ ≡ length whole - length us′ = omega (arith, whole-size) in z))));
       }
 
-sides-by : (k : ℕ) (c : List ℕ) (at into left : ℕ) (a b : List Record) (o : Of c (a ++ b)) (h : at ≡ length (spell a)) → Inside k (length (items a)) into left b
+sides-by : (k : ℕ) (c : List ℕ) (at into left : ℕ) (a b : List Record) (o : Of c (a ++ b)) (h : at ≡ length (spell a))
+    → Inside k (length (items a)) into left b
     → Sides k c (items (a ++ b)) (record { at = at; into = into; left = left })
 sides-by k c at into left a b o h (over e) =
     record {
@@ -344,17 +365,20 @@ sides-by k c at into left a b o h (within u us v vs rs e) =
 pub sides : (k : ℕ) (c : List ℕ) (xs : Content) (p : Place) → Holds c xs → Parted k (content-records xs) p → Sides k c xs p
 sides k c xs p o q =
     subst (λ (l : Content). Sides k c l p) (ap (λ (l : List Record). items l) (sym (q .parts)) ∙ items-of xs)
-    (sides-by k c (p .at) (p .into) (p .left) (q .before) (q .after) (subst (λ (l : List Record). Of c l) (q .parts) o) (q .offset) (q .inside))
+    (sides-by k c (p .at) (p .into) (p .left) (q .before) (q .after) (subst (λ (l : List Record). Of c l) (q .parts) o) (q .offset)
+    (q .inside))
 
 -- lengths: cut records are as long as they were
 cut-size : (b : Bool) (ys : Content) (rs : List Record) → Kept b rs → length (spell (cut-records ys rs)) ≡ length (spell rs)
 unfolding spell gather
 cut-size b ys [] k = refl
 cut-size b ys (inline x ∷ rs) (kept-item g k) =
-    length-append (record-bytes (inline (cut-item ys x))) (spell (cut-records ys rs)) ∙ ap₂ _+_ (cut-length (inline x) ys (an-item g)) (cut-size false ys rs k)
+    length-append (record-bytes (inline (cut-item ys x))) (spell (cut-records ys rs))
+    ∙ ap₂ _+_ (cut-length (inline x) ys (an-item g)) (cut-size false ys rs k)
     ∙ sym (length-append (record-bytes (inline x)) (spell rs))
 cut-size b ys (text-run cs ∷ rs) (kept-text a l k) =
-    length-append (record-bytes (text-run cs)) (spell (cut-records ys rs)) ∙ ap (λ (n : ℕ). length (record-bytes (text-run cs)) + n) (cut-size true ys rs k)
+    length-append (record-bytes (text-run cs)) (spell (cut-records ys rs))
+    ∙ ap (λ (n : ℕ). length (record-bytes (text-run cs)) + n) (cut-size true ys rs k)
     ∙ sym (length-append (record-bytes (text-run cs)) (spell rs))
 
 pub of-size : (c : List ℕ) (ys : Content) (rs : List Record) → Of c rs → length (spell (cut-records ys rs)) ≡ length c
@@ -371,7 +395,8 @@ module _ (k : ℕ) (c : List ℕ) (xs : Content) (p : Place) (s : Sides k c xs p
   pub back-size : length (spell (cut-records (items (s .before)) (s .after))) ≡ length c - p .at
   back-size = of-size (drop (p .at) c) (items (s .before)) (s .after) (s .back) ∙ length-drop (p .at) c
 
-  pub rest-size : (i : Inner k c xs p (s .before) (s .after)) → length (spell (cut-records (items (s .before)) (i .others))) ≡ length c - (p .at + (4 + i .size))
+  pub rest-size : (i : Inner k c xs p (s .before) (s .after))
+      → length (spell (cut-records (items (s .before)) (i .others))) ≡ length c - (p .at + (4 + i .size))
   rest-size i = of-size (drop (p .at + (4 + i .size)) c) (items (s .before)) (i .others) (i .rest) ∙ length-drop (p .at + (4 + i .size)) c
 
   pub first-size-0 : p .into ≡ 0 → length (content-bytes (first-items k xs)) ≡ p .at
@@ -380,8 +405,10 @@ module _ (k : ℕ) (c : List ℕ) (xs : Content) (p : Place) (s : Sides k c xs p
   pub first-size-1 : 1 ≤ p .into → length (content-bytes (first-items k xs)) ≡ p .at + (4 + p .into)
   first-size-1 z =
       let i = s .inner z in
-      let t : length (take (p .into) (drop (p .at + 4) c)) ≡ p .into = length-take-le (p .into) (drop (p .at + 4) c) (omega (arith, length-drop (p .at + 4) c, i .fit, i .less)) in
-      ap length (i .first) ∙ length-append (spell (cut-records (items (s .after)) (s .before))) (textPiece (take (p .into) (drop (p .at + 4) c)))
+      let t : length (take (p .into) (drop (p .at + 4) c)) ≡ p .into = length-take-le (p .into) (drop (p .at + 4) c)
+      (omega (arith, length-drop (p .at + 4) c, i .fit, i .less)) in
+      ap length (i .first) ∙ length-append (spell (cut-records (items (s .after)) (s .before)))
+      (textPiece (take (p .into) (drop (p .at + 4) c)))
       ∙ ap₂ _+_ front-size (piece-size (take (p .into) (drop (p .at + 4) c)) ∙ ap (λ (n : ℕ). 4 + n) t)
 
   pub first-least : p .at ≤ length (content-bytes (first-items k xs))
@@ -398,7 +425,11 @@ module _ (k : ℕ) (c : List ℕ) (xs : Content) (p : Place) (s : Sides k c xs p
   second-size-1 z =
       let i = s .inner z in
       let t : length (take (i .size - p .into) (drop (p .at + 4 + p .into) c)) ≡ i .size - p .into =
-      length-take-le (i .size - p .into) (drop (p .at + 4 + p .into) c) (omega (arith, length-drop (p .at + 4 + p .into) c, i .fit, i .less)) in
-      ap length (i .second) ∙ length-append (textPiece (take (i .size - p .into) (drop (p .at + 4 + p .into) c))) (spell (cut-records (items (s .before)) (i .others)))
+      length-take-le (i .size - p .into) (drop (p .at + 4 + p .into) c)
+      (omega (arith, length-drop (p .at + 4 + p .into) c, i .fit, i .less)) in
+      ap length (i .second)
+      ∙ length-append (textPiece (take (i .size - p .into) (drop (p .at + 4 + p .into) c)))
+      (spell (cut-records (items (s .before)) (i .others)))
       ∙ ap₂ _+_ (piece-size (take (i .size - p .into) (drop (p .at + 4 + p .into) c)) ∙ ap (λ (n : ℕ). 4 + n) t) (rest-size i)
-      ∙ (let z : 4 + (i .size - p .into) + (length c - (p .at + (4 + i .size))) ≡ length c - p .at - p .into = omega (arith, i .fit, i .less) in z)
+      ∙ (let z : 4 + (i .size - p .into) + (length c - (p .at + (4 + i .size))) ≡ length c - p .at - p .into =
+      omega (arith, i .fit, i .less) in z)

@@ -14,7 +14,8 @@ use Rattle.writer.specs.Pieces.{lead}
 use Rattle.writer.proofs.PieceLaws.{two-back, lead-length}
 
 -- of the records rs those before the offset at of t are written over o, which has become l
-pub record Written (F : List Record → Type 0) (f : Record → Record) (t : List ℕ) (rs : List Record) (o : List ℕ) (at : ℕ) (l : List ℕ) : Type 0 where
+pub record Written (F : List Record → Type 0) (f : Record → Record) (t : List ℕ) (rs : List Record) (o : List ℕ) (at : ℕ)
+    (l : List ℕ) : Type 0 where
   pub upto : Upto F t rs at
   pub done : at ≡ length (spell (map f (upto .before)))
   pub out : l ≡ lead (spell (map f (upto .before))) o
@@ -29,8 +30,10 @@ module _ (F : List Record → Type 0) (f : Record → Record) (t : List ℕ) (rs
     front = spell (map f (m .upto .before))
 
     -- one record further, y written behind
-    pub written-on : (P : Record → Type 0) (w : ℕ) (n : NextOf P F t at w (m .upto .after)) (y : List ℕ) → length (record-bytes (f (n .first))) ≡ length (record-bytes (n .first))
-        → y ≡ lead (record-bytes (f (n .first))) (take (length l - at) (drop at l)) → Written F f t rs o (at + w) (take at l ++ (y ++ drop (length l - at) (drop at l)))
+    pub written-on : (P : Record → Type 0) (w : ℕ) (n : NextOf P F t at w (m .upto .after)) (y : List ℕ)
+        → length (record-bytes (f (n .first))) ≡ length (record-bytes (n .first))
+        → y ≡ lead (record-bytes (f (n .first))) (take (length l - at) (drop at l))
+        → Written F f t rs o (at + w) (take at l ++ (y ++ drop (length l - at) (drop at l)))
     unfolding upto-on
     written-on P w n y same e =
         let piece = record-bytes (f (n .first)) in
@@ -47,7 +50,8 @@ module _ (F : List Record → Type 0) (f : Record → Record) (t : List ℕ) (rs
     -- all are
     pub written-end : m .upto .after ≡ [] → l ≡ lead (spell (map f rs)) o
     written-end e =
-        m .out ∙ ap (λ (q : List Record). lead (spell (map f q)) o) (sym (m .upto .all ∙ ap (λ (q : List Record). m .upto .before ++ q) e ∙ append-nil (m .upto .before)))
+        m .out ∙ ap (λ (q : List Record). lead (spell (map f q)) o)
+        (sym (m .upto .all ∙ ap (λ (q : List Record). m .upto .before ++ q) e ∙ append-nil (m .upto .before)))
 
     pub written-length : at ≤ length o → length l ≡ length o
     written-length h = ap length (m .out) ∙ lead-length front o (omega (arith, m .done))

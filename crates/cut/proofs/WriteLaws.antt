@@ -29,7 +29,8 @@ pub cut-on : (a beyond : List ℕ) (rs qs : List Record) (o : List ℕ) (at w : 
     → Written InContent (cut-record (items qs)) a rs o (at + w) (take at l ++ (y ++ drop (length l - at) (drop at l)))
 cut-on a beyond rs qs o at w l y p m h e one =
     let n = next a at w (m .upto .after) h (m .upto .rest) e in
-    written-on InContent (cut-record (items qs)) a rs o at l m Inline w n y (cut-length (n .first) (items qs) (n .good)) (one (n .first) qs (n .good) (n .slice) p)
+    written-on InContent (cut-record (items qs)) a rs o at l m Inline w n y (cut-length (n .first) (items qs) (n .good))
+    (one (n .first) qs (n .good) (n .slice) p)
 
 module _ (k : ℕ) (c : List ℕ) (p : Place) (place : PlaceOf c k p) where
   the-sides : (xs : Content) → Holds c xs → Sides k c xs p
@@ -101,7 +102,8 @@ module _ (k : ℕ) (c : List ℕ) (p : Place) (place : PlaceOf c k p) where
 
   -- cut inside a text
   pub first-inner : (o l y : List ℕ) (n m : ℕ) → 1 ≤ p .into → n ≡ length before → CutAll before behind o l → m ≡ 4 + length front-text
-      → y ≡ lead (textPiece front-text) (take (length l - n) (drop n l)) → Wrote (first-items k) c o (n + m) (take n l ++ (y ++ drop (length l - n) (drop n l)))
+      → y ≡ lead (textPiece front-text) (take (length l - n) (drop n l))
+      → Wrote (first-items k) c o (n + m) (take n l ++ (y ++ drop (length l - n) (drop n l)))
   first-inner o l y n m z e f g h xs holds =
       let s = the-sides xs holds in
       let i = s .inner z in
@@ -110,7 +112,8 @@ module _ (k : ℕ) (c : List ℕ) (p : Place) (place : PlaceOf c k p) where
       let text = slice-size c (p .at + 4) (p .into) (omega (arith, i .fit, i .less)) in
       let width : p .at + 4 + p .into - (p .at + 4) ≡ p .into = omega arith in (
         omega (arith, e, long, g, text, first-size-1 k c xs p s z),
-        two-back o front (textPiece front-text) l y n (e ∙ long ∙ sym (front-size k c xs p s)) (f (s .before) (s .after) (s .front) (behind-of (s .after) (s .back))) h
+        two-back o front (textPiece front-text) l y n (e ∙ long ∙ sym (front-size k c xs p s))
+            (f (s .before) (s .after) (s .front) (behind-of (s .after) (s .back))) h
             ∙ ap (λ (x : List ℕ). lead x o) (ap (λ (j : ℕ). front ++ textPiece (take j (drop (p .at + 4) c))) width ∙ sym (i .first)),
       )
 
@@ -134,8 +137,10 @@ module _ (k : ℕ) (c : List ℕ) (p : Place) (place : PlaceOf c k p) where
   behind-long : length behind ≡ length c - p .at
   behind-long = ap length (tail-is (p .at) c) ∙ length-drop (p .at) c
 
-  back-long : (w : ℕ) (xs : Content) (a b : List Record) (i : Inner k c xs p a b) → WidthAt c (p .at) w → length (back-text w) ≡ p .at + w - (p .at + 4 + p .into)
-  back-long w xs a b i e = slice-long c (p .at + 4 + p .into) (p .at + w) (omega (arith, i .width w e, i .less)) (omega (arith, i .width w e, i .fit))
+  back-long : (w : ℕ) (xs : Content) (a b : List Record) (i : Inner k c xs p a b) → WidthAt c (p .at) w
+      → length (back-text w) ≡ p .at + w - (p .at + 4 + p .into)
+  back-long w xs a b i e =
+      slice-long c (p .at + 4 + p .into) (p .at + w) (omega (arith, i .width w e, i .less)) (omega (arith, i .width w e, i .fit))
 
   rest-long-is : (w : ℕ) → length (rest w) ≡ length c - (p .at + w)
   rest-long-is w = ap length (tail-is (p .at + w) c) ∙ length-drop (p .at + w) c
@@ -171,7 +176,8 @@ module _ (k : ℕ) (c : List ℕ) (p : Place) (place : PlaceOf c k p) where
       )
 
   -- written in two pieces: its text, and what is behind the text
-  pub second-inner : (w : ℕ) (o l y : List ℕ) (n m : ℕ) → 1 ≤ p .into → WidthAt c (p .at) w → n ≡ 4 + length (back-text w) → m ≡ length (rest w)
+  pub second-inner : (w : ℕ) (o l y : List ℕ) (n m : ℕ) → 1 ≤ p .into → WidthAt c (p .at) w → n ≡ 4 + length (back-text w)
+      → m ≡ length (rest w)
       → l ≡ lead (textPiece (back-text w)) o → CutAll (rest w) before (take (length l - n) (drop n l)) y
       → Wrote (second-items k) c o (n + m) (take n l ++ (y ++ drop (length l - n) (drop n l)))
   second-inner w o l y n m z e f g h u xs holds =
@@ -184,5 +190,6 @@ module _ (k : ℕ) (c : List ℕ) (p : Place) (place : PlaceOf c k p) where
         omega (arith, f, g, text, rest-long-is w, width, i .fit, i .less, second-size-1 k c xs p s z),
         two-back o (textPiece (back-text w)) others l y n (f ∙ sym (piece-size (back-text w))) h
             (u (i .others) (s .before) (rest-of w xs (s .before) (s .after) i e) (s .front))
-            ∙ ap (λ (x : List ℕ). lead x o) (ap (λ (j : ℕ). textPiece (take j (drop (p .at + 4 + p .into) c)) ++ others) cut ∙ sym (i .second)),
+            ∙ ap (λ (x : List ℕ). lead x o) (ap (λ (j : ℕ). textPiece (take j (drop (p .at + 4 + p .into) c)) ++ others) cut
+            ∙ sym (i .second)),
       )

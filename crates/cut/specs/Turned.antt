@@ -1,4 +1,5 @@
--- The marks of start and end for those of pc and mrk. Stepping stones: `cut-one` (proofs/CutLaws) ties them to the specification's `cut-item`.
+-- The marks of start and end for those of pc and mrk. Stepping stones: `cut-one` (proofs/CutLaws) ties them to the
+-- specification's `cut-item`.
 use Prim.Native.Nat.{ℕ, _+_}
 use mathlib.Core.Path.{_≡_}
 use mathlib.Core.Bool.{Bool, cond}
@@ -54,7 +55,8 @@ cut-records ys rs = map (cut-record ys) rs
 
 -- the output o has become l: one record, cut; all records of a, cut
 abbrev pub CutOne : List ℕ → List ℕ → List ℕ → List ℕ → Type 0
-CutOne t beyond o l = (r : Record) (qs : List Record) → Inline r → t ≡ record-bytes r → Of beyond qs → l ≡ lead (record-bytes (cut-record (items qs) r)) o
+CutOne t beyond o l = (r : Record) (qs : List Record) → Inline r → t ≡ record-bytes r → Of beyond qs
+    → l ≡ lead (record-bytes (cut-record (items qs) r)) o
 
 abbrev pub CutAll : List ℕ → List ℕ → List ℕ → List ℕ → Type 0
 CutAll a beyond o l = (rs qs : List Record) → Of a rs → Of beyond qs → l ≡ lead (spell (cut-records (items qs) rs)) o

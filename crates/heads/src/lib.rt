@@ -19,7 +19,7 @@ pub fn unit_resegment(t: &[u8]) -> u8
     requires { ⌜ SomeUnit (now t) ⌝ }
     ensures { λ r. ⌜ ResegmentIs (now (t .entry)) r ⌝ }
 {
-    let f = table::opening_of(t);
+    let f = table::opening_fields(t);
     f.can_resegment
 }
 

@@ -79,7 +79,8 @@ strong [] k e = kept-end
 strong (inline x ∷ qs) (kept-item g k) e = kept-item g k
 strong (text-run cs ∷ qs) (kept-text a l k) e = absurd (true≢false (sym (text-marked cs (spell qs)) ∙ e))
 
-pub kept-meet : (b : Bool) (a : List Record) (r : Record) (qs : List Record) → Kept b (a ++ (r ∷ [])) → Kept false qs → marked (record-bytes r ++ []) (84 ∷ 88 ∷ []) && marked (spell qs) (84 ∷ 88 ∷ []) ≡ false
+pub kept-meet : (b : Bool) (a : List Record) (r : Record) (qs : List Record) → Kept b (a ++ (r ∷ [])) → Kept false qs
+    → marked (record-bytes r ++ []) (84 ∷ 88 ∷ []) && marked (spell qs) (84 ∷ 88 ∷ []) ≡ false
     → Kept b ((a ++ (r ∷ [])) ++ qs)
 unfolding record-bytes
 kept-meet b [] r qs (kept-item g k) q e = kept-item g q
@@ -93,7 +94,8 @@ no-bytes-left c rs z o = rest-end c 0 rs (omega arith) (rest-start c rs o)
 -- the answers of the code
 pub seam-none : (a : List ℕ) (rs qs : List Record) → length a ≡ 0 → Of a rs → Kept false qs → Seam (length a) rs qs 0
 seam-none a rs qs z o k =
-    subst (λ (n : ℕ). Seam (length a) rs qs n) z (apart (subst (λ (l : List Record). Kept false (l ++ qs)) (sym (no-bytes-left a rs z o)) k))
+    subst (λ (n : ℕ). Seam (length a) rs qs n) z
+    (apart (subst (λ (l : List Record). Kept false (l ++ qs)) (sym (no-bytes-left a rs z o)) k))
 
 pub seam-last : (a b : List ℕ) (rs qs : List Record) → length b ≡ 0 → Of b qs → Kept false rs → Seam (length a) rs qs (length a)
 seam-last a b rs qs z o k = apart (subst (Kept false) (sym (ap (λ (l : List Record). rs ++ l) (no-bytes-left b qs z o) ∙ append-nil rs)) k)
@@ -117,23 +119,27 @@ last-least a rs p o m =
 pub first-least : (b : List ℕ) (qs : List Record) → Of b qs → 0 < length b → 4 ≤ length b
 first-least b qs o h = let n = first-of b 0 qs h (rest-start b qs o) in omega (arith, n .least, n .fit)
 
-pub seam-apart : (a b : List ℕ) (rs qs : List Record) (p : ℕ) → Of a rs → Of b qs → Last rs p → marked (drop p a) (84 ∷ 88 ∷ []) && marked b (84 ∷ 88 ∷ []) ≡ false → Seam (length a) rs qs (length a)
+pub seam-apart : (a b : List ℕ) (rs qs : List Record) (p : ℕ) → Of a rs → Of b qs → Last rs p
+    → marked (drop p a) (84 ∷ 88 ∷ []) && marked b (84 ∷ 88 ∷ []) ≡ false → Seam (length a) rs qs (length a)
 seam-apart a b rs qs p o q m e =
     apart (subst (λ (l : List Record). Kept false (l ++ qs)) (sym (m .all))
     (kept-meet false (m .before) (m .last) qs (subst (Kept false) (m .all) (o .0)) (q .0)
     (ap₂ (λ (u v : List ℕ). marked u (84 ∷ 88 ∷ []) && marked v (84 ∷ 88 ∷ [])) (sym (last-bytes a rs p o m)) (q .1) ∙ e)))
 
-pub seam-touching : (a b : List ℕ) (rs qs : List Record) (p : ℕ) → Of a rs → Of b qs → 0 < length b → Last rs p → marked (drop p a) (84 ∷ 88 ∷ []) && marked b (84 ∷ 88 ∷ []) ≡ true → Seam (length a) rs qs p
+pub seam-touching : (a b : List ℕ) (rs qs : List Record) (p : ℕ) → Of a rs → Of b qs → 0 < length b → Last rs p
+    → marked (drop p a) (84 ∷ 88 ∷ []) && marked b (84 ∷ 88 ∷ []) ≡ true → Seam (length a) rs qs p
 seam-touching a b rs qs p o q h m e =
     let n = first-of b 0 qs h (rest-start b qs q) in
-    let u = is-text (m .last) (drop p a) [] (last-inline a rs p o m) (last-bytes a rs p o m) (and-left (marked (drop p a) (84 ∷ 88 ∷ [])) _ e) in
+    let u = is-text (m .last) (drop p a) [] (last-inline a rs p o m) (last-bytes a rs p o m)
+    (and-left (marked (drop p a) (84 ∷ 88 ∷ [])) _ e) in
     let v = is-text (n .first) b (spell (n .others)) (n .good) (n .bytes) (and-right (marked (drop p a) (84 ∷ 88 ∷ [])) _ e) in
     subst (λ (j : ℕ). Seam (length a) rs qs j) (sym (m .offset))
     (touching (m .before) (u .points) (v .points) (n .others)
     (m .all ∙ ap (λ (r : Record). m .before ++ (r ∷ [])) (u .is)) (n .all ∙ ap {B = List Record} (λ r. r ∷ n .others) (v .is)))
 
 -- contents whose records can stand side by side
-joined-apart : (a b : List ℕ) (xs ys : Content) → Holds a xs → Holds b ys → Kept false (content-records xs ++ content-records ys) → content-bytes (xs ++ ys) ≡ a ++ b
+joined-apart : (a b : List ℕ) (xs ys : Content) → Holds a xs → Holds b ys → Kept false (content-records xs ++ content-records ys)
+    → content-bytes (xs ++ ys) ≡ a ++ b
 unfolding content-bytes
 joined-apart a b xs ys o q k =
     let i : items (content-records xs ++ content-records ys) ≡ xs ++ ys =
@@ -146,7 +152,8 @@ allowed-both : (cs ds : List ℕ) → Allowed cs → Allowed ds → Allowed (cs 
 allowed-both [] ds a b = b
 allowed-both (c ∷ cs) ds (one-point p a) b = one-point p (allowed-both cs ds a b)
 
-one-text : (b : Bool) (a : List Record) (cs ds : List ℕ) (rs : List Record) → Kept b (a ++ (text-run cs ∷ [])) → Kept false (text-run ds ∷ rs) → length (utf8s (cs ++ ds)) < 65536
+one-text : (b : Bool) (a : List Record) (cs ds : List ℕ) (rs : List Record) → Kept b (a ++ (text-run cs ∷ []))
+    → Kept false (text-run ds ∷ rs) → length (utf8s (cs ++ ds)) < 65536
     → Kept b (a ++ (text-run (cs ++ ds) ∷ rs))
 one-text b [] cs ds rs (kept-text a l k) (kept-text p m n) h = kept-text (allowed-both cs ds a p) h n
 one-text b (inline x ∷ a) cs ds rs (kept-item g k) q h = kept-item g (one-text false a cs ds rs k q h)
@@ -160,10 +167,13 @@ module _ (before : List Record) (cs ds : List ℕ) (others : List Record) where
   whole-bytes : (b : List ℕ) → spell (text-run ds ∷ others) ≡ b → spell (before ++ (text-run (cs ++ ds) ∷ others)) ≡ patched ++ drop 4 b
   unfolding spell gather record-bytes two
   whole-bytes b e =
-      let n : length (utf8s (cs ++ ds)) ≡ length (utf8s cs) + length (utf8s ds) = ap length (utf8s-append cs ds) ∙ length-append (utf8s cs) (utf8s ds) in
+      let n : length (utf8s (cs ++ ds)) ≡ length (utf8s cs) + length (utf8s ds) = ap length (utf8s-append cs ds)
+      ∙ length-append (utf8s cs) (utf8s ds) in
       spell-append before (text-run (cs ++ ds) ∷ others)
       ∙ ap₂ (λ (k : ℕ) (l : List ℕ). spell before ++ (84 ∷ 88 ∷ ((k / 256 ∷ k % 256 ∷ l) ++ spell others))) n (utf8s-append cs ds)
-      ∙ ap (λ (l : List ℕ). spell before ++ (84 ∷ 88 ∷ (length (utf8s cs) + length (utf8s ds)) / 256 ∷ (length (utf8s cs) + length (utf8s ds)) % 256 ∷ l)) (append-assoc (utf8s cs) (utf8s ds) (spell others))
+      ∙ ap (λ (l : List ℕ). spell before ++
+      (84 ∷ 88 ∷ (length (utf8s cs) + length (utf8s ds)) / 256 ∷ (length (utf8s cs) + length (utf8s ds)) % 256 ∷ l))
+      (append-assoc (utf8s cs) (utf8s ds) (spell others))
       ∙ sym (append-assoc (spell before) (84 ∷ 88 ∷ (two (length (utf8s cs) + length (utf8s ds)) ++ utf8s cs)) (utf8s ds ++ spell others))
       ∙ ap (λ (l : List ℕ). patched ++ drop 4 l) e
 
@@ -193,31 +203,41 @@ record-long : (cs : List ℕ) → length (record-bytes (text-run cs)) ≡ 4 + le
 unfolding record-bytes two
 record-long cs = omega arith
 
-touch-first : (a : List ℕ) (rs before : List Record) (cs : List ℕ) → Of a rs → rs ≡ before ++ (text-run cs ∷ []) → a ≡ spell before ++ record-bytes (text-run cs)
+touch-first : (a : List ℕ) (rs before : List Record) (cs : List ℕ) → Of a rs → rs ≡ before ++ (text-run cs ∷ [])
+    → a ≡ spell before ++ record-bytes (text-run cs)
 unfolding spell gather
 touch-first a rs before cs o e =
-    sym (o .1) ∙ ap spell e ∙ spell-append before (text-run cs ∷ []) ∙ ap (λ (l : List ℕ). spell before ++ l) (append-nil (record-bytes (text-run cs)))
+    sym (o .1) ∙ ap spell e ∙ spell-append before (text-run cs ∷ [])
+    ∙ ap (λ (l : List ℕ). spell before ++ l) (append-nil (record-bytes (text-run cs)))
 
-seam-length : (a : List ℕ) (rs before : List Record) (cs : List ℕ) → Of a rs → rs ≡ before ++ (text-run cs ∷ []) → length a ≡ length (spell before) + (4 + length (utf8s cs))
+seam-length : (a : List ℕ) (rs before : List Record) (cs : List ℕ) → Of a rs → rs ≡ before ++ (text-run cs ∷ [])
+    → length a ≡ length (spell before) + (4 + length (utf8s cs))
 seam-length a rs before cs o e =
-    ap length (touch-first a rs before cs o e) ∙ length-append (spell before) (record-bytes (text-run cs)) ∙ ap (λ (n : ℕ). length (spell before) + n) (record-long cs)
+    ap length (touch-first a rs before cs o e) ∙ length-append (spell before) (record-bytes (text-run cs))
+    ∙ ap (λ (n : ℕ). length (spell before) + n) (record-long cs)
 
 seam-kept : (a : List ℕ) (rs qs : List Record) (n : ℕ) → Of a rs → Seam (length a) rs qs n → n ≡ length a → Kept false (rs ++ qs)
 seam-kept a rs qs n o (apart k) e = k
 seam-kept a rs qs n o (touching before cs ds others f g) e = absurd (let z : ⊥ = omega (arith, seam-length a rs before cs o f) in z)
 
-touch-by : (a b : List ℕ) (xs ys : Content) (before : List Record) (cs ds : List ℕ) (others : List Record) → Holds a xs → Holds b ys → length a + length b < 65536
-    → content-records xs ≡ before ++ (text-run cs ∷ []) → content-records ys ≡ text-run ds ∷ others → Touch a b xs ys (length (spell before))
+touch-by : (a b : List ℕ) (xs ys : Content) (before : List Record) (cs ds : List ℕ) (others : List Record) → Holds a xs → Holds b ys
+    → length a + length b < 65536
+    → content-records xs ≡ before ++ (text-run cs ∷ []) → content-records ys ≡ text-run ds ∷ others
+    → Touch a b xs ys (length (spell before))
 unfolding content-bytes spell gather
 touch-by a b xs ys before cs ds others o q h f g =
     let e : spell (text-run ds ∷ others) ≡ b = sym (ap spell g) ∙ q .1 in
     let k : Kept false (before ++ (text-run cs ∷ [])) = subst (Kept false) f (o .0) in
-    let n : length (utf8s (cs ++ ds)) ≡ length (utf8s cs) + length (utf8s ds) = ap length (utf8s-append cs ds) ∙ length-append (utf8s cs) (utf8s ds) in
-    let lb : length b ≡ length (record-bytes (text-run ds)) + length (spell others) = ap length (sym e) ∙ length-append (record-bytes (text-run ds)) (spell others) in
+    let n : length (utf8s (cs ++ ds)) ≡ length (utf8s cs) + length (utf8s ds) = ap length (utf8s-append cs ds)
+    ∙ length-append (utf8s cs) (utf8s ds) in
+    let lb : length b ≡ length (record-bytes (text-run ds)) + length (spell others) = ap length (sym e)
+    ∙ length-append (record-bytes (text-run ds)) (spell others) in
     let l : Kept false (before ++ (text-run (cs ++ ds) ∷ others)) =
-    one-text false before cs ds others k (subst (Kept false) g (q .0)) (omega (arith, seam-length a (content-records xs) before cs o f, record-long ds)) in
+    one-text false before cs ds others k (subst (Kept false) g (q .0))
+    (omega (arith, seam-length a (content-records xs) before cs o f, record-long ds)) in
     let i : items (before ++ (text-run (cs ++ ds) ∷ others)) ≡ xs ++ ys =
-    texts-items before cs ds others k l ∙ ap₂ _++_ (ap (λ (m : List Record). items m) (sym f) ∙ items-of xs) (ap (λ (m : List Record). items m) (sym g) ∙ items-of ys) in
+    texts-items before cs ds others k l
+    ∙ ap₂ _++_ (ap (λ (m : List Record). items m) (sym f) ∙ items-of xs) (ap (λ (m : List Record). items m) (sym g) ∙ items-of ys) in
     record {
       before = before;
       cs = cs;
@@ -226,27 +246,32 @@ touch-by a b xs ys before cs ds others o q h f g =
       offset = refl;
       first = touch-first a (content-records xs) before cs o f;
       second = sym e;
-      bytes = ap (λ (m : Content). spell (content-records m)) (sym i) ∙ ap spell (kept-records false (before ++ (text-run (cs ++ ds) ∷ others)) l)
+      bytes = ap (λ (m : Content). spell (content-records m)) (sym i)
+          ∙ ap spell (kept-records false (before ++ (text-run (cs ++ ds) ∷ others)) l)
           ∙ whole-bytes before cs ds others b e;
     }
 
-touch-at : (a b : List ℕ) (xs ys : Content) (rs qs : List Record) (end n : ℕ) → Holds a xs → Holds b ys → length a + length b < 65536 → content-records xs ≡ rs → content-records ys ≡ qs
+touch-at : (a b : List ℕ) (xs ys : Content) (rs qs : List Record) (end n : ℕ) → Holds a xs → Holds b ys
+    → length a + length b < 65536 → content-records xs ≡ rs → content-records ys ≡ qs
     → Seam end rs qs n → (n ≡ end → ⊥) → Touch a b xs ys n
 touch-at a b xs ys rs qs end n o q h u v (apart k) z = absurd (z refl)
 touch-at a b xs ys rs qs end n o q h u v (touching before cs ds others f g) z = touch-by a b xs ys before cs ds others o q h (u ∙ f) (v ∙ g)
 
-touch : (a b : List ℕ) (xs ys : Content) (n : ℕ) → Holds a xs → Holds b ys → length a + length b < 65536 → Seam (length a) (content-records xs) (content-records ys) n
+touch : (a b : List ℕ) (xs ys : Content) (n : ℕ) → Holds a xs → Holds b ys → length a + length b < 65536
+    → Seam (length a) (content-records xs) (content-records ys) n
     → (n ≡ length a → ⊥) → Touch a b xs ys n
 touch a b xs ys n o q h s z = touch-at a b xs ys (content-records xs) (content-records ys) (length a) n o q h refl refl s z
 
 -- a number written over the length of a text
-over-mid : (s u r : List ℕ) (x y c d n : ℕ) → n ≡ length s → overlay ((s ++ (84 ∷ 88 ∷ x ∷ y ∷ u)) ++ r) (n + 2) (c ∷ d ∷ []) ≡ (s ++ (84 ∷ 88 ∷ c ∷ d ∷ u)) ++ r
+over-mid : (s u r : List ℕ) (x y c d n : ℕ) → n ≡ length s
+    → overlay ((s ++ (84 ∷ 88 ∷ x ∷ y ∷ u)) ++ r) (n + 2) (c ∷ d ∷ []) ≡ (s ++ (84 ∷ 88 ∷ c ∷ d ∷ u)) ++ r
 over-mid s u r x y c d n e =
     let a : (s ++ (84 ∷ 88 ∷ x ∷ y ∷ u)) ++ r ≡ s ++ (84 ∷ 88 ∷ x ∷ y ∷ (u ++ r)) = append-assoc s (84 ∷ 88 ∷ x ∷ y ∷ u) r in
     let p : take (n + 2) ((s ++ (84 ∷ 88 ∷ x ∷ y ∷ u)) ++ r) ≡ s ++ (84 ∷ 88 ∷ []) =
     ap₂ (λ (k : ℕ) (l : List ℕ). take (k + 2) l) e a ∙ take-append-add s (84 ∷ 88 ∷ x ∷ y ∷ (u ++ r)) 2 in
     let q : drop (n + 2 + 2) ((s ++ (84 ∷ 88 ∷ x ∷ y ∷ u)) ++ r) ≡ u ++ r =
-    ap₂ (λ (k : ℕ) (l : List ℕ). drop k l) (let z : n + 2 + 2 ≡ length s + 4 = omega arith in z) a ∙ drop-append-add s (84 ∷ 88 ∷ x ∷ y ∷ (u ++ r)) 4 in
+    ap₂ (λ (k : ℕ) (l : List ℕ). drop k l) (let z : n + 2 + 2 ≡ length s + 4 = omega arith in z) a
+    ∙ drop-append-add s (84 ∷ 88 ∷ x ∷ y ∷ (u ++ r)) 4 in
     ap₂ (λ (v w : List ℕ). v ++ (c ∷ d ∷ []) ++ w) p q
     ∙ ap (λ (v : List ℕ). v ++ (u ++ r)) (append-assoc s (84 ∷ 88 ∷ []) (c ∷ d ∷ []))
     ∙ append-assoc s (84 ∷ 88 ∷ c ∷ d ∷ []) (u ++ r) ∙ sym (append-assoc s (84 ∷ 88 ∷ c ∷ d ∷ u) r)
@@ -260,15 +285,18 @@ module _ (a b : List ℕ) (xs ys : Content) (n : ℕ) (t : Touch a b xs ys n) wh
   unfolding two
   patched-long =
       let p = length-append (spell (t .before)) (84 ∷ 88 ∷ (two (length (utf8s (t .cs)) + length (utf8s (t .ds))) ++ utf8s (t .cs))) in
-      let q : length a ≡ length (spell (t .before)) + length (record-bytes (text-run (t .cs))) = ap length (t .first) ∙ length-append (spell (t .before)) (record-bytes (text-run (t .cs))) in
+      let q : length a ≡ length (spell (t .before)) + length (record-bytes (text-run (t .cs))) = ap length (t .first)
+      ∙ length-append (spell (t .before)) (record-bytes (text-run (t .cs))) in
       omega (arith, record-long (t .cs))
 
   touch-a : length a ≡ n + (4 + length (utf8s (t .cs)))
   touch-a =
-      ap length (t .first) ∙ length-append (spell (t .before)) (record-bytes (text-run (t .cs))) ∙ ap₂ _+_ (sym (t .offset)) (record-long (t .cs))
+      ap length (t .first) ∙ length-append (spell (t .before)) (record-bytes (text-run (t .cs)))
+      ∙ ap₂ _+_ (sym (t .offset)) (record-long (t .cs))
 
   touch-b : length b ≡ 4 + length (utf8s (t .ds)) + length (spell (t .others))
-  touch-b = ap length (t .second) ∙ length-append (record-bytes (text-run (t .ds))) (spell (t .others)) ∙ ap (λ (k : ℕ). k + length (spell (t .others))) (record-long (t .ds))
+  touch-b = ap length (t .second) ∙ length-append (record-bytes (text-run (t .ds))) (spell (t .others))
+      ∙ ap (λ (k : ℕ). k + length (spell (t .others))) (record-long (t .ds))
 
   touch-size : length (content-bytes (xs ++ ys)) ≡ length a + (length b - 4)
   touch-size = ap length (t .bytes) ∙ length-append the-patched (drop 4 b) ∙ ap₂ _+_ patched-long (length-drop 4 b)
@@ -279,14 +307,17 @@ module _ (a b : List ℕ) (xs ys : Content) (n : ℕ) (t : Touch a b xs ys n) wh
 
   touch-number-a : number (drop n a) ≡ length (utf8s (t .cs))
   touch-number-a =
-      ap number (ap (drop n) (t .first) ∙ drop-at (spell (t .before)) (record-bytes (text-run (t .cs))) n (sym (t .offset)) ∙ sym (append-nil (record-bytes (text-run (t .cs)))))
+      ap number (ap (drop n) (t .first) ∙ drop-at (spell (t .before)) (record-bytes (text-run (t .cs))) n (sym (t .offset))
+      ∙ sym (append-nil (record-bytes (text-run (t .cs)))))
       ∙ number-is (t .cs) []
 
   touch-number-b : number b ≡ length (utf8s (t .ds))
   touch-number-b = ap number (t .second) ∙ number-is (t .ds) (spell (t .others))
 
-  touch-wrote : (o l m y : List ℕ) (x j : ℕ) → l ≡ lead a o → x ≡ length (utf8s (t .cs)) + length (utf8s (t .ds)) → m ≡ overlay l (n + 2) (numberBytes x) → j ≡ length a
-      → y ≡ lead (take (length b - 4) (drop 4 b)) (take (length m - j) (drop j m)) → take j m ++ (y ++ drop (length m - j) (drop j m)) ≡ lead (content-bytes (xs ++ ys)) o
+  touch-wrote : (o l m y : List ℕ) (x j : ℕ) → l ≡ lead a o → x ≡ length (utf8s (t .cs)) + length (utf8s (t .ds))
+      → m ≡ overlay l (n + 2) (numberBytes x) → j ≡ length a
+      → y ≡ lead (take (length b - 4) (drop 4 b)) (take (length m - j) (drop j m))
+      → take j m ++ (y ++ drop (length m - j) (drop j m)) ≡ lead (content-bytes (xs ++ ys)) o
   unfolding two record-bytes
   touch-wrote o l m y x j e f g h k =
       let s : List ℕ = spell (t .before) in
@@ -294,13 +325,16 @@ module _ (a b : List ℕ) (xs ys : Content) (n : ℕ) (t : Touch a b xs ys n) wh
       let r : List ℕ = drop (length a) o in
       let z : l ≡ (s ++ (84 ∷ 88 ∷ length u / 256 ∷ length u % 256 ∷ u)) ++ r = e ∙ ap (λ (q : List ℕ). q ++ r) (t .first) in
       let w : m ≡ (s ++ (84 ∷ 88 ∷ x / 256 ∷ x % 256 ∷ u)) ++ r =
-      g ∙ ap (λ (q : List ℕ). overlay q (n + 2) (numberBytes x)) z ∙ over-mid s u r (length u / 256) (length u % 256) (x / 256) (x % 256) n (t .offset) in
+      g ∙ ap (λ (q : List ℕ). overlay q (n + 2) (numberBytes x)) z
+      ∙ over-mid s u r (length u / 256) (length u % 256) (x / 256) (x % 256) n (t .offset) in
       let v : m ≡ lead the-patched o =
       w ∙ ap (λ (k : ℕ). (s ++ (84 ∷ 88 ∷ k / 256 ∷ k % 256 ∷ u)) ++ r) f ∙ ap (λ (k : ℕ). the-patched ++ drop k o) (sym patched-long) in
-      two-back o the-patched (drop 4 b) m y j (h ∙ sym patched-long) v (k ∙ ap (λ (q : List ℕ). lead q (take (length m - j) (drop j m))) (tail-is 4 b))
+      two-back o the-patched (drop 4 b) m y j (h ∙ sym patched-long) v (k
+      ∙ ap (λ (q : List ℕ). lead q (take (length m - j) (drop j m))) (tail-is 4 b))
       ∙ ap (λ (q : List ℕ). lead q o) (sym (t .bytes))
 
-room-at : (a b : List ℕ) (xs ys : Content) (rs qs : List Record) (end n : ℕ) → Holds a xs → Holds b ys → length a + length b < 65536 → content-records xs ≡ rs → content-records ys ≡ qs
+room-at : (a b : List ℕ) (xs ys : Content) (rs qs : List Record) (end n : ℕ) → Holds a xs → Holds b ys → length a + length b < 65536
+    → content-records xs ≡ rs → content-records ys ≡ qs
     → Seam end rs qs n → length a ≤ length (content-bytes (xs ++ ys))
 room-at a b xs ys rs qs end n o q h u v (apart k) =
     let e : length (content-bytes (xs ++ ys)) ≡ length a + length b =
@@ -309,7 +343,8 @@ room-at a b xs ys rs qs end n o q h u v (apart k) =
 room-at a b xs ys rs qs end n o q h u v (touching before cs ds others f g) =
     omega (arith, touch-size a b xs ys (length (spell before)) (touch-by a b xs ys before cs ds others o q h (u ∙ f) (v ∙ g)))
 
-joined-room : (a b : List ℕ) (xs ys : Content) (n : ℕ) → Holds a xs → Holds b ys → length a + length b < 65536 → Seam (length a) (content-records xs) (content-records ys) n
+joined-room : (a b : List ℕ) (xs ys : Content) (n : ℕ) → Holds a xs → Holds b ys → length a + length b < 65536
+    → Seam (length a) (content-records xs) (content-records ys) n
     → length a ≤ length (content-bytes (xs ++ ys))
 joined-room a b xs ys n o q h s = room-at a b xs ys (content-records xs) (content-records ys) (length a) n o q h refl refl s
 
@@ -347,13 +382,22 @@ module _ (a b : List ℕ) (n : ℕ) (seam : SeamOf a b n) where
             record {
               first-fit = omega (arith, first);
               second-fit = omega (arith, second);
-              sum-small = omega (arith, small, first, second, number-there a n 2, touch-number-a a b xs ys n t, touch-number-b a b xs ys n t);
+              sum-small = omega (
+                arith,
+                small,
+                first,
+                second,
+                number-there a n 2,
+                touch-number-a a b xs ys n t,
+                touch-number-b a b xs ys n t,
+              );
               rest-room = omega (arith, room, rest-long, touch-size a b xs ys n t);
             };
       }
 
   -- side by side
-  pub join-apart : (o l y : List ℕ) (k m : ℕ) → n ≡ length a → k ≡ length a → l ≡ lead a o → m ≡ length b → y ≡ lead b (take (length l - k) (drop k l))
+  pub join-apart : (o l y : List ℕ) (k m : ℕ) → n ≡ length a → k ≡ length a → l ≡ lead a o → m ≡ length b
+      → y ≡ lead b (take (length l - k) (drop k l))
       → WroteJoined a b o (k + m) (take k l ++ (y ++ drop (length l - k) (drop k l)))
   join-apart o l y k m e f g h u xs ys p q =
       let j = side-by-side xs ys p q e in (
@@ -362,8 +406,10 @@ module _ (a b : List ℕ) (n : ℕ) (seam : SeamOf a b n) where
       )
 
   -- two texts made one
-  pub join-touching : (o l z y : List ℕ) (k x m : ℕ) → RoomJoined a b o → (n ≡ length a → ⊥) → k ≡ length a → l ≡ lead a o → x ≡ two-at a (n + 2) + two-at b 2
-      → z ≡ overlay l (n + 2) (numberBytes x) → m ≡ length (take (length b - 4) (drop 4 b)) → y ≡ lead (take (length b - 4) (drop 4 b)) (take (length z - k) (drop k z))
+  pub join-touching : (o l z y : List ℕ) (k x m : ℕ) → RoomJoined a b o → (n ≡ length a → ⊥) → k ≡ length a → l ≡ lead a o
+      → x ≡ two-at a (n + 2) + two-at b 2
+      → z ≡ overlay l (n + 2) (numberBytes x) → m ≡ length (take (length b - 4) (drop 4 b))
+      → y ≡ lead (take (length b - 4) (drop 4 b)) (take (length z - k) (drop k z))
       → WroteJoined a b o (k + m) (take k z ++ (y ++ drop (length z - k) (drop k z)))
   join-touching o l z y k x m (_, _, _, _, small, _) e f g h u v w xs ys p q =
       let t = touch a b xs ys n p q small (the-seam xs ys p q) e in

@@ -22,14 +22,17 @@ LastOf c n = (rs : List Record) → Of c rs → Last rs n
 -- two texts touch, the first of them at n; else n is `end`
 pub data Seam (end : ℕ) (rs qs : List Record) : ℕ → Type 0 where
   apart : Kept false (rs ++ qs) → Seam end rs qs end
-  touching : (before : List Record) (cs ds : List ℕ) (others : List Record) → rs ≡ before ++ (text-run cs ∷ []) → qs ≡ text-run ds ∷ others → Seam end rs qs (length (spell before))
+  touching : (before : List Record) (cs ds : List ℕ) (others : List Record) → rs ≡ before ++ (text-run cs ∷ [])
+      → qs ≡ text-run ds ∷ others → Seam end rs qs (length (spell before))
 
 abbrev pub SeamOf : List ℕ → List ℕ → ℕ → Type 0
 SeamOf a b n = (rs qs : List Record) → Of a rs → Of b qs → Seam (length a) rs qs n
 
 -- contents, with room for both in one
 abbrev pub RoomJoined : List ℕ → List ℕ → List ℕ → Type 0
-RoomJoined a b o = (xs ys : Content) × Holds a xs × Holds b ys × (length a + length b < 65536) × (length (content-bytes (xs ++ ys)) ≤ length o)
+RoomJoined a b o = (xs ys : Content) × Holds a xs × Holds b ys × (length a + length b < 65536) ×
+    (length (content-bytes (xs ++ ys)) ≤ length o)
 
 abbrev pub WroteJoined : List ℕ → List ℕ → List ℕ → ℕ → List ℕ → Type 0
-WroteJoined a b o n l = (xs ys : Content) → Holds a xs → Holds b ys → (n ≡ length (content-bytes (xs ++ ys))) × (l ≡ lead (content-bytes (xs ++ ys)) o)
+WroteJoined a b o n l = (xs ys : Content) → Holds a xs → Holds b ys
+    → (n ≡ length (content-bytes (xs ++ ys))) × (l ≡ lead (content-bytes (xs ++ ys)) o)

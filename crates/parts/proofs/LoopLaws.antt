@@ -23,7 +23,8 @@ PartsWritten t f ps o at l = Written (Each InPart) (order-record f) t (gather pa
 
 module _ (t : List ℕ) (f : ℕ → ℕ) (ps : List Part) (o : List ℕ) where
   pub parts-start : PartsIn t ps → PartsWritten t f ps o 0 o
-  parts-start (e, h) = written-start (Each InPart) (order-record f) t (gather part-records ps) o (record { kept = parts-in ps h; bytes = e })
+  parts-start (e, h) = written-start (Each InPart) (order-record f) t (gather part-records ps) o
+      (record { kept = parts-in ps h; bytes = e })
 
   -- one record further
   pub parts-on : (at w : ℕ) (l y : List ℕ) → PartsWritten t f ps o at l → at < length t → WidthAt t at w
@@ -31,7 +32,8 @@ module _ (t : List ℕ) (f : ℕ → ℕ) (ps : List Part) (o : List ℕ) where
       → PartsWritten t f ps o (at + w) (take at l ++ (y ++ drop (length l - at) (drop at l)))
   parts-on at w l y m h e one =
       let n = next t at w (m .upto .after) h (m .upto .rest) e in
-      written-on (Each InPart) (order-record f) t (gather part-records ps) o at l m InPart w n y (order-length f (n .first)) (one (n .first) (n .good) (n .slice))
+      written-on (Each InPart) (order-record f) t (gather part-records ps) o at l m InPart w n y (order-length f (n .first))
+      (one (n .first) (n .good) (n .slice))
 
   parts-wrote : (at : ℕ) (l : List ℕ) → length t ≤ at → PartsIn t ps → PartsWritten t f ps o at l → l ≡ lead (ordered f ps) o
   parts-wrote at l h (e, g) m =

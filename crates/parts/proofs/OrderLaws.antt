@@ -48,7 +48,9 @@ unfolding gather part-records
 parts-in [] each-nil = each-nil
 parts-in (p ∷ ps) (each-cons g h) =
     each-append (part-records p) (gather part-records ps)
-    (each-cons (head-in (g .2)) (each-append (content-records (p .source)) (target-records (p .target)) (kept-in false (content-records (p .source)) (g .0)) (target-records-in (p .target) (g .1))))
+    (each-cons (head-in (g .2))
+    (each-append (content-records (p .source)) (target-records (p .target)) (kept-in false (content-records (p .source)) (g .0))
+    (target-records-in (p .target) (g .1))))
     (parts-in ps h)
 
 -- an order changed in each record is that order changed in each part
@@ -70,7 +72,8 @@ module _ (f : ℕ → ℕ) where
       (map-append (order-record f) (content-records (p .source)) (target-records (p .target))
       ∙ ap₂ _++_ (kept-stays false (content-records (p .source)) k) (target-moved (p .target) g))
 
-  pub parts-moved : (ps : List Part) → Each GoodPart ps → map (order-record f) (gather part-records ps) ≡ gather part-records (order-parts f ps)
+  pub parts-moved : (ps : List Part) → Each GoodPart ps
+      → map (order-record f) (gather part-records ps) ≡ gather part-records (order-parts f ps)
   unfolding gather order-parts
   parts-moved [] each-nil = refl
   parts-moved (p ∷ ps) (each-cons g h) =
@@ -92,7 +95,13 @@ module _ (f : ℕ → ℕ) where
   unfolding spell gather
   orders-length [] = refl
   orders-length (r ∷ rs) =
-      omega (arith, order-length r, orders-length rs, length-append (record-bytes (order-record f r)) (spell (map (order-record f) rs)), length-append (record-bytes r) (spell rs))
+      omega (
+        arith,
+        order-length r,
+        orders-length rs,
+        length-append (record-bytes (order-record f r)) (spell (map (order-record f) rs)),
+        length-append (record-bytes r) (spell rs),
+      )
 
   -- they are as long as the parts that stood there; so there is room for them
   pub ordered-length : (t : List ℕ) (ps : List Part) → PartsIn t ps → length (ordered f ps) ≡ length t

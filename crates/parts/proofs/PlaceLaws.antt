@@ -17,7 +17,8 @@ use Rattle.part_at.proofs.SliceLaws.{before-is, behind-is}
 use Rattle.parts.specs.Parts.{GoodPart, PartsIn}
 use Rattle.parts.proofs.CheckLaws.{table-of}
 
-module _ (t : List ℕ) (h : (i : ℕ) → Fits w8 (getD t i 0)) (v : table-refusal t ≡ none) (b : List Part) (p : Part) (a : List Part) (x : PartPlace) (s : PartStands t b p a x) where
+module _ (t : List ℕ) (h : (i : ℕ) → Fits w8 (getD t i 0)) (v : table-refusal t ≡ none) (b : List Part) (p : Part) (a : List Part)
+    (x : PartPlace) (s : PartStands t b p a x) where
   good-apart : Each GoodPart b × GoodPart p × Each GoodPart a
   good-apart = each-apart b p a (subst (Each GoodPart) (s .all) (table-of t (bytes-known t h) v .1))
 

@@ -79,7 +79,8 @@ module _ (r : Record) (b : ATarget r) (t : List ℕ) (e : t ≡ record-bytes r) 
 each-first : (r : Record) (rs : List Record) → Each InPart (r ∷ rs) → InPart r × Each InPart rs
 each-first r rs (each-cons g h) = (g, h)
 
-pub next : (t : List ℕ) (at w : ℕ) (rs : List Record) → at < length t → RestOf (Each InPart) t at rs → WidthAt t at w → NextOf InPart (Each InPart) t at w rs
+pub next : (t : List ℕ) (at w : ℕ) (rs : List Record) → at < length t → RestOf (Each InPart) t at rs → WidthAt t at w
+    → NextOf InPart (Each InPart) t at w rs
 next t at w rs h m e = next-of InPart (Each InPart) each-first (λ r g. g) t at w rs h m (width-there t at w e)
 
 pub rest-end : (t : List ℕ) (at : ℕ) (rs : List Record) → length t ≤ at → RestOf (Each InPart) t at rs → rs ≡ []

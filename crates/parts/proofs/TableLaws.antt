@@ -16,7 +16,11 @@ use Rattle.walk.proofs.RecordLaws.{head-least}
 pub part-least : (p : Part) → 4 ≤ length (spell (part-records p))
 unfolding spell gather part-records
 part-least p =
-    omega (arith, head-least (p .head), length-append (record-bytes (part-head (p .head))) (spell (content-records (p .source) ++ target-records (p .target))))
+    omega (
+      arith,
+      head-least (p .head),
+      length-append (record-bytes (part-head (p .head))) (spell (content-records (p .source) ++ target-records (p .target))),
+    )
 
 module _ (t : List ℕ) (u : XliffUnit) (h : TableOf t u) where
   apart : t ≡ opened u ++ (bytes-of (u .parts) ++ closed)
@@ -25,7 +29,8 @@ module _ (t : List ℕ) (u : XliffUnit) (h : TableOf t u) where
   pub table-long : length t ≡ 5 + length (bytes-of (u .parts))
   unfolding record-bytes
   table-long =
-      let z : length t ≡ 3 + length (bytes-of (u .parts) ++ closed) = ap length apart ∙ length-append (opened u) (bytes-of (u .parts) ++ closed) in
+      let z : length t ≡ 3 + length (bytes-of (u .parts) ++ closed) = ap length apart
+      ∙ length-append (opened u) (bytes-of (u .parts) ++ closed) in
       omega (arith, length-append (bytes-of (u .parts)) closed)
 
   -- `&t[..UNIT_WIDTH]` is as long as that
@@ -42,4 +47,5 @@ module _ (t : List ℕ) (u : XliffUnit) (h : TableOf t u) where
     table-closed =
         ap (drop e) (sym (h .0) ∙ table-pieces u)
         ∙ drop-at (opened u ++ bytes-of (u .parts)) closed e
-        (let z : length (opened u ++ bytes-of (u .parts)) ≡ e = omega (arith, table-long, length-append (opened u) (bytes-of (u .parts))) in z)
+        (let z : length (opened u ++ bytes-of (u .parts)) ≡ e =
+        omega (arith, table-long, length-append (opened u) (bytes-of (u .parts))) in z)

@@ -46,7 +46,8 @@ passed-all c rs at n h m = omega (arith, m .count, ap (λ (l : List Record). len
 
 -- the records of the old target
 module _ (t : List ℕ) (place : PartPlace) where
-  pub old-there : (g : Target) → TargetStands t place g → place .«has_target» ≡ true → (n : ℕ) → n ≡ length (content-records (target-items g)) → 1 + n ≡ length (target-records g)
+  pub old-there : (g : Target) → TargetStands t place g → place .«has_target» ≡ true → (n : ℕ)
+      → n ≡ length (content-records (target-items g)) → 1 + n ≡ length (target-records g)
   unfolding target-records target-items
   old-there no-target s e n h = absurd (true≢false (sym e ∙ s .0))
   old-there (target q xs) s e n h = omega (arith, h)
@@ -70,7 +71,8 @@ module _ (u : XliffUnit) (st q : ℕ) (xs : Content) (b : List Part) (p : Part) 
       let z : count (u .parts) ≡ count (b ++ (p ∷ a)) = ap count e in
       omega (arith, z, unit-count u, count-at b p a, part-count p)
 
-  pub new-records : length (unit-records u) + 1 + length (content-records xs) - length (target-records (p .target)) ≡ length (unit-records (unit-with u st q xs b p a))
+  pub new-records : length (unit-records u) + 1 + length (content-records xs) - length (target-records (p .target)) ≡ length
+      (unit-records (unit-with u st q xs b p a))
   unfolding unit-with with-parts target-records
   new-records =
       let z : count (u .parts) ≡ count (b ++ (p ∷ a)) = ap count e in
@@ -92,7 +94,8 @@ module _ (u : XliffUnit) (st q : ℕ) (xs : Content) (b : List Part) (p : Part) 
       omega (arith, z, length-append b (set-part st q xs p ∷ a), length-append b (p ∷ a))
 
 -- the test
-too-large-is : (room bytes records : ℕ) (v : XliffUnit) → bytes ≡ length (encode v) → records ≡ length (unit-records v) → length (v .parts) ≤ 64
+too-large-is : (room bytes records : ℕ) (v : XliffUnit) → bytes ≡ length (encode v) → records ≡ length (unit-records v)
+    → length (v .parts) ≤ 64
     → ltb room bytes || (ltb 8192 bytes || ltb 1024 records) ≡ too-large room v
 unfolding too-large
 too-large-is room bytes records v x y z = rw (x, y, le-ltb 64 (length (v .parts)) z, or-none (ltb 1024 (length (unit-records v))))
@@ -109,7 +112,8 @@ module _ (t : List ℕ) (k : Passes t) (place : PartPlace) (b : List Part) (p : 
   pub long-content : 8192 < length c → true ≡ too-large room v
   long-content l = long-is room v (omega (arith, set-long t b p a place s st q xs c is))
 
-  pub counted : (all new old : ℕ) → all ≡ length (unit-records (unit t)) → new ≡ length (content-records xs) → old ≡ length (target-records (p .target))
+  pub counted : (all new old : ℕ) → all ≡ length (unit-records (unit t)) → new ≡ length (content-records xs)
+      → old ≡ length (target-records (p .target))
       → ltb room (size-with t place c) || (ltb 8192 (size-with t place c) || ltb 1024 (all + 1 + new - old)) ≡ too-large room v
   counted all new old x y z =
       too-large-is room (size-with t place c) (all + 1 + new - old) v (sym (set-long t b p a place s st q xs c is))

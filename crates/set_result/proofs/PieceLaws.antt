@@ -41,7 +41,8 @@ module _ (u : XliffUnit) (st q : ℕ) (xs : Content) (b : List Part) (p : Part) 
       ∙ ap (λ (l : List ℕ). bytes-of b ++ l)
       (spell-append (part-records (set-part st q xs p)) (gather part-records a)
       ∙ ap (λ (l : List ℕ). l ++ bytes-of a)
-      (part-bytes (set-part st q xs p) ∙ ap (λ (l : List ℕ). (head-bytes (with-state st (p .head)) ++ content-bytes (p .source)) ++ l) (target-is q xs)))
+      (part-bytes (set-part st q xs p)
+      ∙ ap (λ (l : List ℕ). (head-bytes (with-state st (p .head)) ++ content-bytes (p .source)) ++ l) (target-is q xs)))
 
   regroup : (x y h s g z c : List ℕ) → (x ++ (y ++ (((h ++ s) ++ g) ++ z))) ++ c ≡ ((((x ++ y) ++ h) ++ s) ++ g) ++ (z ++ c)
   regroup x y h s g z c = simp append-assoc
@@ -51,13 +52,15 @@ module _ (u : XliffUnit) (st q : ℕ) (xs : Content) (b : List Part) (p : Part) 
   set-pieces =
       table-pieces (unit-with u st q xs b p a)
       ∙ ap (λ (l : List ℕ). (opened u ++ l) ++ closed) parts-are
-      ∙ regroup (opened u) (bytes-of b) (head-bytes (with-state st (p .head))) (content-bytes (p .source)) (target-bytes q (content-bytes xs)) (bytes-of a) closed
+      ∙ regroup (opened u) (bytes-of b) (head-bytes (with-state st (p .head))) (content-bytes (p .source))
+      (target-bytes q (content-bytes xs)) (bytes-of a) closed
 
 module _ (t : List ℕ) (b : List Part) (p : Part) (a : List Part) (place : PartPlace) (s : PartStands t b p a place)
     (st q : ℕ) (xs : Content) (c : List ℕ) (is : content-bytes xs ≡ c) where
   pub set-is : (to-source st (unit t) b p ++ target-bytes q c) ++ drop (place .end) t ≡ encode (unit-with (unit t) st q xs b p a)
   set-is =
-      ap₂ (λ (x y : List ℕ). (to-source st (unit t) b p ++ target-bytes q x) ++ y) (sym is) (s .behind) ∙ sym (set-pieces (unit t) st q xs b p a)
+      ap₂ (λ (x y : List ℕ). (to-source st (unit t) b p ++ target-bytes q x) ++ y) (sym is) (s .behind)
+      ∙ sym (set-pieces (unit t) st q xs b p a)
 
   pub set-long : length (encode (unit-with (unit t) st q xs b p a)) ≡ size-with t place c
   set-long =

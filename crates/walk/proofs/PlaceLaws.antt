@@ -12,7 +12,7 @@ use borrow.Author.Tests.{ltb-true, ltb-false, leb-true, leb-false}
 use Rattle.xliff.specs.Bytes.{two, gather}
 use Rattle.xliff.specs.Text.{utf8s}
 use Rattle.xliff.specs.Item.{Item, Content, start, end, form-P, form-S, text, character, standalone, isolated, pair, annotation-start, annotation-end, mark}
-use Rattle.xliff.specs.Encode.{Record, text-run, inline, record-bytes, spell}
+use Rattle.xliff.specs.Encode.{Record, text-run, inline, record-bytes}
 use Rattle.xliff.specs.Parse.{reading, take-record}
 use Rattle.walk.specs.Kept.{Kept, kept-end, kept-item, kept-text, Of, items, Inline, an-item, a-text, InContent}
 use Rattle.marks.specs.Marks.{marked}
@@ -55,10 +55,12 @@ unfolding record-bytes two
 text-bytes t cs e = (sym (ap (drop 4) e), let l = ap length e in omega arith)
 
 -- a record with no such mark is an item
-pub pass-item : (r : Record) (t : List ℕ) (k : ℕ) → Inline r → t ≡ record-bytes r → marked t (84 ∷ 88 ∷ []) ≡ false → passOf r k ≡ passItem k
+pub pass-item : (r : Record) (t : List ℕ) (k : ℕ) → Inline r → t ≡ record-bytes r → marked t (84 ∷ 88 ∷ []) ≡ false
+    → passOf r k ≡ passItem k
 unfolding record-bytes
 pass-item (inline x) t k (an-item g) e m = refl
-pass-item (text-run cs) t k (a-text a l) e m = let z : true ≡ false = ap (λ (l : List ℕ). marked l (84 ∷ 88 ∷ [])) (sym e) ∙ m in absurd (true≢false z)
+pass-item (text-run cs) t k (a-text a l) e m = let z : true ≡ false = ap (λ (l : List ℕ). marked l (84 ∷ 88 ∷ [])) (sym e)
+    ∙ m in absurd (true≢false z)
 
 -- items of kept records, one list behind the other
 pub kept-items : (b : Bool) (rs qs : List Record) → Kept b (rs ++ qs) → items (rs ++ qs) ≡ items rs ++ items qs
@@ -103,7 +105,8 @@ passed-text cs left l e = by (ltb (length (utf8s (take left cs))) (length (utf8s
     by true q f = absurd (stop-on f)
     by false q f =
         let h : length (utf8s cs) ≤ length (utf8s (take left cs)) = ltb-false (length (utf8s (take left cs))) (length (utf8s cs)) q in
-        let z : drop left cs ≡ [] = no-bytes (drop left cs) (let y : length (utf8s (drop left cs)) ≡ 0 = omega (arith, utf8s-cut left cs) in y) in
+        let z : drop left cs ≡ [] =
+        no-bytes (drop left cs) (let y : length (utf8s (drop left cs)) ≡ 0 = omega (arith, utf8s-cut left cs) in y) in
         let n : length (drop left cs) ≡ 0 = ap length z in
         let b : l ≡ left - length cs = cc in
         omega (arith, length-texts cs, length-drop left cs)
@@ -124,8 +127,10 @@ kept-back b [] qs k = (b, k)
 kept-back b (inline x ∷ rs) qs (kept-item g k) = kept-back false rs qs k
 kept-back b (text-run cs ∷ rs) qs (kept-text a l k) = kept-back true rs qs k
 
-kept-part : (rs : List Record) (r : Record) (qs : List Record) → Kept false (rs ++ (r ∷ qs)) → items (rs ++ (r ∷ [])) ≡ items rs ++ items (r ∷ [])
-kept-part rs r qs k = kept-items false rs (r ∷ []) (kept-front false (rs ++ (r ∷ [])) qs (subst (Kept false) (sym (append-assoc rs (r ∷ []) qs)) k))
+kept-part : (rs : List Record) (r : Record) (qs : List Record) → Kept false (rs ++ (r ∷ qs))
+    → items (rs ++ (r ∷ [])) ≡ items rs ++ items (r ∷ [])
+kept-part rs r qs k =
+    kept-items false rs (r ∷ []) (kept-front false (rs ++ (r ∷ [])) qs (subst (Kept false) (sym (append-assoc rs (r ∷ []) qs)) k))
 
 -- what a stop says
 stop-stop : {a b : ℕ} → Stop a ≡ Stop b → a ≡ b
@@ -134,7 +139,8 @@ stop-stop e = cc
 on-stop : {a l : ℕ} → On l ≡ Stop a → ⊥
 on-stop e = stop-on (sym e)
 
-stopped-item : (k n : ℕ) (x : Item) (rs : List Record) (left into : ℕ) → n + left ≡ k → passItem left ≡ Stop into → Inside k n into 0 (inline x ∷ rs)
+stopped-item : (k n : ℕ) (x : Item) (rs : List Record) (left into : ℕ) → n + left ≡ k → passItem left ≡ Stop into
+    → Inside k n into 0 (inline x ∷ rs)
 stopped-item k n x rs zero into h e = subst (λ (i : ℕ). Inside k n i 0 (inline x ∷ rs)) (stop-stop e) (between (omega arith))
 stopped-item k n x rs (suc l) into h e = absurd (on-stop e)
 
@@ -149,13 +155,16 @@ short k cs h = by (leb k (length cs)) refl
         absurd (let y : ⊥ = omega arith in y)
 
 -- the text in two, at left code points
-stopped-at : (k n : ℕ) (xs ys : List ℕ) (rs : List Record) → n + length xs ≡ k → length (utf8s xs) < length (utf8s (xs ++ ys)) → Inside k n (length (utf8s xs)) 0 (text-run (xs ++ ys) ∷ rs)
+stopped-at : (k n : ℕ) (xs ys : List ℕ) (rs : List Record) → n + length xs ≡ k → length (utf8s xs) < length (utf8s (xs ++ ys))
+    → Inside k n (length (utf8s xs)) 0 (text-run (xs ++ ys) ∷ rs)
 unfolding utf8s gather
 stopped-at k n [] ys rs h l = between (omega arith)
-stopped-at k n (x ∷ xs) [] rs h l = absurd (let z = ap (λ (l : List ℕ). length (utf8s (x ∷ l))) (append-nil xs) in let y : ⊥ = omega arith in y)
+stopped-at k n (x ∷ xs) [] rs h l =
+    absurd (let z = ap (λ (l : List ℕ). length (utf8s (x ∷ l))) (append-nil xs) in let y : ⊥ = omega arith in y)
 stopped-at k n (x ∷ xs) (y ∷ ys) rs h l = within x xs y ys rs h
 
-stopped-text : (k n : ℕ) (cs : List ℕ) (rs : List Record) (left into : ℕ) → n + left ≡ k → passOf (text-run cs) left ≡ Stop into → Inside k n into 0 (text-run cs ∷ rs)
+stopped-text : (k n : ℕ) (cs : List ℕ) (rs : List Record) (left into : ℕ) → n + left ≡ k → passOf (text-run cs) left ≡ Stop into
+    → Inside k n into 0 (text-run cs ∷ rs)
 stopped-text k n cs rs left into h e = by (ltb (length (utf8s (take left cs))) (length (utf8s cs))) refl e
   where
     by : (b : Bool) → ltb (length (utf8s (take left cs))) (length (utf8s cs)) ≡ b
@@ -166,26 +175,31 @@ stopped-text k n cs rs left into h e = by (ltb (length (utf8s (take left cs))) (
         let m : length (take left cs) ≡ left = length-take-le left cs (short left cs l) in
         subst (λ (i : ℕ). Inside k n i 0 (text-run cs ∷ rs)) (stop-stop f)
         (subst (λ (l : List ℕ). Inside k n (length (utf8s (take left cs))) 0 (text-run l ∷ rs)) d
-        (stopped-at k n (take left cs) (drop left cs) rs (omega arith) (subst (λ (l : List ℕ). length (utf8s (take left cs)) < length (utf8s l)) (sym d) l)))
+        (stopped-at k n (take left cs) (drop left cs) rs (omega arith)
+        (subst (λ (l : List ℕ). length (utf8s (take left cs)) < length (utf8s l)) (sym d) l)))
     by false q f = absurd (on-stop f)
 
-stopped : (k n : ℕ) (r : Record) (rs : List Record) (left into : ℕ) → n + left ≡ k → Inline r → passOf r left ≡ Stop into → Inside k n into 0 (r ∷ rs)
+stopped : (k n : ℕ) (r : Record) (rs : List Record) (left into : ℕ) → n + left ≡ k → Inline r → passOf r left ≡ Stop into
+    → Inside k n into 0 (r ∷ rs)
 stopped k n (inline x) rs left into h (an-item g) e = stopped-item k n x rs left into h e
 stopped k n (text-run cs) rs left into h (a-text a l) e = stopped-text k n cs rs left into h e
 
-pub along-on : (c : List ℕ) (k : ℕ) (rs : List Record) (at w left l : ℕ) → Of c rs → (m : Along c k rs at left) → (n : Next c at w (m .upto .after))
+pub along-on : (c : List ℕ) (k : ℕ) (rs : List Record) (at w left l : ℕ) → Of c rs → (m : Along c k rs at left)
+    → (n : Next c at w (m .upto .after))
     → passOf (n .first) left ≡ On l → Along c k rs (at + w) l
 unfolding upto-on
 along-on c k rs at w left l o m n e =
     let on = upto-on InContent Inline c rs at w (m .upto) n in
     let before = m .upto .before in
-    let kept : Kept false (before ++ (n .first ∷ n .others)) = subst (Kept false) (m .upto .all ∙ ap (λ (q : List Record). before ++ q) (n .all)) (o .0) in
+    let kept : Kept false (before ++ (n .first ∷ n .others)) =
+    subst (Kept false) (m .upto .all ∙ ap (λ (q : List Record). before ++ q) (n .all)) (o .0) in
     let more : length (items (on .before)) ≡ length (items before) + length (items (n .first ∷ [])) =
     ap length (kept-part before (n .first) (n .others) kept) ∙ length-append (items before) (items (n .first ∷ [])) in
     record { upto = on; count = omega (arith, m .count, more, passed (n .first) left l (n .good) e) }
 
 -- the item stands in the next record
-pub along-stop : (c : List ℕ) (k : ℕ) (rs : List Record) (at w left into : ℕ) → (m : Along c k rs at left) → (n : Next c at w (m .upto .after))
+pub along-stop : (c : List ℕ) (k : ℕ) (rs : List Record) (at w left into : ℕ) → (m : Along c k rs at left)
+    → (n : Next c at w (m .upto .after))
     → passOf (n .first) left ≡ Stop into → Parted k rs (record { at = at; into = into; left = 0 })
 along-stop c k rs at w left into m n e =
     record {
@@ -197,7 +211,8 @@ along-stop c k rs at w left into m n e =
     }
 
 -- there is no such item
-pub along-end : (c : List ℕ) (k : ℕ) (rs : List Record) (at left : ℕ) → length c ≤ at → (m : Along c k rs at left) → Parted k rs (record { at = at; into = 0; left = left })
+pub along-end : (c : List ℕ) (k : ℕ) (rs : List Record) (at left : ℕ) → length c ≤ at → (m : Along c k rs at left)
+    → Parted k rs (record { at = at; into = 0; left = left })
 along-end c k rs at left h m =
     record {
       before = m .upto .before;
@@ -209,7 +224,8 @@ along-end c k rs at left h m =
 
 -- for the code
 pub begins-least : (t : List ℕ) → Begins t → 4 ≤ length t
-begins-least t (r, s, g, e) = let l : length t ≡ length (record-bytes r ++ s) = ap length e in omega (arith, length-append (record-bytes r) s, inline-least r g)
+begins-least t (r, s, g, e) = let l : length t ≡ length (record-bytes r ++ s) = ap length e in
+    omega (arith, length-append (record-bytes r) s, inline-least r g)
 
 pub one-least : (t : List ℕ) → One t → 4 ≤ length t
 one-least t (r, g, e) = let l : length t ≡ length (record-bytes r) = ap length e in omega (arith, inline-least r g)

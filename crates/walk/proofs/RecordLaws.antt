@@ -1,6 +1,6 @@
 -- Records that stand one behind the other in a table or in a content: the first of them, those passed, the end.
 use Prim.Native.Nat.{ℕ, _+_, _-_, _<_, _≤_}
-use mathlib.Core.Path.{_≡_, refl, sym, ap, ap₂, _∙_, subst}
+use mathlib.Core.Path.{_≡_, refl, sym, ap, ap₂, _∙_}
 use mathlib.Core.List.{List, [], _∷_, _++_, append-assoc, append-nil}
 use native.Mathlib.Omega.{arith}
 use lib.ListN.{length, take, drop, length-append, length-drop}
@@ -65,7 +65,8 @@ width-there t at w h r s g e =
     let long : length (drop at t) ≡ length (record-bytes r) + length s = ap length e ∙ length-append (record-bytes r) s in
     h .0 (omega (arith, record-least r g)) ∙ size-there t at r s g e
 
--- The first of the records rs that stand in t from the offset at. It is as P says, the others are as F says, and w is its width
+-- The first of the records rs that stand in t from the offset at. It is as P says, the others are as F says, and w is
+-- its width
 pub record NextOf (P : Record → Type 0) (F : List Record → Type 0) (t : List ℕ) (at w : ℕ) (rs : List Record) : Type 0 where
   pub first : Record
   pub others : List Record
@@ -90,7 +91,8 @@ module _ (P : Record → Type 0) (F : List Record → Type 0) (parted : (r : Rec
       let e : drop at t ≡ record-bytes r ++ spell rs = sym (m .bytes) in
       let wide : w ≡ length (record-bytes r) = k r (spell rs) (in-part r g) e in
       let least = record-least r (in-part r g) in
-      let long : length (drop at t) ≡ length (record-bytes r) + length (spell rs) = ap length e ∙ length-append (record-bytes r) (spell rs) in
+      let long : length (drop at t) ≡ length (record-bytes r) + length (spell rs) = ap length e
+      ∙ length-append (record-bytes r) (spell rs) in
       record {
         first = r;
         others = rs;
@@ -134,7 +136,8 @@ module _ (F : List Record → Type 0) where
   upto-start t rs m = record { before = []; after = rs; all = refl; rest = m; offset = refl }
 
   -- one record further
-  unfoldable pub upto-on : (P : Record → Type 0) (t : List ℕ) (rs : List Record) (at w : ℕ) (m : Upto F t rs at) → NextOf P F t at w (m .after) → Upto F t rs (at + w)
+  unfoldable pub upto-on : (P : Record → Type 0) (t : List ℕ) (rs : List Record) (at w : ℕ) (m : Upto F t rs at)
+      → NextOf P F t at w (m .after) → Upto F t rs (at + w)
   upto-on P t rs at w m n =
       let e = ap length (spell-append (m .before) (n .first ∷ []) ∙ ap (λ (l : List ℕ). spell (m .before) ++ l) (spell-one (n .first))) in
       record {

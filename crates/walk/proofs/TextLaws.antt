@@ -1,17 +1,16 @@
 -- Code points of a text passed over: counted by their first bytes.
-use Rattle.xliff.specs.Good.{Allowed}
 use Prim.Native.Nat.{ℕ, zero, suc, _+_, _-_, _/_, _%_, _<_, _≤_}
 use mathlib.Core.Path.{_≡_, refl, sym, ap, ap₂, _∙_}
-use mathlib.Core.Bool.{Bool, true, false, cond, _&&_}
+use mathlib.Core.Bool.{Bool, true, false, cond}
 use mathlib.Core.List.{List, [], _∷_, _++_}
 use native.Mathlib.Omega.{arith}
 use lib.ListN.{length, getD, take, drop, length-append, length-drop, drop-of-length-le}
 use lib.Seq.{drop-append-seam, drop-drop, getD-drop}
-use lib.Dec.{ltb, leb}
-use borrow.Author.Tests.{ltb-true, ltb-false, lt-ltb, le-ltb, le-leb, lt-leb}
+use lib.Dec.{ltb}
+use borrow.Author.Tests.{ltb-true, lt-ltb, le-ltb, le-leb, lt-leb}
 use Rattle.xliff.specs.Bytes.{gather}
 use Rattle.xliff.specs.Text.{six, utf8-1, utf8-2, utf8-3, utf8-4, utf8, utf8s}
-use Rattle.xliff.proofs.lists.Tests.{gather-append, and-false}
+use Rattle.xliff.proofs.lists.Tests.{gather-append}
 use Rattle.walk.specs.Points.{lead, leads, further, sought}
 use Rattle.walk.specs.Place.{PassedOver}
 use Rattle.walk.specs.declared.Passed.{Passed}
@@ -87,7 +86,8 @@ pub further-zero : (p : Passed) → p ≡ further 0 p
 further-zero p = ap (λ (n : ℕ). record { bytes = n; left = p .left }) (let z : p .bytes ≡ 0 + p .bytes = omega arith in z)
 
 further-twice : (m n : ℕ) (p : Passed) → further m (further n p) ≡ further (m + n) p
-further-twice m n p = ap (λ (k : ℕ). record { bytes = k; left = p .left }) (let z : m + (n + p .bytes) ≡ m + n + p .bytes = omega arith in z)
+further-twice m n p =
+    ap (λ (k : ℕ). record { bytes = k; left = p .left }) (let z : m + (n + p .bytes) ≡ m + n + p .bytes = omega arith in z)
 
 -- n bytes further, where all code points that begin in them are to be passed over
 pub sought-past : (n : ℕ) (t : List ℕ) (k : ℕ) → n ≤ length t → leads n t ≤ k → sought t k ≡ further n (sought (drop n t) (k - leads n t))
@@ -98,7 +98,8 @@ sought-past (suc n) (b ∷ t) k h l =
     rw (le-ltb k (lead b) (omega arith))
     (ap (further 1) (sought-past n t (k - lead b) (omega arith) (omega arith))
     ∙ further-twice 1 n (sought (drop n t) (k - lead b - leads n t))
-    ∙ ap₂ (λ (m j : ℕ). further m (sought (drop n t) j)) (let z : 1 + n ≡ suc n = omega arith in z) (let z : k - lead b - leads n t ≡ k - (lead b + leads n t) = omega arith in z))
+    ∙ ap₂ (λ (m j : ℕ). further m (sought (drop n t) j)) (let z : 1 + n ≡ suc n = omega arith in z)
+    (let z : k - lead b - leads n t ≡ k - (lead b + leads n t) = omega arith in z))
 
 -- what is sought stands at the head
 pub sought-here : (t : List ℕ) (k : ℕ) → 0 < length t → k < lead (getD t 0 0) → sought t k ≡ record { bytes = 0; left = k }
@@ -121,13 +122,15 @@ sought-is (c ∷ cs) (suc k) =
     ∙ ap₂ (λ (l : List ℕ) (n : ℕ). further (length (utf8 c)) (sought l (suc k - n))) (drop-append-seam (utf8 c) (utf8s cs)) (s .once)
     ∙ ap (λ (n : ℕ). further (length (utf8 c)) (sought (utf8s cs) n)) (let z : suc k - 1 ≡ k = omega arith in z)
     ∙ ap (further (length (utf8 c))) (sought-is cs k)
-    ∙ ap₂ (λ (n m : ℕ). record { bytes = n; left = m }) (sym (length-append (utf8 c) (utf8s (take k cs)))) (let z : k - length cs ≡ suc k - suc (length cs) = omega arith in z)
+    ∙ ap₂ (λ (n m : ℕ). record { bytes = n; left = m }) (sym (length-append (utf8 c) (utf8s (take k cs))))
+    (let z : k - length cs ≡ suc k - suc (length cs) = omega arith in z)
 
 -- For the code: from an offset on.
 byte-at : (t : List ℕ) (at : ℕ) → getD (drop at t) 0 0 ≡ getD t at 0
 byte-at t at = getD-drop at t 0 0 ∙ ap (λ (i : ℕ). getD t i 0) (let z : at + 0 ≡ at = omega arith in z)
 
-pub sought-on : (t : List ℕ) (at left n : ℕ) (whole : Passed) → at + n ≤ length t → leads n (drop at t) ≤ left → whole ≡ further at (sought (drop at t) left)
+pub sought-on : (t : List ℕ) (at left n : ℕ) (whole : Passed) → at + n ≤ length t → leads n (drop at t) ≤ left
+    → whole ≡ further at (sought (drop at t) left)
     → whole ≡ further (at + n) (sought (drop (at + n) t) (left - leads n (drop at t)))
 sought-on t at left n whole h l e =
     e
@@ -138,14 +141,18 @@ sought-on t at left n whole h l e =
 further-none : (at left : ℕ) → further at (record { bytes = 0; left = left }) ≡ record { bytes = at; left = left }
 further-none at left = ap (λ (n : ℕ). record { bytes = n; left = left }) (let z : at + 0 ≡ at = omega arith in z)
 
-pub sought-stop : (t : List ℕ) (at left : ℕ) (whole : Passed) → at < length t → left < lead (getD t at 0) → whole ≡ further at (sought (drop at t) left)
+pub sought-stop : (t : List ℕ) (at left : ℕ) (whole : Passed) → at < length t → left < lead (getD t at 0)
+    → whole ≡ further at (sought (drop at t) left)
     → record { bytes = at; left = left } ≡ whole
 sought-stop t at left whole h l e =
-    sym (e ∙ ap (further at) (sought-here (drop at t) left (omega (arith, length-drop at t)) (omega (arith, ap lead (byte-at t at)))) ∙ further-none at left)
+    sym (e ∙ ap (further at)
+    (sought-here (drop at t) left (omega (arith, length-drop at t)) (omega (arith, ap lead (byte-at t at)))) ∙ further-none at left)
 
-pub sought-end : (t : List ℕ) (at left : ℕ) (whole : Passed) → length t ≤ at → whole ≡ further at (sought (drop at t) left) → record { bytes = at; left = left } ≡ whole
+pub sought-end : (t : List ℕ) (at left : ℕ) (whole : Passed) → length t ≤ at → whole ≡ further at (sought (drop at t) left)
+    → record { bytes = at; left = left } ≡ whole
 unfolding sought
-sought-end t at left whole h e = sym (e ∙ ap (λ (s : List ℕ). further at (sought s left)) (drop-of-length-le t {i = at} h) ∙ further-none at left)
+sought-end t at left whole h e =
+    sym (e ∙ ap (λ (s : List ℕ). further at (sought s left)) (drop-of-length-le t {i = at} h) ∙ further-none at left)
 
 -- a block counted: nothing yet
 pub leads-start : (t : List ℕ) (at : ℕ) → leads 64 (drop at t) ≡ 0 + leads 64 (drop (at + 0) t)
@@ -157,9 +164,11 @@ pub leads-on : (t : List ℕ) (at i n whole : ℕ) → i < 64 → whole ≡ n + 
 unfolding leads
 leads-on t at i n whole l e =
     let size : 64 - i ≡ suc (64 - (i + 1)) = omega arith in
-    let rest : drop 1 (drop (at + i) t) ≡ drop (at + (i + 1)) t = drop-drop 1 (at + i) t ∙ ap (λ (k : ℕ). drop k t) (let z : at + i + 1 ≡ at + (i + 1) = omega arith in z) in
+    let rest : drop 1 (drop (at + i) t) ≡ drop (at + (i + 1)) t = drop-drop 1 (at + i) t
+    ∙ ap (λ (k : ℕ). drop k t) (let z : at + i + 1 ≡ at + (i + 1) = omega arith in z) in
     let one : leads (64 - i) (drop (at + i) t) ≡ lead (getD t (at + i) 0) + leads (64 - (i + 1)) (drop (at + (i + 1)) t) =
-    ap (λ (k : ℕ). leads k (drop (at + i) t)) size ∙ ap₂ (λ (b : ℕ) (s : List ℕ). lead b + leads (64 - (i + 1)) s) (byte-at t (at + i)) rest in
+    ap (λ (k : ℕ). leads k (drop (at + i) t)) size
+    ∙ ap₂ (λ (b : ℕ) (s : List ℕ). lead b + leads (64 - (i + 1)) s) (byte-at t (at + i)) rest in
     omega (arith, e, one)
 
 pub leads-end : (t : List ℕ) (at i n whole : ℕ) → 64 ≤ i → whole ≡ n + leads (64 - i) (drop (at + i) t) → n ≡ whole
@@ -175,5 +184,6 @@ leads-one t at = ap (λ (b : ℕ). lead b + 0) (byte-at t at) ∙ (let z : lead 
 
 pub passed-over : (t : List ℕ) (k : ℕ) (p : Passed) → p ≡ sought t k → PassedOver t k p
 passed-over t k p e cs a u =
-    let i : p ≡ record { bytes = length (utf8s (take k cs)); left = k - length cs } = e ∙ ap (λ (s : List ℕ). sought s k) (sym u) ∙ sought-is cs k in
+    let i : p ≡ record { bytes = length (utf8s (take k cs)); left = k - length cs } = e ∙ ap (λ (s : List ℕ). sought s k) (sym u)
+    ∙ sought-is cs k in
     (ap (λ (q : Passed). q .bytes) i, ap (λ (q : Passed). q .left) i)

@@ -50,7 +50,8 @@ module _ (s : List ℕ) where
   text-kind cs = refl
 
   -- whether a record is the other half of one of a kind and id, by its bytes
-  pub item-other : (k i : ℕ) (x : Item) → GoodItem x → opposite k (kindAt (record-bytes (inline x) ++ s)) && eqb i (number (record-bytes (inline x) ++ s)) ≡ is-other k i x
+  pub item-other : (k i : ℕ) (x : Item) → GoodItem x
+      → opposite k (kindAt (record-bytes (inline x) ++ s)) && eqb i (number (record-bytes (inline x) ++ s)) ≡ is-other k i x
   unfolding kindAt mark-at mark-of is two-at record-bytes mark field-bytes code-bytes two four id-of
   item-other k i (text c) g = absurd g
   item-other k i (character c) g = none k _ _
@@ -92,13 +93,16 @@ pub rest-end : (c : List ℕ) (at : ℕ) (rs : List Record) → length c ≤ at 
 rest-end c at rs h m = none-left Inline InContent parted inline-in c at rs h m
 
 -- the same, the width by the mark
-pub first-of : (c : List ℕ) (at : ℕ) (rs : List Record) → at < length c → Rest c at rs → Next c at (size-of (mark-at (drop at c)) (drop at c)) rs
+pub first-of : (c : List ℕ) (at : ℕ) (rs : List Record) → at < length c → Rest c at rs
+    → Next c at (size-of (mark-at (drop at c)) (drop at c)) rs
 first-of c at rs h m = next-of Inline InContent parted inline-in c at (size-of (mark-at (drop at c)) (drop at c)) rs h m (size-there c at)
 
 -- the mark read at the offset is that of the record
-pub next-mark : (c : List ℕ) (at w : ℕ) (rs : List Record) (n : Next c at w rs) (m : Mark) → MarkAt c at m → meaning m ≡ mark-at (take (at + w - at) (drop at c))
+pub next-mark : (c : List ℕ) (at w : ℕ) (rs : List Record) (n : Next c at w rs) (m : Mark) → MarkAt c at m
+    → meaning m ≡ mark-at (take (at + w - at) (drop at c))
 next-mark c at w rs n m e =
-    e ∙ ap mark-at (n .bytes) ∙ mark-front (record-bytes (n .first)) (spell (n .others)) (omega (arith, n .width, n .least)) ∙ ap mark-at (sym (n .slice))
+    e ∙ ap mark-at (n .bytes) ∙ mark-front (record-bytes (n .first)) (spell (n .others)) (omega (arith, n .width, n .least))
+    ∙ ap mark-at (sym (n .slice))
 
 -- The walk that looks for an item that passes a test p
 pub record Searched (p : Item → Bool) (c : List ℕ) (rs : List Record) (at : ℕ) : Type 0 where
@@ -167,6 +171,7 @@ module _ (k i : ℕ) where
     pub other-on : other-bytes (drop at c) ≡ false → Searched (is-other k i) c rs (at + w)
     other-on e = search-on (is-other k i) other-bytes text-false text-bytes-false (λ x s g. item-other s k i x g) c rs at w m n e
 
-  pub other-none : (c : List ℕ) (rs : List Record) (at : ℕ) → length c ≤ at → Searched (is-other k i) c rs at → false ≡ has-other k i (items rs)
+  pub other-none : (c : List ℕ) (rs : List Record) (at : ℕ) → length c ≤ at → Searched (is-other k i) c rs at
+      → false ≡ has-other k i (items rs)
   unfolding has-other
   other-none c rs at h m = search-end (is-other k i) c rs at h m

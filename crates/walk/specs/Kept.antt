@@ -1,4 +1,5 @@
--- Records that stand in a content: inline records and texts, good, no text directly behind a text. The table's check gives them (`Table.Walked`).
+-- Records that stand in a content: inline records and texts, good, no text directly behind a text. The table's check
+-- gives them (`Table.Walked`).
 use Rattle.xliff.specs.Good.{Allowed, GoodItem, GoodHead}
 use Prim.Native.Nat.{ℕ, _<_}
 use mathlib.Core.Path.{_≡_}
@@ -15,7 +16,8 @@ use Rattle.xliff.specs.Parse.{reading}
 pub data Kept : Bool → List Record → Type 0 where
   kept-end : {a : Bool} → Kept a []
   kept-item : {a : Bool} {x : Item} {rs : List Record} → GoodItem x → Kept false rs → Kept a (inline x ∷ rs)
-  kept-text : {d : ℕ} {ds : List ℕ} {rs : List Record} → Allowed (d ∷ ds) → length (utf8s (d ∷ ds)) < 65536 → Kept true rs → Kept false (text-run (d ∷ ds) ∷ rs)
+  kept-text : {d : ℕ} {ds : List ℕ} {rs : List Record} → Allowed (d ∷ ds) → length (utf8s (d ∷ ds)) < 65536 → Kept true rs
+      → Kept false (text-run (d ∷ ds) ∷ rs)
 
 -- the bytes c are those of the records
 abbrev pub Of : List ℕ → List Record → Type 0

@@ -1,4 +1,5 @@
--- What is read of a record that is known to be good: its kind, its id. Stepping stones: the laws of proofs/WalkLaws tie them to the items.
+-- What is read of a record that is known to be good: its kind, its id. Stepping stones: the laws of proofs/WalkLaws
+-- tie them to the items.
 use Prim.Native.Nat.{ℕ}
 use mathlib.Core.Bool.{Bool, _&&_, _||_}
 use mathlib.Core.List.{List}

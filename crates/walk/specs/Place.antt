@@ -18,7 +18,8 @@ use Rattle.walk.specs.declared.Place.{Place}
 abbrev pub PassedOver : List ℕ → ℕ → Passed → Type 0
 PassedOver t k p = (cs : List ℕ) → Allowed cs → utf8s cs ≡ t → (p .bytes ≡ length (utf8s (take k cs))) × (p .left ≡ k - length cs)
 
--- one record met with k items to pass over: the item stands in it, behind that many bytes of its text; or the items left
+-- one record met with k items to pass over: the item stands in it, behind that many bytes of its text; or the items
+-- left
 abbrev pub passText : Passed → ℕ → Pass
 passText p n = cond (ltb (p .bytes) n) (Stop (p .bytes)) (On (p .left))
 
@@ -47,7 +48,8 @@ One t = (r : Record) × Inline r × (t ≡ record-bytes r)
 abbrev pub PassedOne : List ℕ → ℕ → Pass → Type 0
 PassedOne t k p = (r : Record) → Inline r → t ≡ record-bytes r → p ≡ passOf r k
 
--- Item number k of records of which n items stand before `after`: bytes into the text that comes next, items that are missing, what comes next
+-- Item number k of records of which n items stand before `after`: bytes into the text that comes next, items that are
+-- missing, what comes next
 pub data Inside (k n : ℕ) : ℕ → ℕ → List Record → Type 0 where
   -- there is no such item
   over : {left : ℕ} → n + left ≡ k → Inside k n 0 left []

@@ -1,4 +1,5 @@
--- Code points of a text counted by their first bytes. Stepping stones: `sought-is` (proofs/TextLaws) ties them to the specification's text.
+-- Code points of a text counted by their first bytes. Stepping stones: `sought-is` (proofs/TextLaws) ties them to the
+-- specification's text.
 use Prim.Native.Nat.{ℕ, zero, suc, _+_, _-_}
 use mathlib.Core.Bool.{_&&_, cond}
 use mathlib.Core.List.{List, [], _∷_}

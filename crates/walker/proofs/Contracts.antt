@@ -1,4 +1,5 @@
--- What the reading functions have in common: each has one of two contracts, of a slice and an offset, or of a walker. They differ in the result's type and in what
+-- What the reading functions have in common: each has one of two contracts, of a slice and an offset, or of a walker.
+-- They differ in the result's type and in what
 -- is told of the result, by the bytes of the table and the offset.
 -- Assumes nothing.
 use Prim.Native.Nat.{ℕ}
@@ -37,7 +38,13 @@ values s n = (value s ∷ [], (vint w64 n ∷ [], tt))
 module _ (R : RattleType) (Told : List ℕ → ℕ → R .Denot → Type 0) where
   abbrev pub on-slice : Ended
   on-slice = record {
-    signature = record { lifetimes = 1; outlives = []; params = shrSliceOf (0 ∷ []) tt (plain (λ _. u8)) ∷ plain (λ _. usize) ∷ []; result = plain (λ _. R) };
+    signature = record {
+      lifetimes = 1;
+      outlives = [];
+      params =
+          shrSliceOf (0 ∷ []) tt (plain (λ _. u8)) ∷ plain (λ _. usize) ∷ [];
+      result = plain (λ _. R);
+    };
     kept = (yes, (yes, tt));
   }
 

@@ -17,7 +17,8 @@ pub after-end : (t : List ℕ) (at : ℕ) → length t ≤ at → After t at at
 after-end t at h = record { found = Broken false; known = nothing-there t at h; offset = omega arith; fits = omega arith }
 
 pub after-width : (t : List ℕ) (at w : ℕ) → KnownWidth (drop at t) w → After t at (at + w)
-after-width t at w k = record { found = k .found; known = k .known; offset = ap (λ (n : ℕ). at + n) (k .wide); fits = omega (arith, k .wide, k .fits) }
+after-width t at w k =
+    record { found = k .found; known = k .known; offset = ap (λ (n : ℕ). at + n) (k .wide); fits = omega (arith, k .wide, k .fits) }
 
 -- beyond the end is no mark
 pub no-mark-there : (t : List ℕ) (at : ℕ) → length t ≤ at → MarkAt t at Unknown

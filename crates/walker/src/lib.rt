@@ -1,13 +1,10 @@
-// The records of a lent table, one by one: a struct of the slice and the offset of the next record, and thin functions over it. The borrow
+// The records of a lent table or content, one by one: a struct of the slice and the offset of the next record, and thin functions over it. The borrow
 // checker covers no function over such a struct, so each is proved by hand, and leaves the work to one on a slice and an offset.
 ghost use mathlib.Core.Path.{_≡_};
-ghost use lib.ListN.{drop, length};
-ghost use Rattle.xliff.specs.Encode.{record-bytes};
-ghost use Rattle.xliff.specs.Parse.{read};
-ghost use Rattle.table.specs.Meaning.{meaning, width, body};
+ghost use lib.ListN.{drop};
 ghost use Rattle.table.specs.Known.{Known};
 ghost use Rattle.glance.specs.Glances.{Glanced};
-ghost use Rattle.walker.specs.Offsets.{After, MarkAt, WidthAt};
+ghost use Rattle.walker.specs.Offsets.{ReadAt, After, MarkAt, WidthAt};
 use glance::Glance;
 use marks::Mark;
 use table::Read;
@@ -65,7 +62,7 @@ pub fn next<'a>(w: Walker<'a>) -> usize
 
 // The next record.
 pub fn record<'a>(w: Walker<'a>) -> Read
-    ensures { λ r. ⌜ (meaning (body (drop (w .entry .next) (now (w .entry .table)))) r ≡ read (drop (w .entry .next) (now (w .entry .table)))) × (width r ≡ length (record-bytes (read (drop (w .entry .next) (now (w .entry .table)))))) ⌝ }
+    ensures { λ r. ⌜ ReadAt (now (w .entry .table)) (w .entry .next) r ⌝ }
 {
     table::record_at(w.table, w.next)
 }
@@ -110,7 +107,7 @@ pub fn passed<'a>(w: Walker<'a>) -> Walker<'a>
 
 // What callers use: their proofs have no walk.
 pub fn record_at(t: &[u8], at: usize) -> Read
-    ensures { λ r. ⌜ (meaning (body (drop at (now (t .entry)))) r ≡ read (drop at (now (t .entry)))) × (width r ≡ length (record-bytes (read (drop at (now (t .entry)))))) ⌝ }
+    ensures { λ r. ⌜ ReadAt (now (t .entry)) at r ⌝ }
 {
     record(new(t, at))
 }

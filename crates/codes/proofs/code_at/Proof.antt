@@ -16,6 +16,6 @@ pub code-at-spec : {M : Type 1} → statement M
 code-at-spec =
     tie.close
     (tie.spec
--- by search: mark-at-requires, code-of-requires
+    -- by search: mark-at-requires, code-of-requires
     (λ c κs. search needs) (λ c κs. search needs)
     returns)

@@ -35,7 +35,8 @@ returns-5 c = sym (ap code (c .enum-told3 .given .1))
 
 -- all others
 returns-6 : tie.Need-returns-6
-returns-6 c = in-arm code 0 (UN ∷ UE ∷ SG ∷ IG ∷ TG ∷ TX ∷ CP ∷ MO ∷ SM ∷ MC ∷ EM ∷ Unknown ∷ []) (c .before .args .m) (c .match .keys6) refl
+returns-6 c = in-arm code 0 (UN ∷ UE ∷ SG ∷ IG ∷ TG ∷ TX ∷ CP ∷ MO ∷ SM ∷ MC ∷ EM ∷ Unknown ∷ []) (c .before .args .m)
+    (c .match .keys6) refl
 
 pub code-of-spec : {M : Type 1} → statement M
 code-of-spec =

@@ -1,4 +1,4 @@
-use Prim.Native.Nat.{_≤_, _-_, _+_}
+use Prim.Native.Nat.{_≤_, _-_}
 use mathlib.Core.List.{List}
 use mathlib.Core.Path.{_≡_, refl, ap}
 use native.Mathlib.Omega.{arith}
@@ -25,14 +25,19 @@ abbrev μ-loop : tie.MeasureT-loop
 -- before the first record
 loop-holds : tie.Need-loop-holds Inv-loop μ-loop
 loop-holds c =
-    let args = c .before .before .before .args in
-    (omega arith, refl, λ rs qs o p. written-start InContent (cut-record (items qs)) (args .a .now) rs (args .out .now) (rest-start (args .a .now) rs o))
+    let args = c .before .before .before .args in (
+      omega arith,
+      refl,
+      λ rs qs o p. written-start InContent (cut-record (items qs)) (args .a .now) rs (args .out .now)
+          (rest-start (args .a .now) rs o),
+    )
 
 -- the next record ends within the content
 add-next : tie.Need-add-next Inv-loop μ-loop
 add-next c =
-    let pre = c .before .before .before .before .before .before .pre in
-    let args = c .before .before .before .before .before .before .args in
+    let start = c .before .before .before .before .before .before in
+    let pre = start .pre in
+    let args = start .args in
     let loop = c .before .before .loop in
     let loop-test = c .before .loop-test .taken in
     let width-at = c .width-at in
@@ -43,8 +48,9 @@ add-next c =
 -- and within the output
 part-put-cut-one-end : tie.Need-part-put-cut-one-end Inv-loop μ-loop
 part-put-cut-one-end c =
-    let pre = c .before .before .before .before .before .before .pre in
-    let args = c .before .before .before .before .before .before .args in
+    let start = c .before .before .before .before .before .before in
+    let pre = start .pre in
+    let args = start .args in
     let loop = c .before .before .loop in
     let loop-test = c .before .loop-test .taken in
     let width-at = c .width-at in
@@ -55,8 +61,9 @@ part-put-cut-one-end c =
 -- `&a[at..next]` lies within the content
 part-put-cut-one-end-2 : tie.Need-part-put-cut-one-end-2 Inv-loop μ-loop
 part-put-cut-one-end-2 c =
-    let pre = c .before .before .before .before .before .before .before .before .pre in
-    let args = c .before .before .before .before .before .before .before .before .args in
+    let start = c .before .before .before .before .before .before .before .before in
+    let pre = start .pre in
+    let args = start .args in
     let loop = c .before .before .before .before .loop in
     let loop-test = c .before .before .before .loop-test .taken in
     let width-at = c .before .before .width-at in
@@ -67,9 +74,11 @@ part-put-cut-one-end-2 c =
 -- it is one record, of the mark read, and there is room
 put-cut-one-requires : tie.Need-put-cut-one-requires Inv-loop μ-loop
 put-cut-one-requires c κs =
-    let pre = c .before .before .before .before .before .before .before .before .before .pre in
-    let args = c .before .before .before .before .before .before .before .before .before .args in
-    let loop = c .before .before .before .before .before .loop in
+    let at-loop = c .before .before .before .before .before in
+    let start = at-loop .before .before .before .before in
+    let pre = start .pre in
+    let args = start .args in
+    let loop = at-loop .loop in
     let loop-test = c .before .before .before .before .loop-test .taken in
     let width-at = c .before .before .before .width-at in
     let mark-at = c .before .mark-at in
@@ -88,11 +97,13 @@ put-cut-one-requires c κs =
 -- the walk goes on
 loop-less : tie.Need-loop-less Inv-loop μ-loop
 loop-less c =
-    let pre = c .before .before .before .before .before .before .before .before .before .before .before .before .pre in
-    let args = c .before .before .before .before .before .before .before .before .before .before .before .before .args in
-    let loop = c .before .before .before .before .before .before .before .before .loop in
-    let loop-test = c .before .before .before .before .before .before .before .loop-test .taken in
-    let width-at = c .before .before .before .before .before .before .width-at in
+    let at-width-at = c .before .before .before .before .before .before in
+    let start = at-width-at .before .before .before .before .before .before in
+    let pre = start .pre in
+    let args = start .args in
+    let loop = at-width-at .before .before .loop in
+    let loop-test = at-width-at .before .loop-test .taken in
+    let width-at = at-width-at .width-at in
     let ((rs, o), (qs, p), room) = pre in
     let m = loop .inv .2 rs qs o p .upto in
     let n = next (args .a .now) (loop .at) _ (m .after) loop-test (m .rest) (width-at .ensures) in
@@ -101,11 +112,13 @@ loop-less c =
 -- one record more is written
 loop-again : tie.Need-loop-again Inv-loop μ-loop
 loop-again c =
-    let pre = c .before .before .before .before .before .before .before .before .before .before .before .before .pre in
-    let args = c .before .before .before .before .before .before .before .before .before .before .before .before .args in
-    let loop = c .before .before .before .before .before .before .before .before .loop in
-    let loop-test = c .before .before .before .before .before .before .before .loop-test .taken in
-    let width-at = c .before .before .before .before .before .before .width-at in
+    let at-width-at = c .before .before .before .before .before .before in
+    let start = at-width-at .before .before .before .before .before .before in
+    let pre = start .pre in
+    let args = start .args in
+    let loop = at-width-at .before .before .loop in
+    let loop-test = at-width-at .before .loop-test .taken in
+    let width-at = at-width-at .width-at in
     let put-cut-one = c .before .before .put-cut-one in
     let ((rs, o), (qs, p), room) = pre in
     let a = args .a .now in
@@ -113,10 +126,12 @@ loop-again c =
     let out = args .out .now in
     let m = loop .inv .2 rs qs o p in
     let fit = next a (loop .at) _ (m .upto .after) loop-test (m .upto .rest) (width-at .ensures) .fit in
-    let on = cut-on a beyond rs qs out (loop .at) _ (loop .out) (put-cut-one .last .0) p m loop-test (width-at .ensures) (put-cut-one .ensures) in (
+    let on = cut-on a beyond rs qs out (loop .at) _ (loop .out) (put-cut-one .last .0) p m loop-test (width-at .ensures)
+    (put-cut-one .ensures) in (
       omega (arith, fit),
       written-length InContent (cut-record (items qs)) a rs out _ _ on (omega (arith, fit)),
-      λ rs qs o p. cut-on a beyond rs qs out (loop .at) _ (loop .out) (put-cut-one .last .0) p (loop .inv .2 rs qs o p) loop-test (width-at .ensures) (put-cut-one .ensures),
+      λ rs qs o p. cut-on a beyond rs qs out (loop .at) _ (loop .out) (put-cut-one .last .0) p (loop .inv .2 rs qs o p) loop-test
+          (width-at .ensures) (put-cut-one .ensures),
     )
 
 -- the output keeps its length
@@ -130,8 +145,7 @@ returns : tie.Need-returns Inv-loop μ-loop
 returns c =
     let args = c .before .before .before .before .before .args in
     let loop = c .before .loop in
-    let loop-test = c .loop-test .left in
-    (
+    let loop-test = c .loop-test .left in (
       omega arith,
       λ rs qs o p.
           let m = loop .inv .2 rs qs o p in
@@ -146,13 +160,13 @@ put-cut-spec =
     Inv-loop
     μ-loop
     loop-holds
--- by search: width-at-requires
+    -- by search: width-at-requires
     (λ c κs. search needs)
     add-next
--- by search: sub-put-cut-one, part-put-cut-one-start
+    -- by search: sub-put-cut-one, part-put-cut-one-start
     (λ c. search needs) (λ c. search needs)
     part-put-cut-one-end
--- by search: mark-at-requires, sub-put-cut-one-2, part-put-cut-one-start-2
+    -- by search: mark-at-requires, sub-put-cut-one-2, part-put-cut-one-start-2
     (λ c κs. search needs) (λ c. search needs) (λ c. search needs)
     part-put-cut-one-end-2
     put-cut-one-requires

@@ -48,7 +48,8 @@ returns-5 : tie.Need-returns-5
 returns-5 c =
     let args = c .before .before .args in
     let out = args .out .now in
-    in-arm (turned out) out (UN ∷ UE ∷ SG ∷ IG ∷ TG ∷ TX ∷ CP ∷ PH ∷ SC ∷ EC ∷ IS ∷ IE ∷ SM ∷ EM ∷ Unknown ∷ []) (args .m) (c .match .keys5) refl
+    in-arm (turned out) out (UN ∷ UE ∷ SG ∷ IG ∷ TG ∷ TX ∷ CP ∷ PH ∷ SC ∷ EC ∷ IS ∷ IE ∷ SM ∷ EM ∷ Unknown ∷ []) (args .m)
+    (c .match .keys5) refl
 
 pub put-turned-mark-spec : {M : Type 1} → statement M
 put-turned-mark-spec =

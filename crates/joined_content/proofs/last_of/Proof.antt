@@ -1,5 +1,4 @@
 use mathlib.Core.List.{List}
-use mathlib.Core.Path.{_≡_}
 use Prim.Native.Nat.{_≤_, _<_, _-_}
 use native.Mathlib.Omega.{arith}
 use lib.ListN.{length}
@@ -25,8 +24,9 @@ abbrev μ-loop : tie.MeasureT-loop
 -- before the first record
 loop-holds : tie.Need-loop-holds Inv-loop μ-loop
 loop-holds c =
-    let args = c .before .before .args in
-    let pre = c .before .before .pre in
+    let start = c .before .before in
+    let args = start .args in
+    let pre = start .pre in
     let width-at = c .width-at in
     let c₀ = args .c .now in
     let (rs, o) = pre .0 in
@@ -40,8 +40,9 @@ loop-holds c =
 -- behind the next record
 add-next : tie.Need-add-next Inv-loop μ-loop
 add-next c =
-    let args = c .before .before .before .before .before .args in
-    let pre = c .before .before .before .before .before .pre in
+    let start = c .before .before .before .before .before in
+    let args = start .args in
+    let pre = start .pre in
     let loop = c .before .before .loop in
     let loop-test = c .before .loop-test .taken in
     let width-at2 = c .width-at2 in
@@ -54,8 +55,9 @@ add-next c =
 -- the walk goes on
 loop-less : tie.Need-loop-less Inv-loop μ-loop
 loop-less c =
-    let args = c .before .before .before .before .before .args in
-    let pre = c .before .before .before .before .before .pre in
+    let start = c .before .before .before .before .before in
+    let args = start .args in
+    let pre = start .pre in
     let loop = c .before .before .loop in
     let loop-test = c .before .loop-test .taken in
     let width-at2 = c .width-at2 in
@@ -69,8 +71,9 @@ loop-less c =
 -- at the next record
 loop-again : tie.Need-loop-again Inv-loop μ-loop
 loop-again c =
-    let args = c .before .before .before .before .before .args in
-    let pre = c .before .before .before .before .before .pre in
+    let start = c .before .before .before .before .before in
+    let args = start .args in
+    let pre = start .pre in
     let loop = c .before .before .loop in
     let loop-test = c .before .loop-test .taken in
     let width-at2 = c .width-at2 in
@@ -98,10 +101,10 @@ last-of-spec =
     (tie.spec
     Inv-loop
     μ-loop
--- by search: width-at-requires
+    -- by search: width-at-requires
     (λ c κs. search needs)
     loop-holds
--- by search: width-at-requires-2
+    -- by search: width-at-requires-2
     (λ c κs. search needs)
     add-next
     loop-less

@@ -1,4 +1,4 @@
-use Prim.Native.Nat.{_≤_, _-_, _+_}
+use Prim.Native.Nat.{_≤_, _-_}
 use mathlib.Core.List.{List}
 use mathlib.Core.Path.{_≡_, refl, ap}
 use native.Mathlib.Omega.{arith}
@@ -34,8 +34,9 @@ loop-holds c =
 -- the next record ends within the parts
 add-next : tie.Need-add-next Inv-loop μ-loop
 add-next c =
-    let pre = c .before .before .before .before .before .pre in
-    let args = c .before .before .before .before .before .args in
+    let start = c .before .before .before .before .before in
+    let pre = start .pre in
+    let args = start .args in
     let loop = c .before .before .loop in
     let loop-test = c .before .loop-test .taken in
     let width-at = c .width-at in
@@ -46,8 +47,9 @@ add-next c =
 -- and within the output
 part-put-record-end : tie.Need-part-put-record-end Inv-loop μ-loop
 part-put-record-end c =
-    let pre = c .before .before .before .before .before .pre in
-    let args = c .before .before .before .before .before .args in
+    let start = c .before .before .before .before .before in
+    let pre = start .pre in
+    let args = start .args in
     let loop = c .before .before .loop in
     let loop-test = c .before .loop-test .taken in
     let width-at = c .width-at in
@@ -58,8 +60,9 @@ part-put-record-end c =
 -- `&t[at..next]` lies within the parts
 part-put-record-end-2 : tie.Need-part-put-record-end-2 Inv-loop μ-loop
 part-put-record-end-2 c =
-    let pre = c .before .before .before .before .before .before .pre in
-    let args = c .before .before .before .before .before .before .args in
+    let start = c .before .before .before .before .before .before in
+    let pre = start .pre in
+    let args = start .args in
     let loop = c .before .before .before .loop in
     let loop-test = c .before .before .loop-test .taken in
     let width-at = c .before .width-at in
@@ -70,8 +73,9 @@ part-put-record-end-2 c =
 -- it is one record, and there is room
 put-record-requires : tie.Need-put-record-requires Inv-loop μ-loop
 put-record-requires c κs =
-    let pre = c .before .before .before .before .before .before .before .pre in
-    let args = c .before .before .before .before .before .before .before .args in
+    let start = c .before .before .before .before .before .before .before in
+    let pre = start .pre in
+    let args = start .args in
     let loop = c .before .before .before .before .loop in
     let loop-test = c .before .before .before .loop-test .taken in
     let width-at = c .before .before .width-at in
@@ -87,11 +91,13 @@ put-record-requires c κs =
 -- the walk goes on
 loop-less : tie.Need-loop-less Inv-loop μ-loop
 loop-less c =
-    let pre = c .before .before .before .before .before .before .before .before .before .before .pre in
-    let args = c .before .before .before .before .before .before .before .before .before .before .args in
-    let loop = c .before .before .before .before .before .before .before .loop in
-    let loop-test = c .before .before .before .before .before .before .loop-test .taken in
-    let width-at = c .before .before .before .before .before .width-at in
+    let at-width-at = c .before .before .before .before .before in
+    let start = at-width-at .before .before .before .before .before in
+    let pre = start .pre in
+    let args = start .args in
+    let loop = at-width-at .before .before .loop in
+    let loop-test = at-width-at .before .loop-test .taken in
+    let width-at = at-width-at .width-at in
     let (ps, o) = pre .0 in
     let m = loop .inv .2 ps o .upto in
     let n = next (args .t .now) (loop .at) _ (m .after) loop-test (m .rest) (width-at .ensures) in
@@ -100,11 +106,13 @@ loop-less c =
 -- one record more is written
 loop-again : tie.Need-loop-again Inv-loop μ-loop
 loop-again c =
-    let pre = c .before .before .before .before .before .before .before .before .before .before .pre in
-    let args = c .before .before .before .before .before .before .before .before .before .before .args in
-    let loop = c .before .before .before .before .before .before .before .loop in
-    let loop-test = c .before .before .before .before .before .before .loop-test .taken in
-    let width-at = c .before .before .before .before .before .width-at in
+    let at-width-at = c .before .before .before .before .before in
+    let start = at-width-at .before .before .before .before .before in
+    let pre = start .pre in
+    let args = start .args in
+    let loop = at-width-at .before .before .loop in
+    let loop-test = at-width-at .before .loop-test .taken in
+    let width-at = at-width-at .width-at in
     let put-record = c .before .before .put-record in
     let (ps, o) = pre .0 in
     let t = args .t .now in
@@ -115,7 +123,8 @@ loop-again c =
     let on = parts-on t f ps out (loop .at) _ (loop .out) (put-record .last .0) m loop-test (width-at .ensures) (put-record .ensures) in (
       omega (arith, fit),
       written-length (Each InPart) (order-record f) t (gather part-records ps) out _ _ on (omega (arith, fit)),
-      λ ps o. parts-on t f ps out (loop .at) _ (loop .out) (put-record .last .0) (loop .inv .2 ps o) loop-test (width-at .ensures) (put-record .ensures),
+      λ ps o. parts-on t f ps out (loop .at) _ (loop .out) (put-record .last .0) (loop .inv .2 ps o) loop-test (width-at .ensures)
+          (put-record .ensures),
     )
 
 -- the output keeps its length
@@ -141,13 +150,13 @@ put-parts-spec =
     Inv-loop
     μ-loop
     loop-holds
--- by search: width-at-requires
+    -- by search: width-at-requires
     (λ c κs. search needs)
     add-next
--- by search: sub-put-record, part-put-record-start
+    -- by search: sub-put-record, part-put-record-start
     (λ c. search needs) (λ c. search needs)
     part-put-record-end
--- by search: sub-put-record-2, part-put-record-start-2
+    -- by search: sub-put-record-2, part-put-record-start-2
     (λ c. search needs) (λ c. search needs)
     part-put-record-end-2
     put-record-requires

@@ -25,8 +25,9 @@ loop-holds c =
 -- the next record ends within the content
 add-at : tie.Need-add-at Inv-loop μ-loop
 add-at c =
-    let pre = c .before .before .before .before .pre in
-    let args = c .before .before .before .before .args in
+    let start = c .before .before .before .before in
+    let pre = start .pre in
+    let args = start .args in
     let loop = c .before .before .loop in
     let loop-test = c .before .loop-test .taken in
     let width-at = c .width-at in
@@ -43,8 +44,9 @@ add-n c =
 -- the walk goes on
 loop-less : tie.Need-loop-less Inv-loop μ-loop
 loop-less c =
-    let pre = c .before .before .before .before .pre in
-    let args = c .before .before .before .before .args in
+    let start = c .before .before .before .before in
+    let pre = start .pre in
+    let args = start .args in
     let loop = c .before .before .loop in
     let loop-test = c .before .loop-test .taken in
     let width-at = c .width-at in
@@ -56,8 +58,9 @@ loop-less c =
 -- one record more is counted
 loop-again : tie.Need-loop-again Inv-loop μ-loop
 loop-again c =
-    let args = c .before .before .before .before .args in
-    let pre = c .before .before .before .before .pre in
+    let start = c .before .before .before .before in
+    let args = start .args in
+    let pre = start .pre in
     let loop = c .before .before .loop in
     let loop-test = c .before .loop-test .taken in
     let width-at = c .width-at in
@@ -69,7 +72,8 @@ loop-again c =
     let n = next c₀ at-now _ (m .after) loop-test (m .rest) (width-at .ensures) in (
       omega (arith, n .fit),
       omega (arith, n .least, inv .1),
-      λ rs o. let m = inv .2 rs o in passed-on c₀ rs at-now _ (loop .n) m (next c₀ at-now _ (m .after) loop-test (m .rest) (width-at .ensures)),
+      λ rs o. let m = inv .2 rs o in
+          passed-on c₀ rs at-now _ (loop .n) m (next c₀ at-now _ (m .after) loop-test (m .rest) (width-at .ensures)),
     )
 
 -- all are counted
@@ -88,7 +92,7 @@ count-records-spec =
     Inv-loop
     μ-loop
     loop-holds
--- by search: width-at-requires
+    -- by search: width-at-requires
     (λ c κs. search needs)
     add-at
     add-n

@@ -26,8 +26,9 @@ loop-holds c =
 -- the next record ends within the content
 add-next : tie.Need-add-next Inv-loop μ-loop
 add-next c =
-    let pre = c .before .before .before .before .pre in
-    let args = c .before .before .before .before .args in
+    let start = c .before .before .before .before in
+    let pre = start .pre in
+    let args = start .args in
     let loop = c .before .before .loop in
     let loop-test = c .before .loop-test .taken in
     let width-at = c .width-at in
@@ -38,8 +39,9 @@ add-next c =
 -- four bytes of it are there
 other-at-requires : tie.Need-other-at-requires Inv-loop μ-loop
 other-at-requires c κs =
-    let pre = c .before .before .before .before .pre in
-    let args = c .before .before .before .before .args in
+    let start = c .before .before .before .before in
+    let pre = start .pre in
+    let args = start .args in
     let loop = c .before .before .loop in
     let loop-test = c .before .loop-test .taken in
     let width-at = c .width-at in
@@ -66,8 +68,9 @@ returns c =
 -- the walk goes on
 loop-less : tie.Need-loop-less Inv-loop μ-loop
 loop-less c =
-    let pre = c .before .before .before .before .before .before .pre in
-    let args = c .before .before .before .before .before .before .args in
+    let start = c .before .before .before .before .before .before in
+    let pre = start .pre in
+    let args = start .args in
     let loop = c .before .before .before .before .loop in
     let loop-test = c .before .before .before .loop-test .taken in
     let width-at = c .before .before .width-at in
@@ -79,8 +82,9 @@ loop-less c =
 -- behind a record that is not the other half
 loop-again : tie.Need-loop-again Inv-loop μ-loop
 loop-again c =
-    let args = c .before .before .before .before .before .before .args in
-    let pre = c .before .before .before .before .before .before .pre in
+    let start = c .before .before .before .before .before .before in
+    let args = start .args in
+    let pre = start .pre in
     let loop = c .before .before .before .before .loop in
     let loop-test = c .before .before .before .loop-test .taken in
     let width-at = c .before .before .width-at in
@@ -112,7 +116,7 @@ has-other-spec =
     Inv-loop
     μ-loop
     loop-holds
--- by search: width-at-requires
+    -- by search: width-at-requires
     (λ c κs. search needs)
     add-next
     other-at-requires

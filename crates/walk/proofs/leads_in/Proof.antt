@@ -1,7 +1,7 @@
 use mathlib.Core.Path.{_≡_, ap, _∙_, sym}
 use Prim.Native.Nat.{ℕ, _+_, _-_, _≤_}
 use native.Mathlib.Omega.{arith}
-use lib.ListN.{drop, getD}
+use lib.ListN.{drop}
 use borrow.Author.Needs.{needs}
 use Rattle.walk.specs.Points.{lead, leads}
 use Rattle.walk.proofs.TextLaws.{leads-start, leads-on, leads-end}
@@ -26,8 +26,13 @@ loop-again c =
     let args = c .before .before .before .before .before .args in
     let loop = c .before .before .before .loop in
     let byte = c .lead .ensures in
-    let more = leads-on (args .t .now) (args .at) (loop .i) (loop .n) (leads 64 (drop (args .at) (args .t .now))) (c .before .before .loop-test .taken) (loop .inv .2) in
-    (omega arith, omega (arith, byte), more ∙ ap (λ (b : ℕ). loop .n + b + leads (64 - (loop .i + 1)) (drop (args .at + (loop .i + 1)) (args .t .now))) (sym (byte .0)))
+    let more = leads-on (args .t .now) (args .at) (loop .i) (loop .n) (leads 64 (drop (args .at) (args .t .now)))
+    (c .before .before .loop-test .taken) (loop .inv .2) in (
+      omega arith,
+      omega (arith, byte),
+      more
+          ∙ ap (λ (b : ℕ). loop .n + b + leads (64 - (loop .i + 1)) (drop (args .at + (loop .i + 1)) (args .t .now))) (sym (byte .0)),
+    )
 
 -- `n as usize`
 returns : tie.Need-returns Inv-loop μ-loop

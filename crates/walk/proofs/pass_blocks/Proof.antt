@@ -3,7 +3,7 @@ use Prim.Native.Nat.{ℕ, _+_, _-_, _≤_}
 use native.Mathlib.Omega.{arith}
 use lib.ListN.{length, drop}
 use borrow.Author.Needs.{needs}
-use Rattle.walk.specs.Points.{leads, further, sought}
+use Rattle.walk.specs.Points.{further, sought}
 use Rattle.walk.proofs.TextLaws.{further-zero, sought-on}
 use Rattle.walk.proofs.pass_blocks.Statement.{statement}
 use Rattle.walk.proofs.pass_blocks.Tie as tie

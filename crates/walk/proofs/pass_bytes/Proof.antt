@@ -1,9 +1,9 @@
 use mathlib.Core.Path.{_≡_, refl, ap, _∙_, sym}
 use Prim.Native.Nat.{ℕ, _+_, _-_, _≤_}
 use native.Mathlib.Omega.{arith}
-use lib.ListN.{length, drop, getD}
+use lib.ListN.{length, drop}
 use borrow.Author.Needs.{needs}
-use Rattle.walk.specs.Points.{leads, further, sought}
+use Rattle.walk.specs.Points.{further, sought}
 use Rattle.walk.proofs.TextLaws.{leads-one, sought-on, sought-stop, sought-end}
 use Rattle.walk.proofs.pass_bytes.Statement.{statement}
 use Rattle.walk.proofs.pass_bytes.Tie as tie
@@ -22,7 +22,8 @@ returns : tie.Need-returns Inv-loop μ-loop
 returns c =
     let args = c .before .before .before .before .before .before .args in
     let loop = c .before .before .before .before .loop in
-    sought-stop (args .t .now) (loop .at) (loop .left) _ (c .before .before .before .loop-test .taken) (omega (arith, c .before .lead .ensures, c .if1 .taken)) (loop .inv .1)
+    sought-stop (args .t .now) (loop .at) (loop .left) _ (c .before .before .before .loop-test .taken)
+    (omega (arith, c .before .lead .ensures, c .if1 .taken)) (loop .inv .1)
 
 -- `at += 1`, `left -= n`
 loop-again : tie.Need-loop-again Inv-loop μ-loop

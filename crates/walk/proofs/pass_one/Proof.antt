@@ -1,6 +1,5 @@
-use mathlib.Core.Path.{sym, _∙_, ap}
+use mathlib.Core.Path.{sym, _∙_}
 use native.Mathlib.Omega.{arith}
-use Rattle.walk.specs.Place.{PassedOver}
 use Rattle.walk.proofs.PlaceLaws.{one-least, met-text, pass-item, pass-some}
 use Rattle.xliff.proofs.lists.Slices.{tail-is}
 use borrow.Author.Needs.{needs}
@@ -10,29 +9,33 @@ use Rattle.walk.proofs.pass_one.Tie as tie
 -- `marks::marked_by(t, b"TX")`: the mark is there
 marked-by-requires : tie.Need-marked-by-requires
 marked-by-requires c κs =
-    let args = c .before .before .args in
-    let pre = c .before .before .pre in
+    let start = c .before .before in
+    let args = start .args in
+    let pre = start .pre in
     omega (arith, one-least (args .t .now) pre)
 
 -- `&t[4..]`: the text begins within the record
 sub-pass-points : tie.Need-sub-pass-points
 sub-pass-points c =
-    let args = c .before .before .before .before .args in
-    let pre = c .before .before .before .before .pre in
+    let start = c .before .before .before .before in
+    let args = start .args in
+    let pre = start .pre in
     omega (arith, one-least (args .t .now) pre)
 
 -- the same
 part-pass-points-start : tie.Need-part-pass-points-start
 part-pass-points-start c =
-    let args = c .before .before .before .before .args in
-    let pre = c .before .before .before .before .pre in
+    let start = c .before .before .before .before in
+    let args = start .args in
+    let pre = start .pre in
     omega (arith, one-least (args .t .now) pre)
 
 -- `t.len() - 4`
 sub-pass-text : tie.Need-sub-pass-text
 sub-pass-text c =
-    let args = c .before .before .before .before .before .before .args in
-    let pre = c .before .before .before .before .before .before .pre in
+    let start = c .before .before .before .before .before .before in
+    let args = start .args in
+    let pre = start .pre in
     omega (arith, one-least (args .t .now) pre)
 
 -- a text
@@ -45,7 +48,8 @@ returns c =
     let pass-text = c .pass-text in
     λ r g e.
     pass-text .ensures
-    ∙ met-text r (args .t .now) (args .k) (pass-points .result) g e (sym (marked-by .ensures) ∙ if1) (simp tail-is at (pass-points .ensures))
+    ∙ met-text r (args .t .now) (args .k) (pass-points .result) g e (sym (marked-by .ensures) ∙ if1)
+    (simp tail-is at (pass-points .ensures))
 
 -- the item is the one sought
 returns-2 : tie.Need-returns-2
@@ -71,13 +75,13 @@ pass-one-spec =
     marked-by-requires
     sub-pass-points
     part-pass-points-start
--- by search: part-pass-points-end, pass-points-requires
+    -- by search: part-pass-points-end, pass-points-requires
     (λ c. search needs) (λ c κs. search needs)
     sub-pass-text
--- by search: pass-text-requires
+    -- by search: pass-text-requires
     (λ c κs. search needs)
     returns
     returns-2
--- by search: sub-t14
+    -- by search: sub-t14
     (λ c. search needs)
     returns-3)

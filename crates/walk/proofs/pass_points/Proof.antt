@@ -1,4 +1,4 @@
-use mathlib.Core.Path.{_≡_, _∙_, sym}
+use mathlib.Core.Path.{_∙_, sym}
 use borrow.Author.Needs.{needs}
 use Rattle.walk.proofs.TextLaws.{passed-over}
 use Rattle.walk.proofs.pass_points.Statement.{statement}

@@ -26,8 +26,9 @@ loop-holds c =
 -- the next record ends within the content
 add-next : tie.Need-add-next Inv-loop μ-loop
 add-next c =
-    let pre = c .before .before .before .before .pre in
-    let args = c .before .before .before .before .args in
+    let start = c .before .before .before .before in
+    let pre = start .pre in
+    let args = start .args in
     let loop = c .before .before .loop in
     let loop-test = c .before .loop-test .taken in
     let width-at = c .width-at in
@@ -38,8 +39,9 @@ add-next c =
 -- the same
 part-pass-one-end : tie.Need-part-pass-one-end Inv-loop μ-loop
 part-pass-one-end c =
-    let pre = c .before .before .before .before .pre in
-    let args = c .before .before .before .before .args in
+    let start = c .before .before .before .before in
+    let pre = start .pre in
+    let args = start .args in
     let loop = c .before .before .loop in
     let loop-test = c .before .loop-test .taken in
     let width-at = c .width-at in
@@ -50,8 +52,9 @@ part-pass-one-end c =
 -- `&c[at..next]` is one record
 pass-one-requires : tie.Need-pass-one-requires Inv-loop μ-loop
 pass-one-requires c κs =
-    let pre = c .before .before .before .before .before .pre in
-    let args = c .before .before .before .before .before .args in
+    let start = c .before .before .before .before .before in
+    let pre = start .pre in
+    let args = start .args in
     let loop = c .before .before .before .loop in
     let loop-test = c .before .before .loop-test .taken in
     let width-at = c .before .width-at in
@@ -63,10 +66,11 @@ pass-one-requires c κs =
 -- the item stands in the next record
 returns : tie.Need-returns Inv-loop μ-loop
 returns c =
-    let args = c .before .before .before .before .before .before .before .before .before .args in
-    let loop = c .before .before .before .before .before .before .before .loop in
-    let loop-test = c .before .before .before .before .before .before .loop-test .taken in
-    let width-at = c .before .before .before .before .before .width-at in
+    let at-width-at = c .before .before .before .before .before in
+    let args = at-width-at .before .before .before .before .args in
+    let loop = at-width-at .before .before .loop in
+    let loop-test = at-width-at .before .loop-test .taken in
+    let width-at = at-width-at .width-at in
     let pass-one = c .before .before .before .pass-one in
     let into = c .before .into .given in
     λ rs o.
@@ -78,11 +82,13 @@ returns c =
 -- the walk goes on
 loop-less : tie.Need-loop-less Inv-loop μ-loop
 loop-less c =
-    let pre = c .before .before .before .before .before .before .before .before .before .pre in
-    let args = c .before .before .before .before .before .before .before .before .before .args in
-    let loop = c .before .before .before .before .before .before .before .loop in
-    let loop-test = c .before .before .before .before .before .before .loop-test .taken in
-    let width-at = c .before .before .before .before .before .width-at in
+    let at-width-at = c .before .before .before .before .before in
+    let start = at-width-at .before .before .before .before in
+    let pre = start .pre in
+    let args = start .args in
+    let loop = at-width-at .before .before .loop in
+    let loop-test = at-width-at .before .loop-test .taken in
+    let width-at = at-width-at .width-at in
     let (rs, o) = pre in
     let m = loop .inv .1 rs o .upto in
     let n = next (args .c .now) (loop .at) _ (m .after) loop-test (m .rest) (width-at .ensures) in
@@ -91,11 +97,13 @@ loop-less c =
 -- the next record is passed over
 loop-again : tie.Need-loop-again Inv-loop μ-loop
 loop-again c =
-    let args = c .before .before .before .before .before .before .before .before .before .args in
-    let pre = c .before .before .before .before .before .before .before .before .before .pre in
-    let loop = c .before .before .before .before .before .before .before .loop in
-    let loop-test = c .before .before .before .before .before .before .loop-test .taken in
-    let width-at = c .before .before .before .before .before .width-at in
+    let at-width-at = c .before .before .before .before .before in
+    let start = at-width-at .before .before .before .before in
+    let args = start .args in
+    let pre = start .pre in
+    let loop = at-width-at .before .before .loop in
+    let loop-test = at-width-at .before .loop-test .taken in
+    let width-at = at-width-at .width-at in
     let pass-one = c .before .before .before .pass-one in
     let l = c .before .l .given in
     let c₀ = args .c .now in
@@ -124,17 +132,17 @@ place-of-spec =
     Inv-loop
     μ-loop
     loop-holds
--- by search: width-at-requires
+    -- by search: width-at-requires
     (λ c κs. search needs)
     add-next
--- by search: sub-pass-one, part-pass-one-start
+    -- by search: sub-pass-one, part-pass-one-start
     (λ c. search needs) (λ c. search needs)
     part-pass-one-end
     pass-one-requires
--- by search: enum-known-into
+    -- by search: enum-known-into
     (λ c. search needs)
     returns
--- by search: enum-known-l
+    -- by search: enum-known-l
     (λ c. search needs)
     loop-less
     loop-again

@@ -1,6 +1,8 @@
--- `walker::after` meets its contract: a walk of its MIR, by hand. A `Walker` that `new` returns is held in a local and passed to `passed`, and what
+-- `walker::after` meets its contract: a walk of its MIR, by hand. A `Walker` that `new` returns is held in a local
+-- and passed to `passed`, and what
 -- that returns, in another, to `next`. All that the proof knows of the three is that each meets its contract.
--- The machine value that a call returns is stored and passed on as it is. In a local of a body MIR erases the lifetime of the struct's type, so the
+-- The machine value that a call returns is stored and passed on as it is. In a local of a body MIR erases the
+-- lifetime of the struct's type, so the
 -- value is shown to have the type at `erased`: what the struct owns does not say the lifetime's name.
 -- Assumes nothing.
 use mathlib.Core.Path.{_≡_, refl, sym, subst}

@@ -21,7 +21,8 @@ mark-spec 𝓤 H 𝓜 𝓖 𝓡 =
     let W = givenOf 𝓤 H 𝓜 𝓖 in
     entered 𝓤 H (OnWalker S.the-row MarkAt 𝓤 H (𝓖 .A)) (tables 𝓤 H 𝓜 𝓡 code.env .C) (tables 𝓤 H 𝓜 𝓡 code.env .Λ) #walker·mark code.function
     (code.unfolded 𝓤 H 𝓜 𝓡)
-    (by-callee-meets S.the-row S′.mir MarkAt #walker·mark-there 𝓤 H (𝓖 .A) W (λ r u is. EL.lawful S.the-type S′.the-laws 𝓤 H (𝓖 .A) W tt .typed r _ is .0)
+    (by-callee-meets S.the-row S′.mir MarkAt #walker·mark-there 𝓤 H (𝓖 .A) W
+    (λ r u is. EL.lawful S.the-type S′.the-laws 𝓤 H (𝓖 .A) W tt .typed r _ is .0)
     (tablesOf 𝓤 H 𝓜 (tables 𝓤 H 𝓜 𝓡 code.env))
     (cited 𝓤 H (OnSlice S.the-row MarkAt 𝓤 H (𝓖 .A)) 𝓜 𝓡 code.env #walker·mark-there callee-def.routine code.calls-walker·mark-there
     (callee-thm.met 𝓤 H 𝓜 𝓖 𝓡)))

@@ -1,6 +1,9 @@
--- `walker::passed` meets its contract: a walk of its MIR, by hand. The struct is taken apart, `after_at` is called on the slice and the number, and a
--- struct is made anew of the slice and the number that it returns. All that the proof knows of the callee is that it meets its contract.
--- What the struct owns is had twice at exit: one copy is the parameter's, and the other, with the facts of the new number in the place of next's, is
+-- `walker::passed` meets its contract: a walk of its MIR, by hand. The struct is taken apart, `after_at` is called on
+-- the slice and the number, and a
+-- struct is made anew of the slice and the number that it returns. All that the proof knows of the callee is that it
+-- meets its contract.
+-- What the struct owns is had twice at exit: one copy is the parameter's, and the other, with the facts of the new
+-- number in the place of next's, is
 -- what the result owns.
 -- Assumes nothing.
 use mathlib.Core.Path.{refl, ap}

@@ -1,16 +1,9 @@
 -- `walker::record` meets its contract: `ByCallee` at `table::record_at`.
 -- Assumes nothing.
-use mathlib.Core.Path.{_≡_}
-use Prim.Native.Nat.{ℕ}
-use mathlib.Core.List.{List}
-use lib.ListN.{length, drop}
 use contract.Running.{givenOf, tables, tablesOf}
 use denote.Enum.Laws as EL
 use denote.Triple.Table.{entered, cited}
-use Rattle.xliff.specs.Encode.{record-bytes}
-use Rattle.xliff.specs.Parse.{read}
-use Rattle.table.specs.Meaning.{meaning, width, body}
-use Rattle.table.specs.declared.Read.{Read}
+use Rattle.walker.specs.Offsets.{ReadAt}
 use Rattle.table.proofs.Read as S
 use Rattle.table.proofs.Read.Laws as S′
 use Rattle.table.proofs.record_at.Symbol as callee-def
@@ -22,16 +15,13 @@ use Rattle.walker.proofs.record.Key.{name as #walker·record}
 use Rattle.walker.proofs.record.Statement as stated
 use Rattle.walker.proofs.record.Code as code
 
-abbrev Told : List ℕ → ℕ → Read → Type 0
-Told t at r = (meaning (body (drop at t)) r ≡ read (drop at t)) × (width r ≡ length (record-bytes (read (drop at t))))
-
 pub record-spec : {M : Type 1} → stated.statement M
 unfolding code.routine tablesOf
 record-spec 𝓤 H 𝓜 𝓖 𝓡 =
     let W = givenOf 𝓤 H 𝓜 𝓖 in
-    entered 𝓤 H (OnWalker S.the-row Told 𝓤 H (𝓖 .A)) (tables 𝓤 H 𝓜 𝓡 code.env .C) (tables 𝓤 H 𝓜 𝓡 code.env .Λ) #walker·record code.function
+    entered 𝓤 H (OnWalker S.the-row ReadAt 𝓤 H (𝓖 .A)) (tables 𝓤 H 𝓜 𝓡 code.env .C) (tables 𝓤 H 𝓜 𝓡 code.env .Λ) #walker·record code.function
     (code.unfolded 𝓤 H 𝓜 𝓡)
-    (by-callee-meets S.the-row S′.mir Told #table·record-at 𝓤 H (𝓖 .A) W
+    (by-callee-meets S.the-row S′.mir ReadAt #table·record-at 𝓤 H (𝓖 .A) W
     (λ r u is. EL.lawful S.the-type S′.the-laws 𝓤 H (𝓖 .A) W tt .typed r _ is .0) (tablesOf 𝓤 H 𝓜 (tables 𝓤 H 𝓜 𝓡 code.env))
-    (cited 𝓤 H (OnSlice S.the-row Told 𝓤 H (𝓖 .A)) 𝓜 𝓡 code.env #table·record-at callee-def.routine code.calls-table·record-at
+    (cited 𝓤 H (OnSlice S.the-row ReadAt 𝓤 H (𝓖 .A)) 𝓜 𝓡 code.env #table·record-at callee-def.routine code.calls-table·record-at
     (callee-thm.met 𝓤 H 𝓜 𝓖 𝓡)))

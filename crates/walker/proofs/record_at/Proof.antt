@@ -1,16 +1,9 @@
 -- `walker::record_at` meets its contract: `ByWalker` at `record`.
 -- Assumes nothing.
-use mathlib.Core.Path.{_≡_}
-use Prim.Native.Nat.{ℕ}
-use mathlib.Core.List.{List}
-use lib.ListN.{length, drop}
 use contract.Running.{givenOf, tables, tablesOf}
 use denote.Enum.Laws as EL
 use denote.Triple.Table.{entered, cited}
-use Rattle.xliff.specs.Encode.{record-bytes}
-use Rattle.xliff.specs.Parse.{read}
-use Rattle.table.specs.Meaning.{meaning, width, body}
-use Rattle.table.specs.declared.Read.{Read}
+use Rattle.walker.specs.Offsets.{ReadAt}
 use Rattle.table.proofs.Read as S
 use Rattle.table.proofs.Read.Laws as S′
 use Rattle.walker.proofs.new.Symbol as new-def
@@ -26,16 +19,14 @@ use Rattle.walker.proofs.record_at.Key.{name as #walker·record-at}
 use Rattle.walker.proofs.record_at.Statement as stated
 use Rattle.walker.proofs.record_at.Code as code
 
-abbrev Told : List ℕ → ℕ → Read → Type 0
-Told t at r = (meaning (body (drop at t)) r ≡ read (drop at t)) × (width r ≡ length (record-bytes (read (drop at t))))
-
 pub record-at-spec : {M : Type 1} → stated.statement M
 unfolding code.routine tablesOf
 record-at-spec 𝓤 H 𝓜 𝓖 𝓡 =
     let W = givenOf 𝓤 H 𝓜 𝓖 in
-    entered 𝓤 H (OnSlice S.the-row Told 𝓤 H (𝓖 .A)) (tables 𝓤 H 𝓜 𝓡 code.env .C) (tables 𝓤 H 𝓜 𝓡 code.env .Λ) #walker·record-at code.function
+    entered 𝓤 H (OnSlice S.the-row ReadAt 𝓤 H (𝓖 .A)) (tables 𝓤 H 𝓜 𝓡 code.env .C) (tables 𝓤 H 𝓜 𝓡 code.env .Λ) #walker·record-at code.function
     (code.unfolded 𝓤 H 𝓜 𝓡)
-    (by-walker-meets S.the-row S′.mir Told #walker·record 𝓤 H (𝓖 .A) W (𝓜 .mem) (𝓡 .run)
+    (by-walker-meets S.the-row S′.mir ReadAt #walker·record 𝓤 H (𝓖 .A) W (𝓜 .mem) (𝓡 .run)
     (λ r u is. EL.lawful S.the-type S′.the-laws 𝓤 H (𝓖 .A) W tt .typed r _ is .0) (tablesOf 𝓤 H 𝓜 (tables 𝓤 H 𝓜 𝓡 code.env))
     (cited 𝓤 H (New 𝓤 H (𝓖 .A) (𝓜 .mem) (𝓡 .run)) 𝓜 𝓡 code.env #walker·new new-def.routine code.calls-walker·new (new-thm.met 𝓤 H 𝓜 𝓖 𝓡))
-    (cited 𝓤 H (OnWalker S.the-row Told 𝓤 H (𝓖 .A)) 𝓜 𝓡 code.env #walker·record asked-def.routine code.calls-walker·record (asked-thm.met 𝓤 H 𝓜 𝓖 𝓡)))
+    (cited 𝓤 H (OnWalker S.the-row ReadAt 𝓤 H (𝓖 .A)) 𝓜 𝓡 code.env #walker·record asked-def.routine code.calls-walker·record
+    (asked-thm.met 𝓤 H 𝓜 𝓖 𝓡)))

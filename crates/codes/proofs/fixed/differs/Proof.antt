@@ -24,16 +24,18 @@ abbrev μ-loop : tie.MeasureT-loop
 -- the records of the old content
 next-fixed-requires : tie.Need-next-fixed-requires Inv-loop μ-loop
 next-fixed-requires c κs =
-    let pre = c .before .before .pre in
-    let args = c .before .before .args in
+    let start = c .before .before in
+    let pre = start .pre in
+    let args = start .args in
     let (xs, ys, h, k) = pre in
     (content-records xs, rest-start (args .old .now) (content-records xs) h, omega arith)
 
 -- the records of the new content
 next-fixed-requires-2 : tie.Need-next-fixed-requires-2 Inv-loop μ-loop
 next-fixed-requires-2 c κs =
-    let pre = c .before .before .before .pre in
-    let args = c .before .before .before .args in
+    let start = c .before .before .before in
+    let pre = start .pre in
+    let args = start .args in
     let (xs, ys, h, k) = pre in
     (content-records ys, rest-start (args .new .now) (content-records ys) k, omega arith)
 
@@ -42,12 +44,12 @@ loop-holds : tie.Need-loop-holds Inv-loop μ-loop
 loop-holds c =
     let args = c .before .before .before .before .args in
     let next-fixed = c .before .next-fixed in
-    let next-fixed2 = c .next-fixed2 in
-    (
+    let next-fixed2 = c .next-fixed2 in (
       next-fixed .ensures .1,
       next-fixed2 .ensures .1,
       λ xs ys h k.
-          compared-start (args .old .now) (args .new .now) (content-records xs) (content-records ys) (next-fixed .result) (next-fixed2 .result) h k
+          compared-start (args .old .now) (args .new .now) (content-records xs) (content-records ys) (next-fixed .result)
+          (next-fixed2 .result) h k
           (next-fixed .ensures) (next-fixed2 .ensures),
     )
 
@@ -60,13 +62,15 @@ returns c =
     let if1 = c .if1 .taken in
     λ xs ys h k.
     lists-differ xs ys _ (sym (ap not
-    (compared-short (args .old .now) (args .new .now) (content-records xs) (content-records ys) (loop .i) (loop .j) (loop .inv .2 xs ys h k) loop-test if1)))
+    (compared-short (args .old .now) (args .new .now) (content-records xs) (content-records ys) (loop .i) (loop .j)
+    (loop .inv .2 xs ys h k) loop-test if1)))
 
 -- both codes are there
 same-half-requires : tie.Need-same-half-requires Inv-loop μ-loop
 same-half-requires c κs =
-    let pre = c .before .before .before .before .before .before .before .pre in
-    let args = c .before .before .before .before .before .before .before .args in
+    let start = c .before .before .before .before .before .before .before in
+    let pre = start .pre in
+    let args = start .args in
     let loop = c .before .before .loop in
     let loop-test = c .before .loop-test .taken in
     let if1 = c .if1 .left in
@@ -89,45 +93,61 @@ returns-2 c =
     let if2 = c .if2 .taken in
     λ xs ys h k.
     lists-differ xs ys _ (sym (ap not
-    (compared-off (args .old .now) (args .new .now) (content-records xs) (content-records ys) (loop .i) (loop .j) (loop .inv .2 xs ys h k) loop-test if1
+    (compared-off (args .old .now) (args .new .now) (content-records xs) (content-records ys) (loop .i) (loop .j)
+    (loop .inv .2 xs ys h k) loop-test if1
     (sym (same-half .ensures) ∙ not-true _ if2))))
 
 -- `i + 12`
 add-next-fixed : tie.Need-add-next-fixed Inv-loop μ-loop
 add-next-fixed c =
-    let pre = c .before .before .before .before .before .before .before .before .before .pre in
-    let args = c .before .before .before .before .before .before .before .before .before .args in
+    let start = c .before .before .before .before .before .before .before .before .before in
+    let pre = start .pre in
+    let args = start .args in
     let loop = c .before .before .before .before .loop in
     let loop-test = c .before .before .before .loop-test .taken in
     let (xs, ys, h, k) = pre in
-    omega (arith, behind-old (args .old .now) (args .new .now) (content-records xs) (content-records ys) (loop .i) (loop .j) (loop .inv .2 xs ys h k) loop-test .2)
+    omega (
+      arith,
+      behind-old (args .old .now) (args .new .now) (content-records xs) (content-records ys) (loop .i) (loop .j)
+          (loop .inv .2 xs ys h k) loop-test .2,
+    )
 
 -- records stand behind the old code
 next-fixed-requires-3 : tie.Need-next-fixed-requires-3 Inv-loop μ-loop
 next-fixed-requires-3 c κs =
-    let pre = c .before .before .before .before .before .before .before .before .before .pre in
-    let args = c .before .before .before .before .before .before .before .before .before .args in
+    let start = c .before .before .before .before .before .before .before .before .before in
+    let pre = start .pre in
+    let args = start .args in
     let loop = c .before .before .before .before .loop in
     let loop-test = c .before .before .before .loop-test .taken in
     let (xs, ys, h, k) = pre in
-    behind-old (args .old .now) (args .new .now) (content-records xs) (content-records ys) (loop .i) (loop .j) (loop .inv .2 xs ys h k) loop-test
+    behind-old (args .old .now) (args .new .now) (content-records xs) (content-records ys) (loop .i) (loop .j)
+    (loop .inv .2 xs ys h k) loop-test
 
 -- `j + 12`
 add-next-fixed-2 : tie.Need-add-next-fixed-2 Inv-loop μ-loop
 add-next-fixed-2 c =
-    let pre = c .before .before .before .before .before .before .before .before .before .before .pre in
-    let args = c .before .before .before .before .before .before .before .before .before .before .args in
-    let loop = c .before .before .before .before .before .loop in
+    let at-loop = c .before .before .before .before .before in
+    let start = at-loop .before .before .before .before .before in
+    let pre = start .pre in
+    let args = start .args in
+    let loop = at-loop .loop in
     let if1 = c .before .before .before .if1 .left in
     let (xs, ys, h, k) = pre in
-    omega (arith, behind-new (args .old .now) (args .new .now) (content-records xs) (content-records ys) (loop .i) (loop .j) (loop .inv .2 xs ys h k) if1 .2)
+    omega (
+      arith,
+      behind-new (args .old .now) (args .new .now) (content-records xs) (content-records ys) (loop .i) (loop .j)
+          (loop .inv .2 xs ys h k) if1 .2,
+    )
 
 -- and behind the new one
 next-fixed-requires-4 : tie.Need-next-fixed-requires-4 Inv-loop μ-loop
 next-fixed-requires-4 c κs =
-    let pre = c .before .before .before .before .before .before .before .before .before .before .pre in
-    let args = c .before .before .before .before .before .before .before .before .before .before .args in
-    let loop = c .before .before .before .before .before .loop in
+    let at-loop = c .before .before .before .before .before in
+    let start = at-loop .before .before .before .before .before in
+    let pre = start .pre in
+    let args = start .args in
+    let loop = at-loop .loop in
     let if1 = c .before .before .before .if1 .left in
     let (xs, ys, h, k) = pre in
     behind-new (args .old .now) (args .new .now) (content-records xs) (content-records ys) (loop .i) (loop .j) (loop .inv .2 xs ys h k) if1
@@ -141,19 +161,20 @@ loop-less c =
 -- behind two codes that are the same half
 loop-again : tie.Need-loop-again Inv-loop μ-loop
 loop-again c =
-    let args = c .before .before .before .before .before .before .before .before .before .before .before .args in
-    let loop = c .before .before .before .before .before .before .loop in
-    let loop-test = c .before .before .before .before .before .loop-test .taken in
+    let at-loop-test = c .before .before .before .before .before in
+    let args = at-loop-test .before .before .before .before .before .before .args in
+    let loop = at-loop-test .before .loop in
+    let loop-test = at-loop-test .loop-test .taken in
     let if1 = c .before .before .before .before .if1 .left in
     let same-half = c .before .before .before .same-half in
     let if2 = c .before .before .if2 .left in
     let next-fixed3 = c .before .next-fixed3 in
-    let next-fixed4 = c .next-fixed4 in
-    (
+    let next-fixed4 = c .next-fixed4 in (
       next-fixed3 .ensures .1,
       next-fixed4 .ensures .1,
       λ xs ys h k.
-          compared-on (args .old .now) (args .new .now) (content-records xs) (content-records ys) (loop .i) (loop .j) (next-fixed3 .result) (next-fixed4 .result)
+          compared-on (args .old .now) (args .new .now) (content-records xs) (content-records ys) (loop .i) (loop .j)
+          (next-fixed3 .result) (next-fixed4 .result)
           (loop .inv .2 xs ys h k) loop-test if1 (sym (same-half .ensures) ∙ not-false _ if2) (next-fixed3 .ensures) (next-fixed4 .ensures),
     )
 
@@ -165,7 +186,8 @@ returns-3 c =
     let loop-test = c .loop-test .left in
     λ xs ys h k.
     lists-differ xs ys _
-    (compared-end (args .old .now) (args .new .now) (content-records xs) (content-records ys) (loop .i) (loop .j) (loop .inv .2 xs ys h k) loop-test)
+    (compared-end (args .old .now) (args .new .now) (content-records xs) (content-records ys) (loop .i) (loop .j)
+    (loop .inv .2 xs ys h k) loop-test)
 
 pub differs-spec : {M : Type 1} → statement M
 differs-spec =

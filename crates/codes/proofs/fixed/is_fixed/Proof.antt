@@ -24,16 +24,18 @@ returns c =
 -- `at + 11`
 add-reorder : tie.Need-add-reorder
 add-reorder c =
-    let args = c .before .before .before .args in
-    let pre = c .before .before .before .pre in
+    let start = c .before .before .before in
+    let args = start .args in
+    let pre = start .pre in
     let code-at = c .before .code-at in
     omega (arith, code-there (args .c .now) (args .at) pre (omega (arith, code-at .ensures)))
 
 -- `c[at + 11]`
 shared-slice-read-reorder : tie.Need-shared-slice-read-reorder
 shared-slice-read-reorder c =
-    let args = c .before .before .before .before .args in
-    let pre = c .before .before .before .before .pre in
+    let start = c .before .before .before .before in
+    let args = start .args in
+    let pre = start .pre in
     let code-at = c .before .before .code-at in
     omega (arith, code-there (args .c .now) (args .at) pre (omega (arith, code-at .ensures)))
 
@@ -50,7 +52,7 @@ pub is-fixed-spec : {M : Type 1} → statement M
 is-fixed-spec =
     tie.close
     (tie.spec
--- by search: code-at-requires
+    -- by search: code-at-requires
     (λ c κs. search needs)
     returns
     add-reorder

@@ -20,15 +20,17 @@ abbrev μ-loop : tie.MeasureT-loop
 -- before the first record
 loop-holds : tie.Need-loop-holds Inv-loop μ-loop
 loop-holds c =
-    let pre = c .before .pre in
-    let args = c .before .args in
+    let start = c .before in
+    let pre = start .pre in
+    let args = start .args in
     (omega arith, pre .2, λ rs o. sought-start (args .c .now) rs (args .from) o)
 
 -- the next record ends within the content
 add-next : tie.Need-add-next Inv-loop μ-loop
 add-next c =
-    let pre = c .before .before .before .before .pre in
-    let args = c .before .before .before .before .args in
+    let start = c .before .before .before .before in
+    let pre = start .pre in
+    let args = start .args in
     let loop = c .before .before .loop in
     let loop-test = c .before .loop-test .taken in
     let width-at = c .width-at in
@@ -39,8 +41,9 @@ add-next c =
 -- a record stands there
 is-fixed-requires : tie.Need-is-fixed-requires Inv-loop μ-loop
 is-fixed-requires c κs =
-    let pre = c .before .before .before .before .pre in
-    let args = c .before .before .before .before .args in
+    let start = c .before .before .before .before in
+    let pre = start .pre in
+    let args = start .args in
     let loop = c .before .before .loop in
     let loop-test = c .before .loop-test .taken in
     let width-at = c .width-at in
@@ -62,8 +65,9 @@ returns c =
 -- the walk goes on
 loop-less : tie.Need-loop-less Inv-loop μ-loop
 loop-less c =
-    let pre = c .before .before .before .before .before .before .pre in
-    let args = c .before .before .before .before .before .before .args in
+    let start = c .before .before .before .before .before .before in
+    let pre = start .pre in
+    let args = start .args in
     let loop = c .before .before .before .before .loop in
     let loop-test = c .before .before .before .loop-test .taken in
     let width-at = c .before .before .width-at in
@@ -75,8 +79,9 @@ loop-less c =
 -- behind a record that is not
 loop-again : tie.Need-loop-again Inv-loop μ-loop
 loop-again c =
-    let args = c .before .before .before .before .before .before .args in
-    let pre = c .before .before .before .before .before .before .pre in
+    let start = c .before .before .before .before .before .before in
+    let args = start .args in
+    let pre = start .pre in
     let loop = c .before .before .before .before .loop in
     let loop-test = c .before .before .before .loop-test .taken in
     let width-at = c .before .before .width-at in
@@ -112,7 +117,7 @@ next-fixed-spec =
     Inv-loop
     μ-loop
     loop-holds
--- by search: width-at-requires
+    -- by search: width-at-requires
     (λ c κs. search needs)
     add-next
     is-fixed-requires

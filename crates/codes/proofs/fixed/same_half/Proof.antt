@@ -9,8 +9,9 @@ use Rattle.codes.proofs.fixed.same_half.Tie as tie
 returns : tie.Need-returns
 unfolding kindAt
 returns c =
-    let args = c .before .before .before .before .before .before .before .before .args in
-    let mark-at = c .before .before .before .before .before .mark-at in
+    let at-mark-at = c .before .before .before .before .before in
+    let args = at-mark-at .before .before .before .args in
+    let mark-at = at-mark-at .mark-at in
     let kind-of = c .before .before .before .before .kind-of in
     let mark-at2 = c .before .before .before .mark-at2 in
     let kind-of2 = c .before .before .kind-of2 in
@@ -26,7 +27,7 @@ pub same-half-spec : {M : Type 1} → statement M
 same-half-spec =
     tie.close
     (tie.spec
--- by search: mark-at-requires, kind-of-requires, mark-at-requires-2, kind-of-requires-2, add-number-at,
+    -- by search: mark-at-requires, kind-of-requires, mark-at-requires-2, kind-of-requires-2, add-number-at,
     -- number-at-requires, add-number-at-2, number-at-requires-2
     (λ c κs. search needs) (λ c κs. search needs) (λ c κs. search needs) (λ c κs. search needs) (λ c. search needs)
     (λ c κs. search needs) (λ c. search needs) (λ c κs. search needs)

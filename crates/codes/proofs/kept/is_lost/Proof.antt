@@ -1,4 +1,3 @@
-use mathlib.Core.Path.{sym, _∙_}
 use Prim.Native.Nat.{_≤_, _-_}
 use native.Mathlib.Omega.{arith}
 use lib.ListN.{length, drop}
@@ -13,7 +12,8 @@ use Rattle.codes.proofs.kept.is_lost.Statement.{statement}
 use Rattle.codes.proofs.kept.is_lost.Tie as tie
 
 abbrev Inv-loop : tie.InvT-loop
-Inv-loop old new at₀ at = (at ≤ length old) × ((xs ys : Content) → Holds old xs → Holds new ys → Searched (is-lost ys) old (content-records xs) at)
+Inv-loop old new at₀ at =
+    (at ≤ length old) × ((xs ys : Content) → Holds old xs → Holds new ys → Searched (is-lost ys) old (content-records xs) at)
 
 abbrev μ-loop : tie.MeasureT-loop
 μ-loop old new at₀ at = length old - at
@@ -27,8 +27,9 @@ loop-holds c =
 -- the next record ends within the content
 add-next : tie.Need-add-next Inv-loop μ-loop
 add-next c =
-    let pre = c .before .before .before .before .before .pre in
-    let args = c .before .before .before .before .before .args in
+    let start = c .before .before .before .before .before in
+    let pre = start .pre in
+    let args = start .args in
     let loop = c .before .before .loop in
     let loop-test = c .before .loop-test .taken in
     let width-at = c .width-at in
@@ -39,8 +40,9 @@ add-next c =
 -- a record stands there, and the new content is one
 is-lost-code-requires : tie.Need-is-lost-code-requires Inv-loop μ-loop
 is-lost-code-requires c κs =
-    let pre = c .before .before .before .before .before .pre in
-    let args = c .before .before .before .before .before .args in
+    let start = c .before .before .before .before .before in
+    let pre = start .pre in
+    let args = start .args in
     let loop = c .before .before .loop in
     let loop-test = c .before .loop-test .taken in
     let width-at = c .width-at in
@@ -68,8 +70,9 @@ returns c =
 -- the walk goes on
 loop-less : tie.Need-loop-less Inv-loop μ-loop
 loop-less c =
-    let pre = c .before .before .before .before .before .before .before .pre in
-    let args = c .before .before .before .before .before .before .before .args in
+    let start = c .before .before .before .before .before .before .before in
+    let pre = start .pre in
+    let args = start .args in
     let loop = c .before .before .before .before .loop in
     let loop-test = c .before .before .before .loop-test .taken in
     let width-at = c .before .before .width-at in
@@ -81,8 +84,9 @@ loop-less c =
 -- behind a record that is not
 loop-again : tie.Need-loop-again Inv-loop μ-loop
 loop-again c =
-    let args = c .before .before .before .before .before .before .before .args in
-    let pre = c .before .before .before .before .before .before .before .pre in
+    let start = c .before .before .before .before .before .before .before in
+    let args = start .args in
+    let pre = start .pre in
     let loop = c .before .before .before .before .loop in
     let loop-test = c .before .before .before .loop-test .taken in
     let width-at = c .before .before .width-at in
@@ -96,7 +100,8 @@ loop-again c =
       λ xs ys h k.
           let m = loop .inv .1 xs ys h k in
           let n = next old at-now _ (m .after) loop-test (m .rest) (width-at .ensures) in
-          lost-on ys old (content-records xs) at-now _ m n (lost-in ys (drop at-now old) _ _ (is-lost-code .ensures (content-records ys) k) if1),
+          lost-on ys old (content-records xs) at-now _ m n
+          (lost-in ys (drop at-now old) _ _ (is-lost-code .ensures (content-records ys) k) if1),
     )
 
 -- no record is
@@ -105,7 +110,8 @@ returns-2 c =
     let args = c .before .before .before .before .args in
     let loop = c .before .loop in
     let loop-test = c .loop-test .left in
-    λ xs ys h k. any-lost xs ys _ (search-end (is-lost ys) (args .old .now) (content-records xs) (loop .at) loop-test (loop .inv .1 xs ys h k))
+    λ xs ys h k. any-lost xs ys _
+    (search-end (is-lost ys) (args .old .now) (content-records xs) (loop .at) loop-test (loop .inv .1 xs ys h k))
 
 pub is-lost-spec : {M : Type 1} → statement M
 is-lost-spec =
@@ -114,7 +120,7 @@ is-lost-spec =
     Inv-loop
     μ-loop
     loop-holds
--- by search: width-at-requires
+    -- by search: width-at-requires
     (λ c κs. search needs)
     add-next
     is-lost-code-requires

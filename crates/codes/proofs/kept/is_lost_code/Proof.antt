@@ -22,15 +22,16 @@ returns-2 c =
     let is-non-removable = c .before .before .is-non-removable in
     let if1 = c .before .if1 .left in
     let has-code = c .has-code in
-    λ qs o. lost-some (items qs) (drop (args .at) (args .old .now)) _ (sym (is-non-removable .ensures) ∙ not-false _ if1) (has-code .ensures qs o)
+    λ qs o. lost-some (items qs) (drop (args .at) (args .old .now)) _ (sym (is-non-removable .ensures) ∙ not-false _ if1)
+    (has-code .ensures qs o)
 
 pub is-lost-code-spec : {M : Type 1} → statement M
 is-lost-code-spec =
     tie.close
     (tie.spec
--- by search: is-non-removable-requires
+    -- by search: is-non-removable-requires
     (λ c κs. search needs)
     returns
--- by search: has-code-requires
+    -- by search: has-code-requires
     (λ c κs. search needs)
     returns-2)

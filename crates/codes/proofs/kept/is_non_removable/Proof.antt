@@ -22,16 +22,18 @@ returns c =
 -- `at + 9`
 add-result : tie.Need-add-result
 add-result c =
-    let args = c .before .before .before .args in
-    let pre = c .before .before .before .pre in
+    let start = c .before .before .before in
+    let args = start .args in
+    let pre = start .pre in
     let code-at = c .before .code-at in
     omega (arith, code-there (args .c .now) (args .at) pre (omega (arith, code-at .ensures)))
 
 -- `c[at + 9]`
 shared-slice-read-result : tie.Need-shared-slice-read-result
 shared-slice-read-result c =
-    let args = c .before .before .before .before .args in
-    let pre = c .before .before .before .before .pre in
+    let start = c .before .before .before .before in
+    let args = start .args in
+    let pre = start .pre in
     let code-at = c .before .before .code-at in
     omega (arith, code-there (args .c .now) (args .at) pre (omega (arith, code-at .ensures)))
 
@@ -48,7 +50,7 @@ pub is-non-removable-spec : {M : Type 1} → statement M
 is-non-removable-spec =
     tie.close
     (tie.spec
--- by search: code-at-requires
+    -- by search: code-at-requires
     (λ c κs. search needs)
     returns
     add-result
