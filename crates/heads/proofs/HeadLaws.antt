@@ -74,7 +74,7 @@ segment-read t h e = ap (λ (x : List ℕ). marked x (83 ∷ 71 ∷ [])) (sym e)
 abbrev read : List ℕ → unit.Segment
 read t = record { id = two-at t 2; canResegment = getD t 4 0; state = getD t 5 0 }
 
-fields-read : (t : List ℕ) (f : unit.Segment) → head-bytes (segment f) ≡ t → read t ≡ f
+pub fields-read : (t : List ℕ) (f : unit.Segment) → head-bytes (segment f) ≡ t → read t ≡ f
 unfolding head-bytes two two-at
 fields-read t f e = ap read (sym e) ∙ ap (λ (i : ℕ). record { id = i; canResegment = f .canResegment; state = f .state }) (two-value (f .id))
 
