@@ -9,6 +9,7 @@ use Rattle.xliff.specs.Bytes.{two, two-at}
 use Rattle.xliff.specs.Unit as unit
 use Rattle.xliff.specs.Unit.{Opening, Head, segment, ignorable, with-id, with-state}
 use Rattle.xliff.specs.Encode.{opening, target-head, record-bytes, head-bytes}
+use Rattle.xliff.specs.Parse.{segment-at}
 use Rattle.xliff.proofs.lists.Tests.{two-value}
 use Rattle.marks.specs.Marks.{marked}
 use Rattle.writer.specs.Pieces.{lead, overlay, numberBytes, Written}
@@ -71,15 +72,11 @@ marked-segment (ignorable i) = refl
 pub segment-read : (t : List ℕ) → SegmentIs t (marked t (83 ∷ 71 ∷ []))
 segment-read t h e = ap (λ (x : List ℕ). marked x (83 ∷ 71 ∷ [])) (sym e) ∙ marked-segment h
 
-abbrev read : List ℕ → unit.Segment
-read t = record { id = two-at t 2; canResegment = getD t 4 0; state = getD t 5 0 }
-
-pub fields-read : (t : List ℕ) (f : unit.Segment) → head-bytes (segment f) ≡ t → read t ≡ f
-unfolding head-bytes two two-at
-fields-read t f e = ap read (sym e) ∙ ap (λ (i : ℕ). record { id = i; canResegment = f .canResegment; state = f .state }) (two-value (f .id))
-
-pub fields-of : (t : List ℕ) (n : ℕ) → n ≡ two-at t 2 → FieldsAre t (record { id = n; «can_resegment» = getD t 4 0; state = getD t 5 0 })
-fields-of t n k f e = ap (λ (i : ℕ). record { id = i; canResegment = getD t 4 0; state = getD t 5 0 }) k ∙ fields-read t f e
+-- the fields that stand in the bytes of a segment's head are its fields
+pub fields-read : (t : List ℕ) (f : unit.Segment) → head-bytes (segment f) ≡ t → segment-at t ≡ f
+unfolding segment-at head-bytes two two-at
+fields-read t f e =
+    ap segment-at (sym e) ∙ ap (λ (i : ℕ). record { id = i; canResegment = f .canResegment; state = f .state }) (two-value (f .id))
 
 pub order-read : (t : List ℕ) → OrderIs t (two-at t 2)
 unfolding record-bytes two two-at

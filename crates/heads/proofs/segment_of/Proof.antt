@@ -1,6 +1,7 @@
 use lib.ListN.{length}
 use mathlib.Core.Path.{ap, _∙_}
 use native.Mathlib.Omega.{arith}
+use Rattle.xliff.specs.Parse.{segment-at}
 use Rattle.heads.specs.Heads.{fields}
 use Rattle.heads.proofs.HeadLaws.{segment-long, fields-read}
 use Rattle.heads.proofs.segment_of.Statement.{statement}
@@ -14,6 +15,7 @@ segment-fields-requires c κs =
 
 -- what the reader finds are the segment's fields
 returns : tie.Need-returns
+unfolding segment-at
 returns c =
     let head = c .before .before .args .head .now in
     λ f e. ap fields (c .segment-fields .ensures) ∙ fields-read head f e
