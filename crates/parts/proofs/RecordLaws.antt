@@ -59,13 +59,16 @@ others-stay f (target-head q) (target-in l) e = absurd (true≢false e)
 others-stay f (inline x) (item-in g) e = refl
 others-stay f (text-run cs) (text-in a l) e = refl
 
+as-target : (r : Record) (b : ATarget r) (t : List ℕ) → t ≡ record-bytes r → t ≡ record-bytes (target-head (b .order)) ++ []
+as-target r b t e = e ∙ ap record-bytes (b .is) ∙ sym (append-nil (record-bytes (target-head (b .order))))
+
 pub some-target : (r : Record) → ATarget r → (t : List ℕ) → t ≡ record-bytes r → SomeTarget t
-some-target r b t e = (b .order, [], e ∙ ap record-bytes (b .is) ∙ sym (append-nil (record-bytes (target-head (b .order)))))
+some-target r b t e = (b .order, [], as-target r b t e)
 
 -- a target whose order n was read
 module _ (r : Record) (b : ATarget r) (t : List ℕ) (e : t ≡ record-bytes r) (n : ℕ) (read : OrderIs t n) where
   pub order-is : n ≡ b .order
-  order-is = read (b .order) [] (some-target r b t e .2)
+  order-is = read (b .order) [] (as-target r b t e)
 
   -- it is written with the order k
   pub moved-room : (k : ℕ) (o : List ℕ) → length t ≤ length o → length (record-bytes (target-head k)) ≤ length o

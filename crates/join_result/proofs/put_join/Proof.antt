@@ -12,28 +12,237 @@ use borrow.Author.Needs.{needs}
 use Rattle.join_result.proofs.put_join.Statement.{statement}
 use Rattle.join_result.proofs.put_join.Tie as tie
 
+-- src/lib.rt:50:9
+falls-above-requires : tie.Need-falls-above-requires
+falls-above-requires c κs =
+    table-passes (c .before .before .args .t .now) (c .shared-slice-known .given) (c .before .before .pre .0)
+
+-- src/lib.rt:53:30
+slice-aggregate-put : tie.Need-slice-aggregate-put
+slice-aggregate-put c =
+    let after-shared-slice-known = c .before .before .before .before .before in
+    let start = after-shared-slice-known .before .before in
+    let t = start .args .t .now in
+    let known = after-shared-slice-known .shared-slice-known .given in
+    let (v, b, p, q, a, s, room) = start .pre in
+    opening-long t (unit t) (table-of t (bytes-known t known) v)
+
+-- src/lib.rt:53:9
+put-requires : tie.Need-put-requires
+put-requires c κs =
+    let after-shared-slice-known = c .before .before .before .before .before in
+    let start = after-shared-slice-known .before .before in
+    let args = start .args in
+    let t = args .t .now in
+    let known = after-shared-slice-known .shared-slice-known .given in
+    let falls-above = c .before .before .before .before .falls-above in
+    let order-of-two = c .before .before .before .order-of-two in
+    let lowered = c .before .before .lowered in
+    let (v, b, p, q, a, s, room) = start .pre in
+    first-room (unit-pieces t (args .x) (args .y) b p q a s (falls-above .result) (falls-above .ensures)
+    (lowered .result) (lowered .ensures ∙ ap (lower-above (falls-above .result)) (order-of-two .ensures))
+    (table-of t (bytes-known t known) v)) (args .out .now) room
+
+-- src/lib.rt:54:30
+sub-put-joined-parts : tie.Need-sub-put-joined-parts
+sub-put-joined-parts c =
+    let after-lowered = c .before .before .before .before .before in
+    let start = after-lowered .before .before .before .before .before in
+    let args = start .args in
+    let t = args .t .now in
+    let known = after-lowered .before .before .before .shared-slice-known .given in
+    let falls-above = after-lowered .before .before .falls-above in
+    let order-of-two = after-lowered .before .order-of-two in
+    let lowered = after-lowered .lowered in
+    let (v, b, p, q, a, s, room) = start .pre in
+    second-start (unit-pieces t (args .x) (args .y) b p q a s (falls-above .result) (falls-above .ensures)
+    (lowered .result) (lowered .ensures ∙ ap (lower-above (falls-above .result)) (order-of-two .ensures))
+    (table-of t (bytes-known t known) v)) (args .out .now) room (c .before .before .put .ensures)
+
+-- src/lib.rt:54:30
+part-put-joined-parts-start : tie.Need-part-put-joined-parts-start
+part-put-joined-parts-start c =
+    let after-lowered = c .before .before .before .before .before in
+    let start = after-lowered .before .before .before .before .before in
+    let args = start .args in
+    let t = args .t .now in
+    let known = after-lowered .before .before .before .shared-slice-known .given in
+    let falls-above = after-lowered .before .before .falls-above in
+    let order-of-two = after-lowered .before .order-of-two in
+    let lowered = after-lowered .lowered in
+    let (v, b, p, q, a, s, room) = start .pre in
+    second-start (unit-pieces t (args .x) (args .y) b p q a s (falls-above .result) (falls-above .ensures)
+    (lowered .result) (lowered .ensures ∙ ap (lower-above (falls-above .result)) (order-of-two .ensures))
+    (table-of t (bytes-known t known) v)) (args .out .now) room (c .before .before .put .ensures)
+
+-- src/lib.rt:54:9
+put-joined-parts-requires : tie.Need-put-joined-parts-requires
+put-joined-parts-requires c κs =
+    let after-lowered = c .before .before .before .before .before .before in
+    let start = after-lowered .before .before .before .before .before in
+    let args = start .args in
+    let t = args .t .now in
+    let known = after-lowered .before .before .before .shared-slice-known .given in
+    let falls-above = after-lowered .before .before .falls-above in
+    let order-of-two = after-lowered .before .order-of-two in
+    let lowered = after-lowered .lowered in
+    let put = c .before .before .before .put in
+    let (v, b, p, q, a, s, room) = start .pre in (
+      v,
+      b,
+      p,
+      q,
+      a,
+      s,
+      second-room (unit-pieces t (args .x) (args .y) b p q a s (falls-above .result) (falls-above .ensures)
+          (lowered .result) (lowered .ensures ∙ ap (lower-above (falls-above .result)) (order-of-two .ensures))
+          (table-of t (bytes-known t known) v)) (args .out .now) room (put .ensures),
+    )
+
+-- src/lib.rt:55:13
+add-l : tie.Need-add-l
+add-l c =
+    let after-put = c .before .before .before .before .before .before in
+    let after-falls-above = after-put .before .before .before .before .before in
+    let start = after-falls-above .before .before .before in
+    let args = start .args in
+    let t = args .t .now in
+    let known = after-falls-above .before .shared-slice-known .given in
+    let falls-above = after-falls-above .falls-above in
+    let order-of-two = after-put .before .before .before .before .order-of-two in
+    let lowered = after-put .before .before .before .lowered in
+    let put = after-put .put in
+    let (v, b, p, q, a, s, room) = start .pre in
+    omega (
+      arith,
+      two-fit (unit-pieces t (args .x) (args .y) b p q a s (falls-above .result) (falls-above .ensures)
+          (lowered .result) (lowered .ensures ∙ ap (lower-above (falls-above .result)) (order-of-two .ensures))
+          (table-of t (bytes-known t known) v)) (args .out .now) room (put .ensures)
+          (c .before .before .put-joined-parts .ensures b p q a s),
+    )
+
+-- src/lib.rt:56:25
+sub-put : tie.Need-sub-put
+sub-put c =
+    let after-put = c .before .before .before .before .before .before in
+    let after-falls-above = after-put .before .before .before .before .before in
+    let start = after-falls-above .before .before .before in
+    let args = start .args in
+    let t = args .t .now in
+    let known = after-falls-above .before .shared-slice-known .given in
+    let falls-above = after-falls-above .falls-above in
+    let order-of-two = after-put .before .before .before .before .order-of-two in
+    let lowered = after-put .before .before .before .lowered in
+    let put = after-put .put in
+    let (v, b, p, q, a, s, room) = start .pre in
+    third-start (unit-pieces t (args .x) (args .y) b p q a s (falls-above .result) (falls-above .ensures)
+    (lowered .result) (lowered .ensures ∙ ap (lower-above (falls-above .result)) (order-of-two .ensures))
+    (table-of t (bytes-known t known) v)) (args .out .now) room (put .ensures)
+    (c .before .before .put-joined-parts .ensures b p q a s)
+
+-- src/lib.rt:56:25
+part-put-start : tie.Need-part-put-start
+part-put-start c =
+    let after-put = c .before .before .before .before .before .before in
+    let after-falls-above = after-put .before .before .before .before .before in
+    let start = after-falls-above .before .before .before in
+    let args = start .args in
+    let t = args .t .now in
+    let known = after-falls-above .before .shared-slice-known .given in
+    let falls-above = after-falls-above .falls-above in
+    let order-of-two = after-put .before .before .before .before .order-of-two in
+    let lowered = after-put .before .before .before .lowered in
+    let put = after-put .put in
+    let (v, b, p, q, a, s, room) = start .pre in
+    third-start (unit-pieces t (args .x) (args .y) b p q a s (falls-above .result) (falls-above .ensures)
+    (lowered .result) (lowered .ensures ∙ ap (lower-above (falls-above .result)) (order-of-two .ensures))
+    (table-of t (bytes-known t known) v)) (args .out .now) room (put .ensures)
+    (c .before .before .put-joined-parts .ensures b p q a s)
+
+-- src/lib.rt:56:9
+put-requires-2 : tie.Need-put-requires-2
+put-requires-2 c κs =
+    let after-put = c .before .before .before .before .before .before .before .before in
+    let after-falls-above = after-put .before .before .before .before .before in
+    let start = after-falls-above .before .before .before in
+    let args = start .args in
+    let t = args .t .now in
+    let known = after-falls-above .before .shared-slice-known .given in
+    let falls-above = after-falls-above .falls-above in
+    let order-of-two = after-put .before .before .before .before .order-of-two in
+    let lowered = after-put .before .before .before .lowered in
+    let put = after-put .put in
+    let put-joined-parts = c .before .before .before .before .put-joined-parts in
+    let (v, b, p, q, a, s, room) = start .pre in
+    third-room (unit-pieces t (args .x) (args .y) b p q a s (falls-above .result) (falls-above .ensures)
+    (lowered .result) (lowered .ensures ∙ ap (lower-above (falls-above .result)) (order-of-two .ensures))
+    (table-of t (bytes-known t known) v)) (args .out .now) room (put .ensures) (put-joined-parts .ensures b p q a s)
+
+-- src/lib.rt:57:5
+add-result : tie.Need-add-result
+add-result c =
+    let after-put-joined-parts = c .before .before .before .before .before .before .before in
+    let after-lowered = after-put-joined-parts .before .before .before .before .before .before .before in
+    let start = after-lowered .before .before .before .before .before in
+    let args = start .args in
+    let t = args .t .now in
+    let known = after-lowered .before .before .before .shared-slice-known .given in
+    let falls-above = after-lowered .before .before .falls-above in
+    let order-of-two = after-lowered .before .order-of-two in
+    let lowered = after-lowered .lowered in
+    let put = after-put-joined-parts .before .before .before .before .put in
+    let put-joined-parts = after-put-joined-parts .put-joined-parts in
+    let (v, b, p, q, a, s, room) = start .pre in
+    omega (
+      arith,
+      three-fit (unit-pieces t (args .x) (args .y) b p q a s (falls-above .result) (falls-above .ensures)
+          (lowered .result) (lowered .ensures ∙ ap (lower-above (falls-above .result)) (order-of-two .ensures))
+          (table-of t (bytes-known t known) v)) (args .out .now) room (put .ensures)
+          (put-joined-parts .ensures b p q a s) (c .before .before .put2 .ensures .0),
+    )
+
+-- src/lib.rt:46:1
+returns : tie.Need-returns
+returns c =
+    let after-put-joined-parts = c .before .before .before .before .before .before .before in
+    let after-lowered = after-put-joined-parts .before .before .before .before .before .before .before in
+    let start = after-lowered .before .before .before .before .before in
+    let args = start .args in
+    let t = args .t .now in
+    let known = after-lowered .before .before .before .shared-slice-known .given in
+    let falls-above = after-lowered .before .before .falls-above in
+    let order-of-two = after-lowered .before .order-of-two in
+    let lowered = after-lowered .lowered in
+    let put = after-put-joined-parts .before .before .before .before .put in
+    let put-joined-parts = after-put-joined-parts .put-joined-parts in
+    λ b p q a s.
+    let v = (start .pre) .0 in
+    all-wrote (unit-pieces t (args .x) (args .y) b p q a s (falls-above .result) (falls-above .ensures)
+    (lowered .result) (lowered .ensures ∙ ap (lower-above (falls-above .result)) (order-of-two .ensures))
+    (table-of t (bytes-known t known) v)) (args .out .now) (put .ensures) (put-joined-parts .ensures b p q a s)
+    (c .before .before .put2 .ensures)
+
 pub put-join-spec : {M : Type 1} → statement M
 put-join-spec =
     tie.close
     (tie.spec
-    (λ c κs. table-passes (c .before .before .args .t .now) (c .shared-slice-known .given) (c .before .before .pre .0))
-    (λ c κs. search needs)
-    (λ c κs. search needs)
+    falls-above-requires
+    -- by search: order-of-two-requires 51:25, lowered-requires 51:9, sub-e 52:13
+    (λ c κs. search needs) (λ c κs. search needs) (λ c. search needs)
+    slice-aggregate-put
+    put-requires
+    sub-put-joined-parts
+    part-put-joined-parts-start
+    -- by search: part-put-joined-parts-end 54:30
     (λ c. search needs)
-    (λ c. let (v, b, p, q, a, s, room) = (c .before .before .before .before .before .before .before .pre) in opening-long (c .before .before .before .before .before .before .before .args .t .now) (unit (c .before .before .before .before .before .before .before .args .t .now)) (table-of (c .before .before .before .before .before .before .before .args .t .now) (bytes-known (c .before .before .before .before .before .before .before .args .t .now) (c .before .before .before .before .before .shared-slice-known .given)) v))
-    (λ c κs. let (v, b, p, q, a, s, room) = (c .before .before .before .before .before .before .before .pre) in first-room (unit-pieces (c .before .before .before .before .before .before .before .args .t .now) (c .before .before .before .before .before .before .before .args .x) (c .before .before .before .before .before .before .before .args .y) b p q a s (c .before .before .before .before .falls-above .result) (c .before .before .before .before .falls-above .ensures) (c .before .before .lowered .result) (c .before .before .lowered .ensures ∙ ap (lower-above (c .before .before .before .before .falls-above .result)) (c .before .before .before .order-of-two .ensures)) (table-of (c .before .before .before .before .before .before .before .args .t .now) (bytes-known (c .before .before .before .before .before .before .before .args .t .now) (c .before .before .before .before .before .shared-slice-known .given)) v)) (c .before .before .before .before .before .before .before .args .out .now) room)
-    (λ c. let (v, b, p, q, a, s, room) = (c .before .before .before .before .before .before .before .before .before .before .pre) in second-start (unit-pieces (c .before .before .before .before .before .before .before .before .before .before .args .t .now) (c .before .before .before .before .before .before .before .before .before .before .args .x) (c .before .before .before .before .before .before .before .before .before .before .args .y) b p q a s (c .before .before .before .before .before .before .before .falls-above .result) (c .before .before .before .before .before .before .before .falls-above .ensures) (c .before .before .before .before .before .lowered .result) (c .before .before .before .before .before .lowered .ensures ∙ ap (lower-above (c .before .before .before .before .before .before .before .falls-above .result)) (c .before .before .before .before .before .before .order-of-two .ensures)) (table-of (c .before .before .before .before .before .before .before .before .before .before .args .t .now) (bytes-known (c .before .before .before .before .before .before .before .before .before .before .args .t .now) (c .before .before .before .before .before .before .before .before .shared-slice-known .given)) v)) (c .before .before .before .before .before .before .before .before .before .before .args .out .now) room (c .before .before .put .ensures))
-    (λ c. let (v, b, p, q, a, s, room) = (c .before .before .before .before .before .before .before .before .before .before .pre) in second-start (unit-pieces (c .before .before .before .before .before .before .before .before .before .before .args .t .now) (c .before .before .before .before .before .before .before .before .before .before .args .x) (c .before .before .before .before .before .before .before .before .before .before .args .y) b p q a s (c .before .before .before .before .before .before .before .falls-above .result) (c .before .before .before .before .before .before .before .falls-above .ensures) (c .before .before .before .before .before .lowered .result) (c .before .before .before .before .before .lowered .ensures ∙ ap (lower-above (c .before .before .before .before .before .before .before .falls-above .result)) (c .before .before .before .before .before .before .order-of-two .ensures)) (table-of (c .before .before .before .before .before .before .before .before .before .before .args .t .now) (bytes-known (c .before .before .before .before .before .before .before .before .before .before .args .t .now) (c .before .before .before .before .before .before .before .before .shared-slice-known .given)) v)) (c .before .before .before .before .before .before .before .before .before .before .args .out .now) room (c .before .before .put .ensures))
+    put-joined-parts-requires
+    add-l
+    sub-put
+    part-put-start
+    -- by search: part-put-end 56:25, sub-put-2 56:40, part-put-start-2 56:40, part-put-end-2 56:40
+    (λ c. search needs) (λ c. search needs) (λ c. search needs) (λ c. search needs)
+    put-requires-2
+    add-result
+    -- by search: same-length 46:1
     (λ c. search needs)
-    (λ c κs. let (v, b, p, q, a, s, room) = (c .before .before .before .before .before .before .before .before .before .before .before .pre) in (v, b, p, q, a, s, second-room (unit-pieces (c .before .before .before .before .before .before .before .before .before .before .before .args .t .now) (c .before .before .before .before .before .before .before .before .before .before .before .args .x) (c .before .before .before .before .before .before .before .before .before .before .before .args .y) b p q a s (c .before .before .before .before .before .before .before .before .falls-above .result) (c .before .before .before .before .before .before .before .before .falls-above .ensures) (c .before .before .before .before .before .before .lowered .result) (c .before .before .before .before .before .before .lowered .ensures ∙ ap (lower-above (c .before .before .before .before .before .before .before .before .falls-above .result)) (c .before .before .before .before .before .before .before .order-of-two .ensures)) (table-of (c .before .before .before .before .before .before .before .before .before .before .before .args .t .now) (bytes-known (c .before .before .before .before .before .before .before .before .before .before .before .args .t .now) (c .before .before .before .before .before .before .before .before .before .shared-slice-known .given)) v)) (c .before .before .before .before .before .before .before .before .before .before .before .args .out .now) room (c .before .before .before .put .ensures)))
-    (λ c. let (v, b, p, q, a, s, room) = (c .before .before .before .before .before .before .before .before .before .before .before .before .before .before .pre) in omega (arith, two-fit (unit-pieces (c .before .before .before .before .before .before .before .before .before .before .before .before .before .before .args .t .now) (c .before .before .before .before .before .before .before .before .before .before .before .before .before .before .args .x) (c .before .before .before .before .before .before .before .before .before .before .before .before .before .before .args .y) b p q a s (c .before .before .before .before .before .before .before .before .before .before .before .falls-above .result) (c .before .before .before .before .before .before .before .before .before .before .before .falls-above .ensures) (c .before .before .before .before .before .before .before .before .before .lowered .result) (c .before .before .before .before .before .before .before .before .before .lowered .ensures ∙ ap (lower-above (c .before .before .before .before .before .before .before .before .before .before .before .falls-above .result)) (c .before .before .before .before .before .before .before .before .before .before .order-of-two .ensures)) (table-of (c .before .before .before .before .before .before .before .before .before .before .before .before .before .before .args .t .now) (bytes-known (c .before .before .before .before .before .before .before .before .before .before .before .before .before .before .args .t .now) (c .before .before .before .before .before .before .before .before .before .before .before .before .shared-slice-known .given)) v)) (c .before .before .before .before .before .before .before .before .before .before .before .before .before .before .args .out .now) room (c .before .before .before .before .before .before .put .ensures) (c .before .before .put-joined-parts .ensures b p q a s)))
-    (λ c. let (v, b, p, q, a, s, room) = (c .before .before .before .before .before .before .before .before .before .before .before .before .before .before .pre) in third-start (unit-pieces (c .before .before .before .before .before .before .before .before .before .before .before .before .before .before .args .t .now) (c .before .before .before .before .before .before .before .before .before .before .before .before .before .before .args .x) (c .before .before .before .before .before .before .before .before .before .before .before .before .before .before .args .y) b p q a s (c .before .before .before .before .before .before .before .before .before .before .before .falls-above .result) (c .before .before .before .before .before .before .before .before .before .before .before .falls-above .ensures) (c .before .before .before .before .before .before .before .before .before .lowered .result) (c .before .before .before .before .before .before .before .before .before .lowered .ensures ∙ ap (lower-above (c .before .before .before .before .before .before .before .before .before .before .before .falls-above .result)) (c .before .before .before .before .before .before .before .before .before .before .order-of-two .ensures)) (table-of (c .before .before .before .before .before .before .before .before .before .before .before .before .before .before .args .t .now) (bytes-known (c .before .before .before .before .before .before .before .before .before .before .before .before .before .before .args .t .now) (c .before .before .before .before .before .before .before .before .before .before .before .before .shared-slice-known .given)) v)) (c .before .before .before .before .before .before .before .before .before .before .before .before .before .before .args .out .now) room (c .before .before .before .before .before .before .put .ensures) (c .before .before .put-joined-parts .ensures b p q a s))
-    (λ c. let (v, b, p, q, a, s, room) = (c .before .before .before .before .before .before .before .before .before .before .before .before .before .before .pre) in third-start (unit-pieces (c .before .before .before .before .before .before .before .before .before .before .before .before .before .before .args .t .now) (c .before .before .before .before .before .before .before .before .before .before .before .before .before .before .args .x) (c .before .before .before .before .before .before .before .before .before .before .before .before .before .before .args .y) b p q a s (c .before .before .before .before .before .before .before .before .before .before .before .falls-above .result) (c .before .before .before .before .before .before .before .before .before .before .before .falls-above .ensures) (c .before .before .before .before .before .before .before .before .before .lowered .result) (c .before .before .before .before .before .before .before .before .before .lowered .ensures ∙ ap (lower-above (c .before .before .before .before .before .before .before .before .before .before .before .falls-above .result)) (c .before .before .before .before .before .before .before .before .before .before .order-of-two .ensures)) (table-of (c .before .before .before .before .before .before .before .before .before .before .before .before .before .before .args .t .now) (bytes-known (c .before .before .before .before .before .before .before .before .before .before .before .before .before .before .args .t .now) (c .before .before .before .before .before .before .before .before .before .before .before .before .shared-slice-known .given)) v)) (c .before .before .before .before .before .before .before .before .before .before .before .before .before .before .args .out .now) room (c .before .before .before .before .before .before .put .ensures) (c .before .before .put-joined-parts .ensures b p q a s))
-    (λ c. search needs)
-    (λ c. search needs)
-    (λ c. search needs)
-    (λ c. search needs)
-    (λ c κs. let (v, b, p, q, a, s, room) = (c .before .before .before .before .before .before .before .before .before .before .before .before .before .before .before .before .pre) in third-room (unit-pieces (c .before .before .before .before .before .before .before .before .before .before .before .before .before .before .before .before .args .t .now) (c .before .before .before .before .before .before .before .before .before .before .before .before .before .before .before .before .args .x) (c .before .before .before .before .before .before .before .before .before .before .before .before .before .before .before .before .args .y) b p q a s (c .before .before .before .before .before .before .before .before .before .before .before .before .before .falls-above .result) (c .before .before .before .before .before .before .before .before .before .before .before .before .before .falls-above .ensures) (c .before .before .before .before .before .before .before .before .before .before .before .lowered .result) (c .before .before .before .before .before .before .before .before .before .before .before .lowered .ensures ∙ ap (lower-above (c .before .before .before .before .before .before .before .before .before .before .before .before .before .falls-above .result)) (c .before .before .before .before .before .before .before .before .before .before .before .before .order-of-two .ensures)) (table-of (c .before .before .before .before .before .before .before .before .before .before .before .before .before .before .before .before .args .t .now) (bytes-known (c .before .before .before .before .before .before .before .before .before .before .before .before .before .before .before .before .args .t .now) (c .before .before .before .before .before .before .before .before .before .before .before .before .before .before .shared-slice-known .given)) v)) (c .before .before .before .before .before .before .before .before .before .before .before .before .before .before .before .before .args .out .now) room (c .before .before .before .before .before .before .before .before .put .ensures) (c .before .before .before .before .put-joined-parts .ensures b p q a s))
-    (λ c. let (v, b, p, q, a, s, room) = (c .before .before .before .before .before .before .before .before .before .before .before .before .before .before .before .before .before .before .before .pre) in omega (arith, three-fit (unit-pieces (c .before .before .before .before .before .before .before .before .before .before .before .before .before .before .before .before .before .before .before .args .t .now) (c .before .before .before .before .before .before .before .before .before .before .before .before .before .before .before .before .before .before .before .args .x) (c .before .before .before .before .before .before .before .before .before .before .before .before .before .before .before .before .before .before .before .args .y) b p q a s (c .before .before .before .before .before .before .before .before .before .before .before .before .before .before .before .before .falls-above .result) (c .before .before .before .before .before .before .before .before .before .before .before .before .before .before .before .before .falls-above .ensures) (c .before .before .before .before .before .before .before .before .before .before .before .before .before .before .lowered .result) (c .before .before .before .before .before .before .before .before .before .before .before .before .before .before .lowered .ensures ∙ ap (lower-above (c .before .before .before .before .before .before .before .before .before .before .before .before .before .before .before .before .falls-above .result)) (c .before .before .before .before .before .before .before .before .before .before .before .before .before .before .before .order-of-two .ensures)) (table-of (c .before .before .before .before .before .before .before .before .before .before .before .before .before .before .before .before .before .before .before .args .t .now) (bytes-known (c .before .before .before .before .before .before .before .before .before .before .before .before .before .before .before .before .before .before .before .args .t .now) (c .before .before .before .before .before .before .before .before .before .before .before .before .before .before .before .before .before .shared-slice-known .given)) v)) (c .before .before .before .before .before .before .before .before .before .before .before .before .before .before .before .before .before .before .before .args .out .now) room (c .before .before .before .before .before .before .before .before .before .before .before .put .ensures) (c .before .before .before .before .before .before .before .put-joined-parts .ensures b p q a s) (c .before .before .put2 .ensures .0)))
-    (λ c. search needs)
-    (λ c. λ b p q a s. let v = (c .before .before .before .before .before .before .before .before .before .before .before .before .before .before .before .before .before .before .before .pre) .0 in all-wrote (unit-pieces (c .before .before .before .before .before .before .before .before .before .before .before .before .before .before .before .before .before .before .before .args .t .now) (c .before .before .before .before .before .before .before .before .before .before .before .before .before .before .before .before .before .before .before .args .x) (c .before .before .before .before .before .before .before .before .before .before .before .before .before .before .before .before .before .before .before .args .y) b p q a s (c .before .before .before .before .before .before .before .before .before .before .before .before .before .before .before .before .falls-above .result) (c .before .before .before .before .before .before .before .before .before .before .before .before .before .before .before .before .falls-above .ensures) (c .before .before .before .before .before .before .before .before .before .before .before .before .before .before .lowered .result) (c .before .before .before .before .before .before .before .before .before .before .before .before .before .before .lowered .ensures ∙ ap (lower-above (c .before .before .before .before .before .before .before .before .before .before .before .before .before .before .before .before .falls-above .result)) (c .before .before .before .before .before .before .before .before .before .before .before .before .before .before .before .order-of-two .ensures)) (table-of (c .before .before .before .before .before .before .before .before .before .before .before .before .before .before .before .before .before .before .before .args .t .now) (bytes-known (c .before .before .before .before .before .before .before .before .before .before .before .before .before .before .before .before .before .before .before .args .t .now) (c .before .before .before .before .before .before .before .before .before .before .before .before .before .before .before .before .before .shared-slice-known .given)) v)) (c .before .before .before .before .before .before .before .before .before .before .before .before .before .before .before .before .before .before .before .args .out .now) (c .before .before .before .before .before .before .before .before .before .before .before .put .ensures) (c .before .before .before .before .before .before .before .put-joined-parts .ensures b p q a s) (c .before .before .put2 .ensures)))
+    returns)

@@ -1,4 +1,4 @@
-use Rattle.join_result.proofs.ResultLaws.{parts-pieces}
+use Rattle.join_result.proofs.ResultLaws.{two-parts, parts-pieces}
 use Rattle.parts.proofs.PlaceLaws.{before-in, behind-in}
 use Rattle.parts.proofs.OrderLaws.{parts-room}
 use Rattle.parts.specs.Parts.{moved}
@@ -15,27 +15,205 @@ use borrow.Author.Needs.{needs}
 use Rattle.join_result.proofs.put_joined_parts.Statement.{statement}
 use Rattle.join_result.proofs.put_joined_parts.Tie as tie
 
+-- src/lib.rt:38:9
+put-parts-requires : tie.Need-put-parts-requires
+put-parts-requires c κs =
+    let start = c .before .before .before .before in
+    let args = start .args in
+    let q₀ = args .q in
+    let x = args .x in
+    let t = args .t .now in
+    let out = args .out .now in
+    let (v, b, p, q, a, s, room) = start .pre in
+    parts-room (moved false q₀) (take (x .head - 3) (drop 3 t)) b
+    (before-in t (c .before .before .shared-slice-known .given) v b p (q ∷ a) x (s .first)) out
+    (first-room (parts-pieces q₀ (args .order) b p q a) out room)
+
+-- src/lib.rt:39:42
+sub-put-joined-part : tie.Need-sub-put-joined-part
+sub-put-joined-part c =
+    let after-shared-slice-known = c .before .before .before .before .before in
+    let start = after-shared-slice-known .before .before in
+    let args = start .args in
+    let known = after-shared-slice-known .shared-slice-known .given in
+    let (v, b, p, q, a, s, room) = start .pre in
+    second-start (parts-pieces (args .q) (args .order) b p q a) (args .out .now) room
+    (c .before .before .put-parts .ensures b (before-in (args .t .now) known v b p (q ∷ a) (args .x) (s .first)))
+
+-- src/lib.rt:39:42
+part-put-joined-part-start : tie.Need-part-put-joined-part-start
+part-put-joined-part-start c =
+    let after-shared-slice-known = c .before .before .before .before .before in
+    let start = after-shared-slice-known .before .before in
+    let args = start .args in
+    let known = after-shared-slice-known .shared-slice-known .given in
+    let (v, b, p, q, a, s, room) = start .pre in
+    second-start (parts-pieces (args .q) (args .order) b p q a) (args .out .now) room
+    (c .before .before .put-parts .ensures b (before-in (args .t .now) known v b p (q ∷ a) (args .x) (s .first)))
+
+-- src/lib.rt:39:9
+put-joined-part-requires : tie.Need-put-joined-part-requires
+put-joined-part-requires c κs =
+    let after-shared-slice-known = c .before .before .before .before .before .before in
+    let start = after-shared-slice-known .before .before in
+    let args = start .args in
+    let t = args .t .now in
+    let x = args .x in
+    let known = after-shared-slice-known .shared-slice-known .given in
+    let put-parts = c .before .before .before .put-parts in
+    let (v, b, p, q, a, s, room) = start .pre in (
+      two-parts t x (args .y) b p q a s,
+      small-table t v,
+      second-room (parts-pieces (args .q) (args .order) b p q a) (args .out .now) room
+          (put-parts .ensures b (before-in t known v b p (q ∷ a) x (s .first))),
+    )
+
+-- src/lib.rt:40:13
+add-k : tie.Need-add-k
+add-k c =
+    let after-put-parts = c .before .before .before .before .before .before in
+    let start = after-put-parts .before .before .before .before .before in
+    let args = start .args in
+    let t = args .t .now in
+    let x = args .x in
+    let known = after-put-parts .before .before .before .shared-slice-known .given in
+    let put-parts = after-put-parts .put-parts in
+    let (v, b, p, q, a, s, room) = start .pre in
+    omega (
+      arith,
+      two-fit (parts-pieces (args .q) (args .order) b p q a) (args .out .now) room
+          (put-parts .ensures b (before-in t known v b p (q ∷ a) x (s .first)))
+          (c .before .before .put-joined-part .ensures (two-parts t x (args .y) b p q a s)),
+    )
+
+-- src/lib.rt:41:30
+sub-put-parts-2 : tie.Need-sub-put-parts-2
+sub-put-parts-2 c =
+    let after-put-parts = c .before .before .before .before .before .before in
+    let start = after-put-parts .before .before .before .before .before in
+    let args = start .args in
+    let t = args .t .now in
+    let x = args .x in
+    let known = after-put-parts .before .before .before .shared-slice-known .given in
+    let put-parts = after-put-parts .put-parts in
+    let (v, b, p, q, a, s, room) = start .pre in
+    third-start (parts-pieces (args .q) (args .order) b p q a) (args .out .now) room
+    (put-parts .ensures b (before-in t known v b p (q ∷ a) x (s .first)))
+    (c .before .before .put-joined-part .ensures (two-parts t x (args .y) b p q a s))
+
+-- src/lib.rt:41:30
+part-put-parts-start-2 : tie.Need-part-put-parts-start-2
+part-put-parts-start-2 c =
+    let after-put-parts = c .before .before .before .before .before .before in
+    let start = after-put-parts .before .before .before .before .before in
+    let args = start .args in
+    let t = args .t .now in
+    let x = args .x in
+    let known = after-put-parts .before .before .before .shared-slice-known .given in
+    let put-parts = after-put-parts .put-parts in
+    let (v, b, p, q, a, s, room) = start .pre in
+    third-start (parts-pieces (args .q) (args .order) b p q a) (args .out .now) room
+    (put-parts .ensures b (before-in t known v b p (q ∷ a) x (s .first)))
+    (c .before .before .put-joined-part .ensures (two-parts t x (args .y) b p q a s))
+
+-- src/lib.rt:41:45
+sub-put-parts-3 : tie.Need-sub-put-parts-3
+sub-put-parts-3 c =
+    let start = c .before .before .before .before .before .before .before .before .before .before .before .before in
+    let (v, b, p, q, a, s, room) = start .pre in
+    omega (arith, end-within (start .args .t .now) (b ++ (p ∷ [])) q a (start .args .y) (s .second))
+
+-- src/lib.rt:41:45
+part-put-parts-start-3 : tie.Need-part-put-parts-start-3
+part-put-parts-start-3 c =
+    let start = c .before .before .before .before .before .before .before .before .before .before .before .before in
+    let (v, b, p, q, a, s, room) = start .pre in
+    omega (arith, end-within (start .args .t .now) (b ++ (p ∷ [])) q a (start .args .y) (s .second))
+
+-- src/lib.rt:41:9
+put-parts-requires-2 : tie.Need-put-parts-requires-2
+put-parts-requires-2 c κs =
+    let after-put-parts = c .before .before .before .before .before .before .before .before in
+    let start = after-put-parts .before .before .before .before .before in
+    let known = after-put-parts .before .before .before .shared-slice-known .given in
+    let put-parts = after-put-parts .put-parts in
+    let put-joined-part = c .before .before .before .before .put-joined-part in
+    let (v, b, p, q, a, s, room) = start .pre in
+    parts-room (moved false (start .args .q))
+    (take (length (start .args .t .now) - 2 - (start .args) .y .end)
+    (drop (start .args .y .end) (start .args .t .now))) a
+    (behind-in (start .args .t .now) known v (b ++ (p ∷ [])) q a (start .args .y) (s .second))
+    (rest (put-parts .result + put-joined-part .result)
+    (back (put-parts .result) (put-parts .last .0) (put-joined-part .last .0)))
+    (third-room (parts-pieces (start .args .q) (start .args .order) b p q a) (start .args .out .now) room
+    (put-parts .ensures b (before-in (start .args .t .now) known v b p (q ∷ a) (start .args .x) (s .first)))
+    (put-joined-part .ensures (two-parts (start .args .t .now) (start .args .x) (start .args .y) b p q a s)))
+
+-- src/lib.rt:42:5
+add-result : tie.Need-add-result
+add-result c =
+    let after-put-joined-part = c .before .before .before .before .before .before .before in
+    let after-shared-slice-known = after-put-joined-part .before .before .before .before .before .before .before in
+    let start = after-shared-slice-known .before .before in
+    let args = start .args in
+    let t = args .t .now in
+    let x = args .x in
+    let y = args .y in
+    let known = after-shared-slice-known .shared-slice-known .given in
+    let put-parts = after-put-joined-part .before .before .before .before .put-parts in
+    let put-joined-part = after-put-joined-part .put-joined-part in
+    let (v, b, p, q, a, s, room) = start .pre in
+    omega (
+      arith,
+      three-fit (parts-pieces (args .q) (args .order) b p q a) (args .out .now) room
+          (put-parts .ensures b (before-in t known v b p (q ∷ a) x (s .first)))
+          (put-joined-part .ensures (two-parts t x y b p q a s))
+          ((c .before .before .put-parts2 .ensures a (behind-in t known v (b ++ (p ∷ [])) q a y (s .second))) .0),
+    )
+
+-- src/lib.rt:24:1
+returns : tie.Need-returns
+returns c =
+    let after-put-joined-part = c .before .before .before .before .before .before .before in
+    let after-shared-slice-known = after-put-joined-part .before .before .before .before .before .before .before in
+    let start = after-shared-slice-known .before .before in
+    let args = start .args in
+    let t = args .t .now in
+    let x = args .x in
+    let y = args .y in
+    let known = after-shared-slice-known .shared-slice-known .given in
+    let put-parts = after-put-joined-part .before .before .before .before .put-parts in
+    let put-joined-part = after-put-joined-part .put-joined-part in
+    λ b p q a s.
+    let v = (start .pre) .0 in
+    all-wrote (parts-pieces (args .q) (args .order) b p q a) (args .out .now)
+    (put-parts .ensures b (before-in t known v b p (q ∷ a) x (s .first)))
+    (put-joined-part .ensures (two-parts t x y b p q a s))
+    (c .before .before .put-parts2 .ensures a (behind-in t known v (b ++ (p ∷ [])) q a y (s .second)))
+
 pub put-joined-parts-spec : {M : Type 1} → statement M
 put-joined-parts-spec =
     tie.close
     (tie.spec
+    -- by search: sub-e 37:13, sub-put-parts 38:35, part-put-parts-start 38:35, part-put-parts-end 38:35
+    (λ c. search needs) (λ c. search needs) (λ c. search needs) (λ c. search needs)
+    put-parts-requires
+    sub-put-joined-part
+    part-put-joined-part-start
+    -- by search: part-put-joined-part-end 39:42
     (λ c. search needs)
+    put-joined-part-requires
+    add-k
+    sub-put-parts-2
+    part-put-parts-start-2
+    -- by search: part-put-parts-end-2 41:30
     (λ c. search needs)
+    sub-put-parts-3
+    part-put-parts-start-3
+    -- by search: part-put-parts-end-3 41:45
     (λ c. search needs)
+    put-parts-requires-2
+    add-result
+    -- by search: same-length 24:1
     (λ c. search needs)
-    (λ c κs. let (v, b, p, q, a, s, room) = (c .before .before .before .before .pre) in parts-room (moved false (c .before .before .before .before .args .q)) (take (c .before .before .before .before .args .x .head - 3) (drop 3 (c .before .before .before .before .args .t .now))) b (before-in (c .before .before .before .before .args .t .now) (c .before .before .shared-slice-known .given) v b p (q ∷ a) (c .before .before .before .before .args .x) (s .first)) (c .before .before .before .before .args .out .now) (first-room (parts-pieces (c .before .before .before .before .args .q) (c .before .before .before .before .args .order) b p q a) (c .before .before .before .before .args .out .now) room))
-    (λ c. let (v, b, p, q, a, s, room) = (c .before .before .before .before .before .before .before .pre) in second-start (parts-pieces (c .before .before .before .before .before .before .before .args .q) (c .before .before .before .before .before .before .before .args .order) b p q a) (c .before .before .before .before .before .before .before .args .out .now) room (c .before .before .put-parts .ensures b (before-in (c .before .before .before .before .before .before .before .args .t .now) (c .before .before .before .before .before .shared-slice-known .given) v b p (q ∷ a) (c .before .before .before .before .before .before .before .args .x) (s .first))))
-    (λ c. let (v, b, p, q, a, s, room) = (c .before .before .before .before .before .before .before .pre) in second-start (parts-pieces (c .before .before .before .before .before .before .before .args .q) (c .before .before .before .before .before .before .before .args .order) b p q a) (c .before .before .before .before .before .before .before .args .out .now) room (c .before .before .put-parts .ensures b (before-in (c .before .before .before .before .before .before .before .args .t .now) (c .before .before .before .before .before .shared-slice-known .given) v b p (q ∷ a) (c .before .before .before .before .before .before .before .args .x) (s .first))))
-    (λ c. search needs)
-    (λ c κs. let (v, b, p, q, a, s, room) = (c .before .before .before .before .before .before .before .before .pre) in record { before = b; first = p; after = q ∷ a; before′ = b ++ (p ∷ []); second = q; after′ = a; there = s .first; there′ = s .second; small = small-table (c .before .before .before .before .before .before .before .before .args .t .now) v; room = second-room (parts-pieces (c .before .before .before .before .before .before .before .before .args .q) (c .before .before .before .before .before .before .before .before .args .order) b p q a) (c .before .before .before .before .before .before .before .before .args .out .now) room (c .before .before .before .put-parts .ensures b (before-in (c .before .before .before .before .before .before .before .before .args .t .now) (c .before .before .before .before .before .before .shared-slice-known .given) v b p (q ∷ a) (c .before .before .before .before .before .before .before .before .args .x) (s .first))) })
-    (λ c. let (v, b, p, q, a, s, room) = (c .before .before .before .before .before .before .before .before .before .before .before .pre) in omega (arith, two-fit (parts-pieces (c .before .before .before .before .before .before .before .before .before .before .before .args .q) (c .before .before .before .before .before .before .before .before .before .before .before .args .order) b p q a) (c .before .before .before .before .before .before .before .before .before .before .before .args .out .now) room (c .before .before .before .before .before .before .put-parts .ensures b (before-in (c .before .before .before .before .before .before .before .before .before .before .before .args .t .now) (c .before .before .before .before .before .before .before .before .before .shared-slice-known .given) v b p (q ∷ a) (c .before .before .before .before .before .before .before .before .before .before .before .args .x) (s .first))) (c .before .before .put-joined-part .ensures b p (q ∷ a) (b ++ (p ∷ [])) q a (s .first) (s .second))))
-    (λ c. let (v, b, p, q, a, s, room) = (c .before .before .before .before .before .before .before .before .before .before .before .pre) in third-start (parts-pieces (c .before .before .before .before .before .before .before .before .before .before .before .args .q) (c .before .before .before .before .before .before .before .before .before .before .before .args .order) b p q a) (c .before .before .before .before .before .before .before .before .before .before .before .args .out .now) room (c .before .before .before .before .before .before .put-parts .ensures b (before-in (c .before .before .before .before .before .before .before .before .before .before .before .args .t .now) (c .before .before .before .before .before .before .before .before .before .shared-slice-known .given) v b p (q ∷ a) (c .before .before .before .before .before .before .before .before .before .before .before .args .x) (s .first))) (c .before .before .put-joined-part .ensures b p (q ∷ a) (b ++ (p ∷ [])) q a (s .first) (s .second)))
-    (λ c. let (v, b, p, q, a, s, room) = (c .before .before .before .before .before .before .before .before .before .before .before .pre) in third-start (parts-pieces (c .before .before .before .before .before .before .before .before .before .before .before .args .q) (c .before .before .before .before .before .before .before .before .before .before .before .args .order) b p q a) (c .before .before .before .before .before .before .before .before .before .before .before .args .out .now) room (c .before .before .before .before .before .before .put-parts .ensures b (before-in (c .before .before .before .before .before .before .before .before .before .before .before .args .t .now) (c .before .before .before .before .before .before .before .before .before .shared-slice-known .given) v b p (q ∷ a) (c .before .before .before .before .before .before .before .before .before .before .before .args .x) (s .first))) (c .before .before .put-joined-part .ensures b p (q ∷ a) (b ++ (p ∷ [])) q a (s .first) (s .second)))
-    (λ c. search needs)
-    (λ c. let (v, b, p, q, a, s, room) = (c .before .before .before .before .before .before .before .before .before .before .before .before .pre) in omega (arith, end-within (c .before .before .before .before .before .before .before .before .before .before .before .before .args .t .now) (b ++ (p ∷ [])) q a (c .before .before .before .before .before .before .before .before .before .before .before .before .args .y) (s .second)))
-    (λ c. let (v, b, p, q, a, s, room) = (c .before .before .before .before .before .before .before .before .before .before .before .before .pre) in omega (arith, end-within (c .before .before .before .before .before .before .before .before .before .before .before .before .args .t .now) (b ++ (p ∷ [])) q a (c .before .before .before .before .before .before .before .before .before .before .before .before .args .y) (s .second)))
-    (λ c. search needs)
-    (λ c κs. let (v, b, p, q, a, s, room) = (c .before .before .before .before .before .before .before .before .before .before .before .before .before .pre) in parts-room (moved false (c .before .before .before .before .before .before .before .before .before .before .before .before .before .args .q)) (take (length (c .before .before .before .before .before .before .before .before .before .before .before .before .before .args .t .now) - 2 - (c .before .before .before .before .before .before .before .before .before .before .before .before .before .args) .y .end) (drop (c .before .before .before .before .before .before .before .before .before .before .before .before .before .args .y .end) (c .before .before .before .before .before .before .before .before .before .before .before .before .before .args .t .now))) a (behind-in (c .before .before .before .before .before .before .before .before .before .before .before .before .before .args .t .now) (c .before .before .before .before .before .before .before .before .before .before .before .shared-slice-known .given) v (b ++ (p ∷ [])) q a (c .before .before .before .before .before .before .before .before .before .before .before .before .before .args .y) (s .second)) (rest (c .before .before .before .before .before .before .before .before .put-parts .result + (c .before .before .before .before .put-joined-part) .result) (back (c .before .before .before .before .before .before .before .before .put-parts .result) (c .before .before .before .before .before .before .before .before .put-parts .last .0) (c .before .before .before .before .put-joined-part .last .0))) (third-room (parts-pieces (c .before .before .before .before .before .before .before .before .before .before .before .before .before .args .q) (c .before .before .before .before .before .before .before .before .before .before .before .before .before .args .order) b p q a) (c .before .before .before .before .before .before .before .before .before .before .before .before .before .args .out .now) room (c .before .before .before .before .before .before .before .before .put-parts .ensures b (before-in (c .before .before .before .before .before .before .before .before .before .before .before .before .before .args .t .now) (c .before .before .before .before .before .before .before .before .before .before .before .shared-slice-known .given) v b p (q ∷ a) (c .before .before .before .before .before .before .before .before .before .before .before .before .before .args .x) (s .first))) (c .before .before .before .before .put-joined-part .ensures b p (q ∷ a) (b ++ (p ∷ [])) q a (s .first) (s .second))))
-    (λ c. let (v, b, p, q, a, s, room) = (c .before .before .before .before .before .before .before .before .before .before .before .before .before .before .before .before .pre) in omega (arith, three-fit (parts-pieces (c .before .before .before .before .before .before .before .before .before .before .before .before .before .before .before .before .args .q) (c .before .before .before .before .before .before .before .before .before .before .before .before .before .before .before .before .args .order) b p q a) (c .before .before .before .before .before .before .before .before .before .before .before .before .before .before .before .before .args .out .now) room (c .before .before .before .before .before .before .before .before .before .before .before .put-parts .ensures b (before-in (c .before .before .before .before .before .before .before .before .before .before .before .before .before .before .before .before .args .t .now) (c .before .before .before .before .before .before .before .before .before .before .before .before .before .before .shared-slice-known .given) v b p (q ∷ a) (c .before .before .before .before .before .before .before .before .before .before .before .before .before .before .before .before .args .x) (s .first))) (c .before .before .before .before .before .before .before .put-joined-part .ensures b p (q ∷ a) (b ++ (p ∷ [])) q a (s .first) (s .second)) ((c .before .before .put-parts2 .ensures a (behind-in (c .before .before .before .before .before .before .before .before .before .before .before .before .before .before .before .before .args .t .now) (c .before .before .before .before .before .before .before .before .before .before .before .before .before .before .shared-slice-known .given) v (b ++ (p ∷ [])) q a (c .before .before .before .before .before .before .before .before .before .before .before .before .before .before .before .before .args .y) (s .second))) .0)))
-    (λ c. search needs)
-    (λ c. λ b p q a s. let v = (c .before .before .before .before .before .before .before .before .before .before .before .before .before .before .before .before .pre) .0 in all-wrote (parts-pieces (c .before .before .before .before .before .before .before .before .before .before .before .before .before .before .before .before .args .q) (c .before .before .before .before .before .before .before .before .before .before .before .before .before .before .before .before .args .order) b p q a) (c .before .before .before .before .before .before .before .before .before .before .before .before .before .before .before .before .args .out .now) (c .before .before .before .before .before .before .before .before .before .before .before .put-parts .ensures b (before-in (c .before .before .before .before .before .before .before .before .before .before .before .before .before .before .before .before .args .t .now) (c .before .before .before .before .before .before .before .before .before .before .before .before .before .before .shared-slice-known .given) v b p (q ∷ a) (c .before .before .before .before .before .before .before .before .before .before .before .before .before .before .before .before .args .x) (s .first))) (c .before .before .before .before .before .before .before .put-joined-part .ensures b p (q ∷ a) (b ++ (p ∷ [])) q a (s .first) (s .second)) (c .before .before .put-parts2 .ensures a (behind-in (c .before .before .before .before .before .before .before .before .before .before .before .before .before .before .before .before .args .t .now) (c .before .before .before .before .before .before .before .before .before .before .before .before .before .before .shared-slice-known .given) v (b ++ (p ∷ [])) q a (c .before .before .before .before .before .before .before .before .before .before .before .before .before .before .before .before .args .y) (s .second)))))
+    returns)

@@ -1,14 +1,29 @@
-use Rattle.part_refusals.proofs.ClosedLaws.{long-enough, closed-is}
+use Rattle.part_refusals.proofs.ClosedLaws.{some-unit, closed-is}
 use mathlib.Core.Path.{_∙_}
 use borrow.Author.Needs.{needs}
 use Rattle.part_refusals.proofs.is_closed.Statement.{statement}
 use Rattle.part_refusals.proofs.is_closed.Tie as tie
 
+-- src/lib.rt:52:9
+unit-resegment-requires : tie.Need-unit-resegment-requires
+unit-resegment-requires c κs = some-unit (c .before .args .t .now) (c .before .args .place) (c .before .pre)
+
+-- src/lib.rt:48:1
+returns : tie.Need-returns
+returns c =
+    let args = c .before .before .before .before .args in
+    let unit-resegment = c .before .before .unit-resegment in
+    let known-at = c .before .known-at in
+    λ b p a s.
+    (c .closed-by) .ensures
+    ∙ closed-is (args .t .now) (args .place) (unit-resegment .result) (known-at .result) (unit-resegment .ensures)
+    (known-at .ensures) b p a s
+
 pub is-closed-spec : {M : Type 1} → statement M
 is-closed-spec =
     tie.close
     (tie.spec
-    (λ c κs. long-enough (c .before .args .t .now) (c .before .args .place) (c .before .pre))
-    (λ c κs. search needs)
-    (λ c κs. search needs)
-    (λ c. λ b p a s. (c .closed-by) .ensures ∙ closed-is (c .before .before .before .before .args .t .now) (c .before .before .before .before .args .place) (c .before .before .unit-resegment .result) (c .before .known-at .result) (c .before .before .unit-resegment .ensures) (c .before .known-at .ensures) b p a s))
+    unit-resegment-requires
+    -- by search: known-at-requires 53:21, closed-by-requires 53:5
+    (λ c κs. search needs) (λ c κs. search needs)
+    returns)

@@ -1,4 +1,4 @@
-use Rattle.parts.proofs.RecordLaws.{one-least, target-marked, others-stay, order-is, target-moved}
+use Rattle.parts.proofs.RecordLaws.{one-least, target-marked, others-stay, some-target, order-is, moved-room, target-moved}
 use Rattle.parts.specs.Parts.{moved}
 use Rattle.marks.specs.Marks.{marked}
 use Rattle.writer.specs.Pieces.{lead}
@@ -11,16 +11,88 @@ use borrow.Author.Needs.{needs}
 use Rattle.parts.proofs.put_record.Statement.{statement}
 use Rattle.parts.proofs.put_record.Tie as tie
 
+-- src/lib.rt:26:8
+marked-by-requires : tie.Need-marked-by-requires
+marked-by-requires c κs =
+    let start = c .before .before .before in
+    omega (arith, one-least (start .args .t .now) (start .pre .0))
+
+-- src/lib.rt:27:57
+order-of-requires : tie.Need-order-of-requires
+order-of-requires c κs =
+    let start = c .before .before .before .before .before .before in
+    let (r, g, e) = (start .pre) .0 in
+    some-target r (target-marked r g
+    (ap (λ (l : List ℕ). marked l (84 ∷ 71 ∷ [])) (sym e)
+    ∙ sym (c .before .before .marked-by .ensures)
+    ∙ c .before .if1 .taken)) (start .args .t .now) e
+
+-- src/lib.rt:27:45
+moved-order-requires : tie.Need-moved-order-requires
+moved-order-requires c κs =
+    let start = c .before .before .before .before .before .before .before in
+    let marked-by = c .before .before .before .marked-by in
+    let (r, g, e) = (start .pre) .0 in
+    let b = target-marked r g
+    (ap (λ (l : List ℕ). marked l (84 ∷ 71 ∷ [])) (sym e)
+    ∙ sym (marked-by .ensures)
+    ∙ c .before .before .if1 .taken) in
+    omega (arith, order-is r b (start .args .t .now) e (c .order-of .result) (c .order-of .ensures), b .small)
+
+-- src/lib.rt:27:13
+put-target-head-requires : tie.Need-put-target-head-requires
+put-target-head-requires c κs =
+    let start = c .before .before .before .before .before .before .before .before in
+    let pre = start .pre in
+    let marked-by = c .before .before .before .before .marked-by in
+    let if1 = c .before .before .before .if1 in
+    let order-of = c .before .order-of in
+    let (r, g, e) = pre .0 in
+    moved-room r (target-marked r g
+    (ap (λ (l : List ℕ). marked l (84 ∷ 71 ∷ [])) (sym e) ∙ sym (marked-by .ensures) ∙ if1 .taken))
+    (start .args .t .now) e (order-of .result) (order-of .ensures) (c .moved-order .result) (start .args .out .now)
+    (pre .1)
+
+-- src/lib.rt:22:1
+returns : tie.Need-returns
+returns c =
+    let after-if1 = c .before .before .before .before .before .before in
+    let args = after-if1 .before .before .before .before .before .args in
+    let marked-by = after-if1 .before .marked-by in
+    let if1 = after-if1 .if1 in
+    let order-of = c .before .before .before .before .order-of in
+    let moved-order = c .before .before .before .moved-order in
+    let put-target-head = c .before .before .put-target-head in
+    λ r g e.
+    target-moved r (target-marked r g
+    (ap (λ (l : List ℕ). marked l (84 ∷ 71 ∷ [])) (sym e) ∙ sym (marked-by .ensures) ∙ if1 .taken)) (args .t .now) e
+    (order-of .result) (order-of .ensures) (moved (args .up) (args .q)) (moved-order .result) (moved-order .ensures)
+    (args .out .now) (put-target-head .last .0) (put-target-head .result) (put-target-head .ensures)
+
+-- src/lib.rt:22:1
+returns-2 : tie.Need-returns-2
+returns-2 c =
+    let after-marked-by = c .before .before .before .before .before in
+    let args = after-marked-by .before .before .before .before .args in
+    let marked-by = after-marked-by .marked-by in
+    let if1 = c .before .before .before .before .if1 in
+    λ r g e.
+    let bare = ap (λ (l : List ℕ). marked l (84 ∷ 71 ∷ [])) (sym e) ∙ sym (marked-by .ensures) ∙ if1 .left in
+    (c .before .before .put) .ensures .1
+    ∙ ap (λ (l : List ℕ). lead l (args .out .now))
+    (e ∙ ap record-bytes (sym (others-stay (moved (args .up) (args .q)) r g bare)))
+
 pub put-record-spec : {M : Type 1} → statement M
 put-record-spec =
     tie.close
     (tie.spec
-    (λ c κs. omega (arith, one-least (c .before .before .before .args .t .now) (c .before .before .before .pre .0)))
-    (λ c κs. one-least (c .before .before .before .before .before .before .args .t .now) (c .before .before .before .before .before .before .pre .0))
-    (λ c κs. let (r, g, e) = (c .before .before .before .before .before .before .before .pre) .0 in let b = (target-marked r g (ap (λ (l : List ℕ). marked l (84 ∷ 71 ∷ [])) (sym e) ∙ sym (c .before .before .before .marked-by .ensures) ∙ (c .before .before .if1 .taken))) in omega (arith, order-is r b (c .before .before .before .before .before .before .before .args .t .now) e (c .order-of .result) (c .order-of .ensures), b .small))
-    (λ c κs. omega (arith, one-least (c .before .before .before .before .before .before .before .before .args .t .now) (c .before .before .before .before .before .before .before .before .pre .0), (c .before .before .before .before .before .before .before .before .pre) .1))
-    (λ c κs. search needs)
+    marked-by-requires
+    order-of-requires
+    moved-order-requires
+    put-target-head-requires
+    -- by search: put-requires 29:13, same-length 22:1
+    (λ c κs. search needs) (λ c. search needs)
+    returns
+    -- by search: same-length-2 22:1
     (λ c. search needs)
-    (λ c. λ r g e. target-moved r (target-marked r g (ap (λ (l : List ℕ). marked l (84 ∷ 71 ∷ [])) (sym e) ∙ sym (c .before .before .before .before .before .before .before .marked-by .ensures) ∙ (c .before .before .before .before .before .before .if1 .taken))) (c .before .before .before .before .before .before .before .before .before .before .before .args .t .now) e (c .before .before .before .before .order-of .result) (c .before .before .before .before .order-of .ensures) (moved (c .before .before .before .before .before .before .before .before .before .before .before .args .up) (c .before .before .before .before .before .before .before .before .before .before .before .args .q)) (c .before .before .before .moved-order .result) (c .before .before .before .moved-order .ensures) (c .before .before .before .before .before .before .before .before .before .before .before .args .out .now) (c .before .before .put-target-head .last .0) (c .before .before .put-target-head .result) (c .before .before .put-target-head .ensures))
-    (λ c. search needs)
-    (λ c. λ r g e. let bare = ap (λ (l : List ℕ). marked l (84 ∷ 71 ∷ [])) (sym e) ∙ sym (c .before .before .before .before .before .marked-by .ensures) ∙ (c .before .before .before .before .if1 .left) in (c .before .before .put) .ensures .1 ∙ ap (λ (l : List ℕ). lead l (c .before .before .before .before .before .before .before .before .before .args .out .now)) (e ∙ ap record-bytes (sym (others-stay (moved (c .before .before .before .before .before .before .before .before .before .args .up) (c .before .before .before .before .before .before .before .before .before .args .q)) r g bare)))))
+    returns-2)

@@ -1,6 +1,5 @@
-use Rattle.set_result.proofs.PieceLaws.{pieces-by, set-room, target-room, set-all}
+use Rattle.set_result.proofs.PieceLaws.{pieces-by, set-room, set-all}
 use Rattle.writer.proofs.RunLaws.{second-start, second-room, two-fit, third-start, third-room, three-fit, all-wrote}
-use Rattle.writer.specs.Pieces.{rest}
 use native.Mathlib.Omega.{arith}
 use mathlib.Core.Path.{refl}
 use borrow.Author.Needs.{needs}
@@ -53,9 +52,8 @@ put-target-requires c κs =
     let put-to-source = c .before .before .before .put-to-source in
     let (st, room) = start .pre in
     let (b, p, a, s) = st in
-    target-room t b p a place s state order content (rest (put-to-source .result) (put-to-source .last .0))
-    (second-room (pieces-by t b p a place s state order content refl) out
-    (set-room t b p a place s state order content out room) (put-to-source .ensures b p a s))
+    second-room (pieces-by t b p a place s state order content refl) out
+    (set-room t b p a place s state order content out room) (put-to-source .ensures b p a s)
 
 -- src/lib.rt:25:13
 add-k : tie.Need-add-k

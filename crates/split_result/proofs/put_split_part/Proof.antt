@@ -6,19 +6,61 @@ use borrow.Author.Needs.{needs}
 use Rattle.split_result.proofs.put_split_part.Statement.{statement}
 use Rattle.split_result.proofs.put_split_part.Tie as tie
 
+-- src/lib.rt:22:57
+sub-put-halves-3 : tie.Need-sub-put-halves-3
+sub-put-halves-3 c =
+    let start = c .before .before .before .before .before in
+    let args = start .args in
+    let t = args .t .now in
+    let known = c .before .before .before .shared-slice-known .given in
+    let (v, b, p, a, s, room) = start .pre in
+    target-ends t (bytes-known t known) b p a (args .place) s .0
+
+-- src/lib.rt:22:57
+part-put-halves-start-3 : tie.Need-part-put-halves-start-3
+part-put-halves-start-3 c =
+    let start = c .before .before .before .before .before in
+    let args = start .args in
+    let t = args .t .now in
+    let known = c .before .before .before .shared-slice-known .given in
+    let (v, b, p, a, s, room) = start .pre in
+    let e = target-ends t (bytes-known t known) b p a (args .place) s in
+    omega (arith, e .0, e .1)
+
+-- src/lib.rt:22:5
+put-halves-requires : tie.Need-put-halves-requires
+put-halves-requires c κs =
+    let start = c .before .before .before .before .before .before in
+    let args = start .args in
+    let t = args .t .now in
+    let place = args .place in
+    let known = c .before .before .before .before .shared-slice-known .given in
+    let (v, b, p, a, s, room) = start .pre in
+    (p, part-is t known v b p a place s, part-rises t known v b p a place s, room)
+
+-- src/lib.rt:14:1
+returns : tie.Need-returns
+returns c =
+    let after-shared-slice-known = c .before .before .before .before .before .before .before in
+    let start = after-shared-slice-known .before .before in
+    let known = after-shared-slice-known .shared-slice-known .given in
+    λ b p a s.
+    (c .before .before .put-halves) .ensures p
+    (part-is (start .args .t .now) known (start .pre .0) b p a (start .args .place) s)
+
 pub put-split-part-spec : {M : Type 1} → statement M
 put-split-part-spec =
     tie.close
     (tie.spec
+    -- by search: sub-put-halves 22:37, part-put-halves-start 22:37, part-put-halves-end 22:37,
+    -- sub-put-halves-2 22:47, part-put-halves-start-2 22:47, part-put-halves-end-2 22:47
+    (λ c. search needs) (λ c. search needs) (λ c. search needs) (λ c. search needs) (λ c. search needs)
     (λ c. search needs)
+    sub-put-halves-3
+    part-put-halves-start-3
+    -- by search: part-put-halves-end-3 22:57
     (λ c. search needs)
+    put-halves-requires
+    -- by search: same-length 14:1
     (λ c. search needs)
-    (λ c. search needs)
-    (λ c. search needs)
-    (λ c. search needs)
-    (λ c. let (v, b, p, a, s, room) = (c .before .before .before .before .before .pre) in target-ends (c .before .before .before .before .before .args .t .now) (bytes-known (c .before .before .before .before .before .args .t .now) (c .before .before .before .shared-slice-known .given)) b p a (c .before .before .before .before .before .args .place) s .0)
-    (λ c. let (v, b, p, a, s, room) = (c .before .before .before .before .before .pre) in let e = target-ends (c .before .before .before .before .before .args .t .now) (bytes-known (c .before .before .before .before .before .args .t .now) (c .before .before .before .shared-slice-known .given)) b p a (c .before .before .before .before .before .args .place) s in omega (arith, e .0, e .1))
-    (λ c. search needs)
-    (λ c κs. let (v, b, p, a, s, room) = (c .before .before .before .before .before .before .pre) in (p, part-is (c .before .before .before .before .before .before .args .t .now) (c .before .before .before .before .shared-slice-known .given) v b p a (c .before .before .before .before .before .before .args .place) s, part-rises (c .before .before .before .before .before .before .args .t .now) (c .before .before .before .before .shared-slice-known .given) v b p a (c .before .before .before .before .before .before .args .place) s, room))
-    (λ c. search needs)
-    (λ c. λ b p a s. (c .before .before .put-halves) .ensures p (part-is (c .before .before .before .before .before .before .before .before .before .args .t .now) (c .before .before .before .before .before .before .before .shared-slice-known .given) (c .before .before .before .before .before .before .before .before .before .pre .0) b p a (c .before .before .before .before .before .before .before .before .before .args .place) s)))
+    returns)

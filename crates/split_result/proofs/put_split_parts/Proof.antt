@@ -14,28 +14,246 @@ use borrow.Author.Needs.{needs}
 use Rattle.split_result.proofs.put_split_parts.Statement.{statement}
 use Rattle.split_result.proofs.put_split_parts.Tie as tie
 
+-- src/lib.rt:34:9
+put-parts-requires : tie.Need-put-parts-requires
+put-parts-requires c κs =
+    let start = c .before .before .before .before .before in
+    let args = start .args in
+    let place = args .place in
+    let t = args .t .now in
+    let out = args .out .now in
+    let known = c .before .before .before .shared-slice-known .given in
+    let rises-above = c .before .before .rises-above in
+    let (v, b, p, a, s, room) = start .pre in
+    let the-before-in = before-in t known v b p a place s in
+    parts-room (moved true (rises-above .result)) (take (place .head - 3) (drop 3 t)) b the-before-in out
+    (first-room (split-pieces (args .k) (args .j) (args .id) b p a (the-before-in .1)
+    ((behind-in t known v b p a place s) .1) (rises-above .result)
+    (rises-above .ensures ∙ rises-is t place (p .target) (s .target))) out room)
+
+-- src/lib.rt:35:28
+sub-put-split-part : tie.Need-sub-put-split-part
+sub-put-split-part c =
+    let after-rises-above = c .before .before .before .before .before in
+    let start = after-rises-above .before .before .before in
+    let args = start .args in
+    let t = args .t .now in
+    let place = args .place in
+    let known = after-rises-above .before .shared-slice-known .given in
+    let rises-above = after-rises-above .rises-above in
+    let (v, b, p, a, s, room) = start .pre in
+    let the-before-in = before-in t known v b p a place s in
+    second-start (split-pieces (args .k) (args .j) (args .id) b p a (the-before-in .1)
+    ((behind-in t known v b p a place s) .1) (rises-above .result)
+    (rises-above .ensures ∙ rises-is t place (p .target) (s .target))) (args .out .now) room
+    (c .before .before .put-parts .ensures b the-before-in)
+
+-- src/lib.rt:35:28
+part-put-split-part-start : tie.Need-part-put-split-part-start
+part-put-split-part-start c =
+    let after-rises-above = c .before .before .before .before .before in
+    let start = after-rises-above .before .before .before in
+    let args = start .args in
+    let t = args .t .now in
+    let place = args .place in
+    let known = after-rises-above .before .shared-slice-known .given in
+    let rises-above = after-rises-above .rises-above in
+    let (v, b, p, a, s, room) = start .pre in
+    let the-before-in = before-in t known v b p a place s in
+    second-start (split-pieces (args .k) (args .j) (args .id) b p a (the-before-in .1)
+    ((behind-in t known v b p a place s) .1) (rises-above .result)
+    (rises-above .ensures ∙ rises-is t place (p .target) (s .target))) (args .out .now) room
+    (c .before .before .put-parts .ensures b the-before-in)
+
+-- src/lib.rt:35:9
+put-split-part-requires : tie.Need-put-split-part-requires
+put-split-part-requires c κs =
+    let after-rises-above = c .before .before .before .before .before .before in
+    let start = after-rises-above .before .before .before in
+    let args = start .args in
+    let t = args .t .now in
+    let place = args .place in
+    let known = after-rises-above .before .shared-slice-known .given in
+    let rises-above = after-rises-above .rises-above in
+    let put-parts = c .before .before .before .put-parts in
+    let (v, b, p, a, s, room) = start .pre in
+    let the-before-in = before-in t known v b p a place s in (
+      v,
+      b,
+      p,
+      a,
+      s,
+      second-room (split-pieces (args .k) (args .j) (args .id) b p a (the-before-in .1)
+          ((behind-in t known v b p a place s) .1) (rises-above .result)
+          (rises-above .ensures ∙ rises-is t place (p .target) (s .target))) (args .out .now) room
+          (put-parts .ensures b the-before-in),
+    )
+
+-- src/lib.rt:36:13
+add-l : tie.Need-add-l
+add-l c =
+    let after-put-parts = c .before .before .before .before .before .before in
+    let start = after-put-parts .before .before .before .before .before .before in
+    let args = start .args in
+    let t = args .t .now in
+    let place = args .place in
+    let known = after-put-parts .before .before .before .before .shared-slice-known .given in
+    let rises-above = after-put-parts .before .before .before .rises-above in
+    let put-parts = after-put-parts .put-parts in
+    let (v, b, p, a, s, room) = start .pre in
+    let the-before-in = before-in t known v b p a place s in
+    omega (
+      arith,
+      two-fit (split-pieces (args .k) (args .j) (args .id) b p a (the-before-in .1)
+          ((behind-in t known v b p a place s) .1) (rises-above .result)
+          (rises-above .ensures ∙ rises-is t place (p .target) (s .target))) (args .out .now) room
+          (put-parts .ensures b the-before-in) (c .before .before .put-split-part .ensures b p a s),
+    )
+
+-- src/lib.rt:37:30
+sub-put-parts-2 : tie.Need-sub-put-parts-2
+sub-put-parts-2 c =
+    let after-put-parts = c .before .before .before .before .before .before in
+    let start = after-put-parts .before .before .before .before .before .before in
+    let args = start .args in
+    let t = args .t .now in
+    let place = args .place in
+    let known = after-put-parts .before .before .before .before .shared-slice-known .given in
+    let rises-above = after-put-parts .before .before .before .rises-above in
+    let put-parts = after-put-parts .put-parts in
+    let (v, b, p, a, s, room) = start .pre in
+    let the-before-in = before-in t known v b p a place s in
+    third-start (split-pieces (args .k) (args .j) (args .id) b p a (the-before-in .1)
+    ((behind-in t known v b p a place s) .1) (rises-above .result)
+    (rises-above .ensures ∙ rises-is t place (p .target) (s .target))) (args .out .now) room
+    (put-parts .ensures b the-before-in) (c .before .before .put-split-part .ensures b p a s)
+
+-- src/lib.rt:37:30
+part-put-parts-start-2 : tie.Need-part-put-parts-start-2
+part-put-parts-start-2 c =
+    let after-put-parts = c .before .before .before .before .before .before in
+    let start = after-put-parts .before .before .before .before .before .before in
+    let args = start .args in
+    let t = args .t .now in
+    let place = args .place in
+    let known = after-put-parts .before .before .before .before .shared-slice-known .given in
+    let rises-above = after-put-parts .before .before .before .rises-above in
+    let put-parts = after-put-parts .put-parts in
+    let (v, b, p, a, s, room) = start .pre in
+    let the-before-in = before-in t known v b p a place s in
+    third-start (split-pieces (args .k) (args .j) (args .id) b p a (the-before-in .1)
+    ((behind-in t known v b p a place s) .1) (rises-above .result)
+    (rises-above .ensures ∙ rises-is t place (p .target) (s .target))) (args .out .now) room
+    (put-parts .ensures b the-before-in) (c .before .before .put-split-part .ensures b p a s)
+
+-- src/lib.rt:37:45
+sub-put-parts-3 : tie.Need-sub-put-parts-3
+sub-put-parts-3 c =
+    let start = c .before .before .before .before .before .before .before .before .before .before .before .before
+    .before in
+    let (v, b, p, a, s, room) = start .pre in
+    omega (arith, end-within (start .args .t .now) b p a (start .args .place) s)
+
+-- src/lib.rt:37:45
+part-put-parts-start-3 : tie.Need-part-put-parts-start-3
+part-put-parts-start-3 c =
+    let start = c .before .before .before .before .before .before .before .before .before .before .before .before
+    .before in
+    let (v, b, p, a, s, room) = start .pre in
+    omega (arith, end-within (start .args .t .now) b p a (start .args .place) s)
+
+-- src/lib.rt:37:9
+put-parts-requires-2 : tie.Need-put-parts-requires-2
+put-parts-requires-2 c κs =
+    let after-put-parts = c .before .before .before .before .before .before .before .before in
+    let start = after-put-parts .before .before .before .before .before .before in
+    let known = after-put-parts .before .before .before .before .shared-slice-known .given in
+    let rises-above = after-put-parts .before .before .before .rises-above in
+    let put-parts = after-put-parts .put-parts in
+    let put-split-part = c .before .before .before .before .put-split-part in
+    let (v, b, p, a, s, room) = start .pre in
+    let the-before-in = before-in (start .args .t .now) known v b p a (start .args .place) s in
+    let the-behind-in = behind-in (start .args .t .now) known v b p a (start .args .place) s in
+    parts-room (moved true (rises-above .result))
+    (take (length (start .args .t .now) - 2 - (start .args) .place .end)
+    (drop (start .args .place .end) (start .args .t .now))) a the-behind-in
+    (rest (put-parts .result + put-split-part .result)
+    (back (put-parts .result) (put-parts .last .0) (put-split-part .last .0)))
+    (third-room (split-pieces (start .args .k) (start .args .j) (start .args .id) b p a (the-before-in .1)
+    (the-behind-in .1) (rises-above .result)
+    (rises-above .ensures ∙ rises-is (start .args .t .now) (start .args .place) (p .target) (s .target)))
+    (start .args .out .now) room (put-parts .ensures b the-before-in) (put-split-part .ensures b p a s))
+
+-- src/lib.rt:38:5
+add-result : tie.Need-add-result
+add-result c =
+    let after-put-split-part = c .before .before .before .before .before .before .before in
+    let after-rises-above = after-put-split-part .before .before .before .before .before .before .before in
+    let start = after-rises-above .before .before .before in
+    let args = start .args in
+    let t = args .t .now in
+    let place = args .place in
+    let known = after-rises-above .before .shared-slice-known .given in
+    let rises-above = after-rises-above .rises-above in
+    let put-parts = after-put-split-part .before .before .before .before .put-parts in
+    let put-split-part = after-put-split-part .put-split-part in
+    let (v, b, p, a, s, room) = start .pre in
+    let the-behind-in = behind-in t known v b p a place s in
+    let the-before-in = before-in t known v b p a place s in
+    omega (
+      arith,
+      three-fit (split-pieces (args .k) (args .j) (args .id) b p a (the-before-in .1) (the-behind-in .1)
+          (rises-above .result) (rises-above .ensures ∙ rises-is t place (p .target) (s .target))) (args .out .now)
+          room (put-parts .ensures b the-before-in) (put-split-part .ensures b p a s)
+          ((c .before .before .put-parts2 .ensures a the-behind-in) .0),
+    )
+
+-- src/lib.rt:26:1
+returns : tie.Need-returns
+returns c =
+    let after-put-split-part = c .before .before .before .before .before .before .before in
+    let after-rises-above = after-put-split-part .before .before .before .before .before .before .before in
+    let start = after-rises-above .before .before .before in
+    let args = start .args in
+    let t = args .t .now in
+    let place = args .place in
+    let known = after-rises-above .before .shared-slice-known .given in
+    let rises-above = after-rises-above .rises-above in
+    let put-parts = after-put-split-part .before .before .before .before .put-parts in
+    let put-split-part = after-put-split-part .put-split-part in
+    λ b p a s.
+    let v = (start .pre) .0 in
+    let the-behind-in = behind-in t known v b p a place s in
+    let the-before-in = before-in t known v b p a place s in
+    all-wrote (split-pieces (args .k) (args .j) (args .id) b p a (the-before-in .1) (the-behind-in .1)
+    (rises-above .result) (rises-above .ensures ∙ rises-is t place (p .target) (s .target))) (args .out .now)
+    (put-parts .ensures b the-before-in) (put-split-part .ensures b p a s)
+    (c .before .before .put-parts2 .ensures a the-behind-in)
+
 pub put-split-parts-spec : {M : Type 1} → statement M
 put-split-parts-spec =
     tie.close
     (tie.spec
+    -- by search: sub-e 32:13, rises-above-requires 33:9, sub-put-parts 34:35, part-put-parts-start 34:35,
+    -- part-put-parts-end 34:35
+    (λ c. search needs) (λ c κs. search needs) (λ c. search needs) (λ c. search needs) (λ c. search needs)
+    put-parts-requires
+    sub-put-split-part
+    part-put-split-part-start
+    -- by search: part-put-split-part-end 35:28
     (λ c. search needs)
-    (λ c κs. search needs)
+    put-split-part-requires
+    add-l
+    sub-put-parts-2
+    part-put-parts-start-2
+    -- by search: part-put-parts-end-2 37:30
     (λ c. search needs)
+    sub-put-parts-3
+    part-put-parts-start-3
+    -- by search: part-put-parts-end-3 37:45
     (λ c. search needs)
+    put-parts-requires-2
+    add-result
+    -- by search: same-length 26:1
     (λ c. search needs)
-    (λ c κs. let (v, b, p, a, s, room) = (c .before .before .before .before .before .pre) in parts-room (moved true (c .before .before .rises-above .result)) (take (c .before .before .before .before .before .args .place .head - 3) (drop 3 (c .before .before .before .before .before .args .t .now))) b (before-in (c .before .before .before .before .before .args .t .now) (c .before .before .before .shared-slice-known .given) v b p a (c .before .before .before .before .before .args .place) s) (c .before .before .before .before .before .args .out .now) (first-room (split-pieces (c .before .before .before .before .before .args .k) (c .before .before .before .before .before .args .j) (c .before .before .before .before .before .args .id) b p a ((before-in (c .before .before .before .before .before .args .t .now) (c .before .before .before .shared-slice-known .given) v b p a (c .before .before .before .before .before .args .place) s) .1) ((behind-in (c .before .before .before .before .before .args .t .now) (c .before .before .before .shared-slice-known .given) v b p a (c .before .before .before .before .before .args .place) s) .1) (c .before .before .rises-above .result) (c .before .before .rises-above .ensures ∙ rises-is (c .before .before .before .before .before .args .t .now) (c .before .before .before .before .before .args .place) (p .target) (s .target))) (c .before .before .before .before .before .args .out .now) room))
-    (λ c. let (v, b, p, a, s, room) = (c .before .before .before .before .before .before .before .before .pre) in second-start (split-pieces (c .before .before .before .before .before .before .before .before .args .k) (c .before .before .before .before .before .before .before .before .args .j) (c .before .before .before .before .before .before .before .before .args .id) b p a ((before-in (c .before .before .before .before .before .before .before .before .args .t .now) (c .before .before .before .before .before .before .shared-slice-known .given) v b p a (c .before .before .before .before .before .before .before .before .args .place) s) .1) ((behind-in (c .before .before .before .before .before .before .before .before .args .t .now) (c .before .before .before .before .before .before .shared-slice-known .given) v b p a (c .before .before .before .before .before .before .before .before .args .place) s) .1) (c .before .before .before .before .before .rises-above .result) (c .before .before .before .before .before .rises-above .ensures ∙ rises-is (c .before .before .before .before .before .before .before .before .args .t .now) (c .before .before .before .before .before .before .before .before .args .place) (p .target) (s .target))) (c .before .before .before .before .before .before .before .before .args .out .now) room (c .before .before .put-parts .ensures b (before-in (c .before .before .before .before .before .before .before .before .args .t .now) (c .before .before .before .before .before .before .shared-slice-known .given) v b p a (c .before .before .before .before .before .before .before .before .args .place) s)))
-    (λ c. let (v, b, p, a, s, room) = (c .before .before .before .before .before .before .before .before .pre) in second-start (split-pieces (c .before .before .before .before .before .before .before .before .args .k) (c .before .before .before .before .before .before .before .before .args .j) (c .before .before .before .before .before .before .before .before .args .id) b p a ((before-in (c .before .before .before .before .before .before .before .before .args .t .now) (c .before .before .before .before .before .before .shared-slice-known .given) v b p a (c .before .before .before .before .before .before .before .before .args .place) s) .1) ((behind-in (c .before .before .before .before .before .before .before .before .args .t .now) (c .before .before .before .before .before .before .shared-slice-known .given) v b p a (c .before .before .before .before .before .before .before .before .args .place) s) .1) (c .before .before .before .before .before .rises-above .result) (c .before .before .before .before .before .rises-above .ensures ∙ rises-is (c .before .before .before .before .before .before .before .before .args .t .now) (c .before .before .before .before .before .before .before .before .args .place) (p .target) (s .target))) (c .before .before .before .before .before .before .before .before .args .out .now) room (c .before .before .put-parts .ensures b (before-in (c .before .before .before .before .before .before .before .before .args .t .now) (c .before .before .before .before .before .before .shared-slice-known .given) v b p a (c .before .before .before .before .before .before .before .before .args .place) s)))
-    (λ c. search needs)
-    (λ c κs. let (v, b, p, a, s, room) = (c .before .before .before .before .before .before .before .before .before .pre) in (v, b, p, a, s, second-room (split-pieces (c .before .before .before .before .before .before .before .before .before .args .k) (c .before .before .before .before .before .before .before .before .before .args .j) (c .before .before .before .before .before .before .before .before .before .args .id) b p a ((before-in (c .before .before .before .before .before .before .before .before .before .args .t .now) (c .before .before .before .before .before .before .before .shared-slice-known .given) v b p a (c .before .before .before .before .before .before .before .before .before .args .place) s) .1) ((behind-in (c .before .before .before .before .before .before .before .before .before .args .t .now) (c .before .before .before .before .before .before .before .shared-slice-known .given) v b p a (c .before .before .before .before .before .before .before .before .before .args .place) s) .1) (c .before .before .before .before .before .before .rises-above .result) (c .before .before .before .before .before .before .rises-above .ensures ∙ rises-is (c .before .before .before .before .before .before .before .before .before .args .t .now) (c .before .before .before .before .before .before .before .before .before .args .place) (p .target) (s .target))) (c .before .before .before .before .before .before .before .before .before .args .out .now) room (c .before .before .before .put-parts .ensures b (before-in (c .before .before .before .before .before .before .before .before .before .args .t .now) (c .before .before .before .before .before .before .before .shared-slice-known .given) v b p a (c .before .before .before .before .before .before .before .before .before .args .place) s))))
-    (λ c. let (v, b, p, a, s, room) = (c .before .before .before .before .before .before .before .before .before .before .before .before .pre) in omega (arith, two-fit (split-pieces (c .before .before .before .before .before .before .before .before .before .before .before .before .args .k) (c .before .before .before .before .before .before .before .before .before .before .before .before .args .j) (c .before .before .before .before .before .before .before .before .before .before .before .before .args .id) b p a ((before-in (c .before .before .before .before .before .before .before .before .before .before .before .before .args .t .now) (c .before .before .before .before .before .before .before .before .before .before .shared-slice-known .given) v b p a (c .before .before .before .before .before .before .before .before .before .before .before .before .args .place) s) .1) ((behind-in (c .before .before .before .before .before .before .before .before .before .before .before .before .args .t .now) (c .before .before .before .before .before .before .before .before .before .before .shared-slice-known .given) v b p a (c .before .before .before .before .before .before .before .before .before .before .before .before .args .place) s) .1) (c .before .before .before .before .before .before .before .before .before .rises-above .result) (c .before .before .before .before .before .before .before .before .before .rises-above .ensures ∙ rises-is (c .before .before .before .before .before .before .before .before .before .before .before .before .args .t .now) (c .before .before .before .before .before .before .before .before .before .before .before .before .args .place) (p .target) (s .target))) (c .before .before .before .before .before .before .before .before .before .before .before .before .args .out .now) room (c .before .before .before .before .before .before .put-parts .ensures b (before-in (c .before .before .before .before .before .before .before .before .before .before .before .before .args .t .now) (c .before .before .before .before .before .before .before .before .before .before .shared-slice-known .given) v b p a (c .before .before .before .before .before .before .before .before .before .before .before .before .args .place) s)) (c .before .before .put-split-part .ensures b p a s)))
-    (λ c. let (v, b, p, a, s, room) = (c .before .before .before .before .before .before .before .before .before .before .before .before .pre) in third-start (split-pieces (c .before .before .before .before .before .before .before .before .before .before .before .before .args .k) (c .before .before .before .before .before .before .before .before .before .before .before .before .args .j) (c .before .before .before .before .before .before .before .before .before .before .before .before .args .id) b p a ((before-in (c .before .before .before .before .before .before .before .before .before .before .before .before .args .t .now) (c .before .before .before .before .before .before .before .before .before .before .shared-slice-known .given) v b p a (c .before .before .before .before .before .before .before .before .before .before .before .before .args .place) s) .1) ((behind-in (c .before .before .before .before .before .before .before .before .before .before .before .before .args .t .now) (c .before .before .before .before .before .before .before .before .before .before .shared-slice-known .given) v b p a (c .before .before .before .before .before .before .before .before .before .before .before .before .args .place) s) .1) (c .before .before .before .before .before .before .before .before .before .rises-above .result) (c .before .before .before .before .before .before .before .before .before .rises-above .ensures ∙ rises-is (c .before .before .before .before .before .before .before .before .before .before .before .before .args .t .now) (c .before .before .before .before .before .before .before .before .before .before .before .before .args .place) (p .target) (s .target))) (c .before .before .before .before .before .before .before .before .before .before .before .before .args .out .now) room (c .before .before .before .before .before .before .put-parts .ensures b (before-in (c .before .before .before .before .before .before .before .before .before .before .before .before .args .t .now) (c .before .before .before .before .before .before .before .before .before .before .shared-slice-known .given) v b p a (c .before .before .before .before .before .before .before .before .before .before .before .before .args .place) s)) (c .before .before .put-split-part .ensures b p a s))
-    (λ c. let (v, b, p, a, s, room) = (c .before .before .before .before .before .before .before .before .before .before .before .before .pre) in third-start (split-pieces (c .before .before .before .before .before .before .before .before .before .before .before .before .args .k) (c .before .before .before .before .before .before .before .before .before .before .before .before .args .j) (c .before .before .before .before .before .before .before .before .before .before .before .before .args .id) b p a ((before-in (c .before .before .before .before .before .before .before .before .before .before .before .before .args .t .now) (c .before .before .before .before .before .before .before .before .before .before .shared-slice-known .given) v b p a (c .before .before .before .before .before .before .before .before .before .before .before .before .args .place) s) .1) ((behind-in (c .before .before .before .before .before .before .before .before .before .before .before .before .args .t .now) (c .before .before .before .before .before .before .before .before .before .before .shared-slice-known .given) v b p a (c .before .before .before .before .before .before .before .before .before .before .before .before .args .place) s) .1) (c .before .before .before .before .before .before .before .before .before .rises-above .result) (c .before .before .before .before .before .before .before .before .before .rises-above .ensures ∙ rises-is (c .before .before .before .before .before .before .before .before .before .before .before .before .args .t .now) (c .before .before .before .before .before .before .before .before .before .before .before .before .args .place) (p .target) (s .target))) (c .before .before .before .before .before .before .before .before .before .before .before .before .args .out .now) room (c .before .before .before .before .before .before .put-parts .ensures b (before-in (c .before .before .before .before .before .before .before .before .before .before .before .before .args .t .now) (c .before .before .before .before .before .before .before .before .before .before .shared-slice-known .given) v b p a (c .before .before .before .before .before .before .before .before .before .before .before .before .args .place) s)) (c .before .before .put-split-part .ensures b p a s))
-    (λ c. search needs)
-    (λ c. let (v, b, p, a, s, room) = (c .before .before .before .before .before .before .before .before .before .before .before .before .before .pre) in omega (arith, end-within (c .before .before .before .before .before .before .before .before .before .before .before .before .before .args .t .now) b p a (c .before .before .before .before .before .before .before .before .before .before .before .before .before .args .place) s))
-    (λ c. let (v, b, p, a, s, room) = (c .before .before .before .before .before .before .before .before .before .before .before .before .before .pre) in omega (arith, end-within (c .before .before .before .before .before .before .before .before .before .before .before .before .before .args .t .now) b p a (c .before .before .before .before .before .before .before .before .before .before .before .before .before .args .place) s))
-    (λ c. search needs)
-    (λ c κs. let (v, b, p, a, s, room) = (c .before .before .before .before .before .before .before .before .before .before .before .before .before .before .pre) in parts-room (moved true (c .before .before .before .before .before .before .before .before .before .before .before .rises-above .result)) (take (length (c .before .before .before .before .before .before .before .before .before .before .before .before .before .before .args .t .now) - 2 - (c .before .before .before .before .before .before .before .before .before .before .before .before .before .before .args) .place .end) (drop (c .before .before .before .before .before .before .before .before .before .before .before .before .before .before .args .place .end) (c .before .before .before .before .before .before .before .before .before .before .before .before .before .before .args .t .now))) a (behind-in (c .before .before .before .before .before .before .before .before .before .before .before .before .before .before .args .t .now) (c .before .before .before .before .before .before .before .before .before .before .before .before .shared-slice-known .given) v b p a (c .before .before .before .before .before .before .before .before .before .before .before .before .before .before .args .place) s) (rest (c .before .before .before .before .before .before .before .before .put-parts .result + (c .before .before .before .before .put-split-part) .result) (back (c .before .before .before .before .before .before .before .before .put-parts .result) (c .before .before .before .before .before .before .before .before .put-parts .last .0) (c .before .before .before .before .put-split-part .last .0))) (third-room (split-pieces (c .before .before .before .before .before .before .before .before .before .before .before .before .before .before .args .k) (c .before .before .before .before .before .before .before .before .before .before .before .before .before .before .args .j) (c .before .before .before .before .before .before .before .before .before .before .before .before .before .before .args .id) b p a ((before-in (c .before .before .before .before .before .before .before .before .before .before .before .before .before .before .args .t .now) (c .before .before .before .before .before .before .before .before .before .before .before .before .shared-slice-known .given) v b p a (c .before .before .before .before .before .before .before .before .before .before .before .before .before .before .args .place) s) .1) ((behind-in (c .before .before .before .before .before .before .before .before .before .before .before .before .before .before .args .t .now) (c .before .before .before .before .before .before .before .before .before .before .before .before .shared-slice-known .given) v b p a (c .before .before .before .before .before .before .before .before .before .before .before .before .before .before .args .place) s) .1) (c .before .before .before .before .before .before .before .before .before .before .before .rises-above .result) (c .before .before .before .before .before .before .before .before .before .before .before .rises-above .ensures ∙ rises-is (c .before .before .before .before .before .before .before .before .before .before .before .before .before .before .args .t .now) (c .before .before .before .before .before .before .before .before .before .before .before .before .before .before .args .place) (p .target) (s .target))) (c .before .before .before .before .before .before .before .before .before .before .before .before .before .before .args .out .now) room (c .before .before .before .before .before .before .before .before .put-parts .ensures b (before-in (c .before .before .before .before .before .before .before .before .before .before .before .before .before .before .args .t .now) (c .before .before .before .before .before .before .before .before .before .before .before .before .shared-slice-known .given) v b p a (c .before .before .before .before .before .before .before .before .before .before .before .before .before .before .args .place) s)) (c .before .before .before .before .put-split-part .ensures b p a s)))
-    (λ c. let (v, b, p, a, s, room) = (c .before .before .before .before .before .before .before .before .before .before .before .before .before .before .before .before .before .pre) in omega (arith, three-fit (split-pieces (c .before .before .before .before .before .before .before .before .before .before .before .before .before .before .before .before .before .args .k) (c .before .before .before .before .before .before .before .before .before .before .before .before .before .before .before .before .before .args .j) (c .before .before .before .before .before .before .before .before .before .before .before .before .before .before .before .before .before .args .id) b p a ((before-in (c .before .before .before .before .before .before .before .before .before .before .before .before .before .before .before .before .before .args .t .now) (c .before .before .before .before .before .before .before .before .before .before .before .before .before .before .before .shared-slice-known .given) v b p a (c .before .before .before .before .before .before .before .before .before .before .before .before .before .before .before .before .before .args .place) s) .1) ((behind-in (c .before .before .before .before .before .before .before .before .before .before .before .before .before .before .before .before .before .args .t .now) (c .before .before .before .before .before .before .before .before .before .before .before .before .before .before .before .shared-slice-known .given) v b p a (c .before .before .before .before .before .before .before .before .before .before .before .before .before .before .before .before .before .args .place) s) .1) (c .before .before .before .before .before .before .before .before .before .before .before .before .before .before .rises-above .result) (c .before .before .before .before .before .before .before .before .before .before .before .before .before .before .rises-above .ensures ∙ rises-is (c .before .before .before .before .before .before .before .before .before .before .before .before .before .before .before .before .before .args .t .now) (c .before .before .before .before .before .before .before .before .before .before .before .before .before .before .before .before .before .args .place) (p .target) (s .target))) (c .before .before .before .before .before .before .before .before .before .before .before .before .before .before .before .before .before .args .out .now) room (c .before .before .before .before .before .before .before .before .before .before .before .put-parts .ensures b (before-in (c .before .before .before .before .before .before .before .before .before .before .before .before .before .before .before .before .before .args .t .now) (c .before .before .before .before .before .before .before .before .before .before .before .before .before .before .before .shared-slice-known .given) v b p a (c .before .before .before .before .before .before .before .before .before .before .before .before .before .before .before .before .before .args .place) s)) (c .before .before .before .before .before .before .before .put-split-part .ensures b p a s) ((c .before .before .put-parts2 .ensures a (behind-in (c .before .before .before .before .before .before .before .before .before .before .before .before .before .before .before .before .before .args .t .now) (c .before .before .before .before .before .before .before .before .before .before .before .before .before .before .before .shared-slice-known .given) v b p a (c .before .before .before .before .before .before .before .before .before .before .before .before .before .before .before .before .before .args .place) s)) .0)))
-    (λ c. search needs)
-    (λ c. λ b p a s. let v = (c .before .before .before .before .before .before .before .before .before .before .before .before .before .before .before .before .before .pre) .0 in all-wrote (split-pieces (c .before .before .before .before .before .before .before .before .before .before .before .before .before .before .before .before .before .args .k) (c .before .before .before .before .before .before .before .before .before .before .before .before .before .before .before .before .before .args .j) (c .before .before .before .before .before .before .before .before .before .before .before .before .before .before .before .before .before .args .id) b p a ((before-in (c .before .before .before .before .before .before .before .before .before .before .before .before .before .before .before .before .before .args .t .now) (c .before .before .before .before .before .before .before .before .before .before .before .before .before .before .before .shared-slice-known .given) v b p a (c .before .before .before .before .before .before .before .before .before .before .before .before .before .before .before .before .before .args .place) s) .1) ((behind-in (c .before .before .before .before .before .before .before .before .before .before .before .before .before .before .before .before .before .args .t .now) (c .before .before .before .before .before .before .before .before .before .before .before .before .before .before .before .shared-slice-known .given) v b p a (c .before .before .before .before .before .before .before .before .before .before .before .before .before .before .before .before .before .args .place) s) .1) (c .before .before .before .before .before .before .before .before .before .before .before .before .before .before .rises-above .result) (c .before .before .before .before .before .before .before .before .before .before .before .before .before .before .rises-above .ensures ∙ rises-is (c .before .before .before .before .before .before .before .before .before .before .before .before .before .before .before .before .before .args .t .now) (c .before .before .before .before .before .before .before .before .before .before .before .before .before .before .before .before .before .args .place) (p .target) (s .target))) (c .before .before .before .before .before .before .before .before .before .before .before .before .before .before .before .before .before .args .out .now) (c .before .before .before .before .before .before .before .before .before .before .before .put-parts .ensures b (before-in (c .before .before .before .before .before .before .before .before .before .before .before .before .before .before .before .before .before .args .t .now) (c .before .before .before .before .before .before .before .before .before .before .before .before .before .before .before .shared-slice-known .given) v b p a (c .before .before .before .before .before .before .before .before .before .before .before .before .before .before .before .before .before .args .place) s)) (c .before .before .before .before .before .before .before .put-split-part .ensures b p a s) (c .before .before .put-parts2 .ensures a (behind-in (c .before .before .before .before .before .before .before .before .before .before .before .before .before .before .before .before .before .args .t .now) (c .before .before .before .before .before .before .before .before .before .before .before .before .before .before .before .shared-slice-known .given) v b p a (c .before .before .before .before .before .before .before .before .before .before .before .before .before .before .before .before .before .args .place) s))))
+    returns)
