@@ -24,29 +24,29 @@ toward-if n true Nowhere at rest = refl
 toward-if n true (At a) at rest = refl
 toward-if n false best at rest = refl
 
-blamed-first : (bad : Content → spec.Item → Content → Bool) (t os : List ℕ) (before : Content) (i : ℕ) → i < length os
-    → blamed bad before (placed-at t (drop i os))
-    ≡ cond (bad before (item-at t (getD os i 0)) (items (placed-at t (drop (suc i) os)))) (getD os i 0 ∷ blamed bad (item-at t (getD os i 0) ∷ before) (placed-at t (drop (suc i) os)))
-    (blamed bad (item-at t (getD os i 0) ∷ before) (placed-at t (drop (suc i) os)))
+blamed-first : (bad : Content → spec.Item → Content → Bool) (t markers : List ℕ) (before : Content) (i : ℕ) → i < length markers
+    → blamed bad before (placed-at t (drop i markers))
+    ≡ cond (bad before (item-at t (getD markers i 0)) (items (placed-at t (drop (suc i) markers)))) (getD markers i 0 ∷ blamed bad (item-at t (getD markers i 0) ∷ before) (placed-at t (drop (suc i) markers)))
+    (blamed bad (item-at t (getD markers i 0) ∷ before) (placed-at t (drop (suc i) markers)))
 unfolding blamed placed-at
 blamed-first bad t [] before i h = absurd (omega arith)
-blamed-first bad t (o ∷ os) before zero h = refl
-blamed-first bad t (o ∷ os) before (suc i) h = blamed-first bad t os before i (omega arith)
+blamed-first bad t (o ∷ markers) before zero h = refl
+blamed-first bad t (o ∷ markers) before (suc i) h = blamed-first bad t markers before i (omega arith)
 
-module _ (bad : Content → spec.Item → Content → Bool) (t os : List ℕ) (before : Content) (i : ℕ) (best : Place) where
-  pub blamed-on : (n : ℕ) (b : Bool) → i < length os → b ≡ bad before (item-at t (getD os i 0)) (items (placed-at t (drop (suc i) os)))
-      → toward n best (blamed bad before (placed-at t (drop i os)))
-      ≡ toward n (cond b (lower best (getD os i 0)) best) (blamed bad (item-at t (getD os i 0) ∷ before) (placed-at t (drop (i + 1) os)))
+module _ (bad : Content → spec.Item → Content → Bool) (t markers : List ℕ) (before : Content) (i : ℕ) (best : Place) where
+  pub blamed-on : (n : ℕ) (b : Bool) → i < length markers → b ≡ bad before (item-at t (getD markers i 0)) (items (placed-at t (drop (suc i) markers)))
+      → toward n best (blamed bad before (placed-at t (drop i markers)))
+      ≡ toward n (cond b (lower best (getD markers i 0)) best) (blamed bad (item-at t (getD markers i 0) ∷ before) (placed-at t (drop (i + 1) markers)))
   blamed-on n b h e =
-      ap (toward n best) (blamed-first bad t os before i h)
-      ∙ toward-if n (bad before (item-at t (getD os i 0)) (items (placed-at t (drop (suc i) os)))) best (getD os i 0) (blamed bad (item-at t (getD os i 0) ∷ before) (placed-at t (drop (suc i) os)))
-      ∙ ap₂ (λ (c : Bool) (k : ℕ). toward n (cond c (lower best (getD os i 0)) best)
-      (blamed bad (item-at t (getD os i 0) ∷ before) (placed-at t (drop k os))))
+      ap (toward n best) (blamed-first bad t markers before i h)
+      ∙ toward-if n (bad before (item-at t (getD markers i 0)) (items (placed-at t (drop (suc i) markers)))) best (getD markers i 0) (blamed bad (item-at t (getD markers i 0) ∷ before) (placed-at t (drop (suc i) markers)))
+      ∙ ap₂ (λ (c : Bool) (k : ℕ). toward n (cond c (lower best (getD markers i 0)) best)
+      (blamed bad (item-at t (getD markers i 0) ∷ before) (placed-at t (drop k markers))))
       (sym e) (let z : suc i ≡ i + 1 = omega arith in z)
 
-  pub blamed-end : (n : ℕ) → length os ≤ i → toward n best (blamed bad before (placed-at t (drop i os))) ≡ refusal-at n best
+  pub blamed-end : (n : ℕ) → length markers ≤ i → toward n best (blamed bad before (placed-at t (drop i markers))) ≡ refusal-at n best
   unfolding toward blamed placed-at first-of least
-  blamed-end n h = rw (drop-of-length-le os h) (by best)
+  blamed-end n h = rw (drop-of-length-le markers h) (by best)
     where
       by : (p : Place) → toward n p [] ≡ refusal-at n p
       by Nowhere = refl

@@ -19,7 +19,7 @@ use Rattle.xliff.proofs.lists.Tests.{byte-at}
 use Rattle.xliff.proofs.unit.Table.{bytes-drop}
 use Rattle.xliff.proofs.both_ends.Demand3.{both-ends}
 use Rattle.table.proofs.WidthLaws.{bytes-known}
-use Rattle.part_contents.proofs.HoldLaws.{bytes-take}
+use Rattle.part_at.proofs.HoldLaws.{bytes-take}
 use Rattle.both_ends.specs.Received.{job-of, sent, calls-from, calls, unreadable-from, unreadable, Meets, Demand-3-of-the-program}
 
 two-small : (s : List ℕ) (i : ℕ) → Bytes s → two-at s i < 65536

@@ -40,11 +40,11 @@ pub bar-key-out : (t : List ℕ) (at : ℕ) → length t ≤ at → 0 ≡ bar-ke
 unfolding bar-key read read-as mark-at
 bar-key-out t at h = rw (drop-of-length-le t h)
 
-pub keys-filled : (t os out : List ℕ) (i : ℕ) → i ≤ length os → length os ≤ i → take i out ≡ map (λ (o : ℕ). bar-key (read (drop o t))) (take i os)
-    → take (length os) out ≡ barKeys t os
+pub keys-filled : (t markers out : List ℕ) (i : ℕ) → i ≤ length markers → length markers ≤ i → take i out ≡ map (λ (o : ℕ). bar-key (read (drop o t))) (take i markers)
+    → take (length markers) out ≡ barKeys t markers
 unfolding barKeys
-keys-filled t os out i a b e =
-    ap (λ (n : ℕ). take n out) (let z : length os ≡ i = omega arith in z) ∙ filled-all (λ (o : ℕ). bar-key (read (drop o t))) os out i b e
+keys-filled t markers out i a b e =
+    ap (λ (n : ℕ). take n out) (let z : length markers ≡ i = omega arith in z) ∙ filled-all (λ (o : ℕ). bar-key (read (drop o t))) markers out i b e
 
 -- four bytes whose mark is TG are a good record
 target-letters : (a b c d : ℕ) (s : List ℕ) → a ≡ 84 → b ≡ 71 → eqb (head-kind (read (a ∷ b ∷ c ∷ d ∷ s))) 1 ≡ true

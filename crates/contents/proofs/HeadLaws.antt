@@ -9,7 +9,7 @@ use lib.Dec.{eqb}
 use Rattle.xliff.specs.Item.{class}
 use Rattle.xliff.specs.Encode as encode
 use Rattle.xliff.specs.Encode.{opening, closing, part-head, target-head, text-run, inline, ill-text, broken, record-bytes, unit-records}
-use Rattle.xliff.specs.Parse.{unit}
+use Rattle.xliff.specs.Parse.{unit, most-records}
 use Rattle.xliff.specs.Sequences.{Placed}
 use Rattle.xliff.proofs.lists.Tests.{and-false, or-none}
 use Rattle.places.specs.Passes.{Passes}
@@ -117,6 +117,6 @@ found-few targets inside at (r ∷ rs) =
       found-few targets (after-record targets inside r) (at + length (record-bytes r)) rs,
     )
 
-pub barred-few : (targets : Bool) (t : List ℕ) → Passes t → length (barred targets t) ≤ 1024
+pub barred-few : (targets : Bool) (t : List ℕ) → Passes t → length (barred targets t) ≤ most-records
 unfolding barred
 barred-few targets t p = omega (arith, found-few targets false 0 (unit-records (unit t)), p .few)

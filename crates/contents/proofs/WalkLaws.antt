@@ -7,7 +7,7 @@ use native.Mathlib.Omega.{arith}
 use lib.ListN.{length, take, drop, length-append}
 use Rattle.xliff.specs.Encode as encode
 use Rattle.xliff.specs.Encode.{unit-records}
-use Rattle.xliff.specs.Parse.{unit}
+use Rattle.xliff.specs.Parse.{unit, most-records}
 use Rattle.places.specs.Passes.{Passes}
 use Rattle.places.specs.Offsets.{At}
 use Rattle.places.proofs.Places.{at-start}
@@ -23,11 +23,11 @@ use Rattle.contents.proofs.HeadLaws.{barred-step, barred-end, barred-fe
 pub record Walk (t : List ℕ) (targets inside : Bool) (out : List ℕ) (at m : ℕ) : Type 0 where
   pub left : List encode.Record
   pub stands : At t at left
-  pub sized : length out ≡ 1024
+  pub sized : length out ≡ most-records
   pub whole : take m out ++ barred-found targets inside at left ≡ barred targets t
   pub count : length (barred-found targets inside at left) + m ≡ length (barred targets t)
 
-pub walk-start : (t : List ℕ) (targets : Bool) (out : List ℕ) → Passes t → length out ≡ 1024 → Walk t targets false out 0 0
+pub walk-start : (t : List ℕ) (targets : Bool) (out : List ℕ) → Passes t → length out ≡ most-records → Walk t targets false out 0 0
 unfolding barred
 walk-start t targets out p h =
     record {
@@ -50,7 +50,7 @@ module _ {t : List ℕ} {targets inside : Bool} {out : List ℕ} {at m : ℕ} (w
   pub walk-fits : (0 < g .width) × (at + g .width ≤ length t)
   walk-fits = (stands-on .moves, stands-on .fits)
 
-  pub walk-room : Passes t → length (cond b (at ∷ []) []) + m ≤ 1024
+  pub walk-room : Passes t → length (cond b (at ∷ []) []) + m ≤ most-records
   walk-room p =
       omega (
         arith,
@@ -72,7 +72,7 @@ module _ {t : List ℕ} {targets inside : Bool} {out : List ℕ} {at m : ℕ} (w
       }
 
 pub walk-end : {t : List ℕ} {targets inside : Bool} {out : List ℕ} {at m : ℕ} → Walk t targets inside out at m → Passes t → length t ≤ at
-    → (take m out ≡ barred targets t) × (m ≤ 1024) × (length out ≡ 1024)
+    → (take m out ≡ barred targets t) × (m ≤ most-records) × (length out ≡ most-records)
 walk-end {t} {targets} {inside} {out} {at} {m} walk p l =
     let z = barred-end targets inside t at (walk .left) (walk .stands) l in
     (sym (append-nil (take m out)) ∙ ap (λ (l : List ℕ). take m out ++ l) (sym z) ∙ walk .whole, omega (arith, ap length z, walk .count, barred-few targets t p), walk .sized)

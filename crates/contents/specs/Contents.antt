@@ -40,7 +40,7 @@ bar-key ill-text = 0
 bar-key (broken b) = 0
 
 unfoldable pub barKeys : List ℕ → List ℕ → List ℕ
-barKeys t os = map (λ (o : ℕ). bar-key (read (drop o t))) os
+barKeys t markers = map (λ (o : ℕ). bar-key (read (drop o t))) markers
 
 abbrev pub isBar : ℕ → Bool
 isBar k = eqb (k % 64 / 8) 0
@@ -48,9 +48,9 @@ isBar k = eqb (k % 64 / 8) 0
 -- the keys up to the next bar: what is left of a content
 unfoldable pub run : List ℕ → List ℕ
 run [] = []
-run (k ∷ ks) = cond (isBar k) [] (k ∷ run ks)
+run (k ∷ keys) = cond (isBar k) [] (k ∷ run keys)
 
 -- the next bar is a TG: the part has a target
 unfoldable pub targeted : List ℕ → Bool
 targeted [] = false
-targeted (k ∷ ks) = cond (isBar k) (eqb k 1) (targeted ks)
+targeted (k ∷ keys) = cond (isBar k) (eqb k 1) (targeted keys)

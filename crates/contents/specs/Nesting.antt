@@ -14,7 +14,7 @@ meetKey (some (x ∷ xs)) k =
 
 unfoldable pub meetKeys : Option (List ℕ) → List ℕ → Option (List ℕ)
 meetKeys halves [] = halves
-meetKeys halves (k ∷ ks) = meetKeys (meetKey halves k) ks
+meetKeys halves (k ∷ keys) = meetKeys (meetKey halves k) keys
 
 unfoldable pub allMet : Option (List ℕ) → Bool
 allMet none = false

@@ -4,7 +4,7 @@ ghost use mathlib.Core.List.{[]};
 ghost use Prim.Native.Nat.{_<_, _≤_};
 ghost use lib.ListN.{length, take, drop};
 ghost use lib.Dec.{eqb};
-ghost use Rattle.xliff.specs.Parse.{read};
+ghost use Rattle.xliff.specs.Parse.{read, most-bytes, most-records};
 ghost use Rattle.places.specs.Passes.{Passes};
 ghost use Rattle.contents.specs.Heads.{head-kind, insideAfter, isFound};
 ghost use Rattle.contents.specs.Contents.{barred, bar-key, barKeys};
@@ -25,8 +25,8 @@ fn is_found(head: u8, inside: bool, marker: bool) -> bool
 
 // The offsets of the heads (SG, IG, TG) and of the markers of source contents and, where `targets`, of target contents, in table order.
 pub fn contents(t: &[u8], targets: bool, out: &mut [u16]) -> usize
-    requires { ⌜ Passes (now t) × (length (now t) ≤ 8192) × (length (now out) ≡ 1024) ⌝ }
-    ensures { λ r. ⌜ (take r (now (out .exit)) ≡ barred targets (now (t .entry))) × (r ≤ 1024) × (length (now (out .exit)) ≡ 1024) ⌝ }
+    requires { ⌜ Passes (now t) × (length (now t) ≤ most-bytes) × (length (now out) ≡ most-records) ⌝ }
+    ensures { λ r. ⌜ (take r (now (out .exit)) ≡ barred targets (now (t .entry))) × (r ≤ most-records) × (length (now (out .exit)) ≡ most-records) ⌝ }
 {
     let mut at: usize = 0;
     let mut inside = false;
@@ -64,13 +64,13 @@ fn bar_key(t: &[u8], at: usize) -> u32
 }
 
 // The keys of the heads and markers at some offsets, at the front of `out`.
-pub fn bar_keys(t: &[u8], os: &[u16], out: &mut [u32])
-    requires { ⌜ length (now os) ≤ length (now out) ⌝ }
-    ensures { λ r. ⌜ (take (length (now (os .entry))) (now (out .exit)) ≡ barKeys (now (t .entry)) (now (os .entry))) × (length (now (out .exit)) ≡ length (now (out .entry))) ⌝ }
+pub fn bar_keys(t: &[u8], markers: &[u16], out: &mut [u32])
+    requires { ⌜ length (now markers) ≤ length (now out) ⌝ }
+    ensures { λ r. ⌜ (take (length (now (markers .entry))) (now (out .exit)) ≡ barKeys (now (t .entry)) (now (markers .entry))) × (length (now (out .exit)) ≡ length (now (out .entry))) ⌝ }
 {
     let mut i: usize = 0;
-    while i < os.len() {
-        out[i] = bar_key(t, marks::wide(os[i]));
+    while i < markers.len() {
+        out[i] = bar_key(t, marks::wide(markers[i]));
         i += 1;
     }
 }

@@ -17,7 +17,7 @@ use Rattle.walk.proofs.WalkLaws.{next}
 use Rattle.writer.specs.Pieces.{lead}
 use Rattle.writer.proofs.PieceLaws.{two-back}
 use Rattle.cut.specs.Turned.{cut-record, cut-records, textPiece, CutOne, CutAll}
-use Rattle.cut.specs.Halves.{Room, Wrote}
+use Rattle.cut.specs.Halves.{RoomFor, WroteFor}
 use Rattle.cut.proofs.CutLaws.{cut-length}
 use Rattle.cut.proofs.LoopLaws.{Written, written-on}
 use Rattle.cut.proofs.HalfLaws.{Inner, Sides, sides, front-size, first-size-0, first-size-1, second-size-0, second-size-1, piece-size}
@@ -73,7 +73,7 @@ module _ (k : ℕ) (c : List ℕ) (p : Place) (place : PlaceOf c k p) where
     pub text-small : 1 ≤ p .into → p .into < 65536
     pub text-room : 1 ≤ p .into → p .at + (4 + p .into) ≤ length o
 
-  pub first-fits : (o : List ℕ) → Room (first-items k) c o → FirstFits o
+  pub first-fits : (o : List ℕ) → RoomFor (first-items k) c o → FirstFits o
   first-fits o (xs, h, room) =
       let s = the-sides xs h in
       let text-fit : 1 ≤ p .into → p .at + 4 + p .into ≤ length c = λ z. let i = s .inner z in omega (arith, i .fit, i .less) in
@@ -93,7 +93,7 @@ module _ (k : ℕ) (c : List ℕ) (p : Place) (place : PlaceOf c k p) where
       by s l (suc n) e = omega (arith, first-size-1 k c xs p s (omega arith))
 
   -- cut between two records
-  pub first-clean : (o l : List ℕ) (n : ℕ) → p .into ≡ 0 → n ≡ length before → CutAll before behind o l → Wrote (first-items k) c o n l
+  pub first-clean : (o l : List ℕ) (n : ℕ) → p .into ≡ 0 → n ≡ length before → CutAll before behind o l → WroteFor (first-items k) c o n l
   first-clean o l n z e f xs h =
       let s = the-sides xs h in (
         e ∙ length-take-le (p .at) c (s .fit) ∙ sym (first-size-0 k c xs p s z),
@@ -103,7 +103,7 @@ module _ (k : ℕ) (c : List ℕ) (p : Place) (place : PlaceOf c k p) where
   -- cut inside a text
   pub first-inner : (o l y : List ℕ) (n m : ℕ) → 1 ≤ p .into → n ≡ length before → CutAll before behind o l → m ≡ 4 + length front-text
       → y ≡ lead (textPiece front-text) (take (length l - n) (drop n l))
-      → Wrote (first-items k) c o (n + m) (take n l ++ (y ++ drop (length l - n) (drop n l)))
+      → WroteFor (first-items k) c o (n + m) (take n l ++ (y ++ drop (length l - n) (drop n l)))
   first-inner o l y n m z e f g h xs holds =
       let s = the-sides xs holds in
       let i = s .inner z in
@@ -145,7 +145,7 @@ module _ (k : ℕ) (c : List ℕ) (p : Place) (place : PlaceOf c k p) where
   rest-long-is : (w : ℕ) → length (rest w) ≡ length c - (p .at + w)
   rest-long-is w = ap length (tail-is (p .at + w) c) ∙ length-drop (p .at + w) c
 
-  pub second-fits : (o : List ℕ) → Room (second-items k) c o → SecondFits o
+  pub second-fits : (o : List ℕ) → RoomFor (second-items k) c o → SecondFits o
   second-fits o (xs, h, room) =
       let s = the-sides xs h in
       record {
@@ -168,7 +168,7 @@ module _ (k : ℕ) (c : List ℕ) (p : Place) (place : PlaceOf c k p) where
             };
       }
 
-  pub second-clean : (o l : List ℕ) (n : ℕ) → p .into ≡ 0 → n ≡ length behind → CutAll behind before o l → Wrote (second-items k) c o n l
+  pub second-clean : (o l : List ℕ) (n : ℕ) → p .into ≡ 0 → n ≡ length behind → CutAll behind before o l → WroteFor (second-items k) c o n l
   second-clean o l n z e f xs h =
       let s = the-sides xs h in (
         e ∙ behind-long ∙ sym (second-size-0 k c xs p s z),
@@ -179,7 +179,7 @@ module _ (k : ℕ) (c : List ℕ) (p : Place) (place : PlaceOf c k p) where
   pub second-inner : (w : ℕ) (o l y : List ℕ) (n m : ℕ) → 1 ≤ p .into → WidthAt c (p .at) w → n ≡ 4 + length (back-text w)
       → m ≡ length (rest w)
       → l ≡ lead (textPiece (back-text w)) o → CutAll (rest w) before (take (length l - n) (drop n l)) y
-      → Wrote (second-items k) c o (n + m) (take n l ++ (y ++ drop (length l - n) (drop n l)))
+      → WroteFor (second-items k) c o (n + m) (take n l ++ (y ++ drop (length l - n) (drop n l)))
   second-inner w o l y n m z e f g h u xs holds =
       let s = the-sides xs holds in
       let i = s .inner z in

@@ -13,9 +13,9 @@ abbrev pub Some : List ℕ → Type 0
 Some c = (xs : Content) × Holds c xs
 
 -- c is a content, with room in o for what f makes of it
-abbrev pub Room : (Content → Content) → List ℕ → List ℕ → Type 0
-Room f c o = (xs : Content) × Holds c xs × (length (content-bytes (f xs)) ≤ length o)
+abbrev pub RoomFor : (Content → Content) → List ℕ → List ℕ → Type 0
+RoomFor f c o = (xs : Content) × Holds c xs × (length (content-bytes (f xs)) ≤ length o)
 
 -- the answer n and the output l are those of what f makes of the content
-abbrev pub Wrote : (Content → Content) → List ℕ → List ℕ → ℕ → List ℕ → Type 0
-Wrote f c o n l = (xs : Content) → Holds c xs → (n ≡ length (content-bytes (f xs))) × (l ≡ lead (content-bytes (f xs)) o)
+abbrev pub WroteFor : (Content → Content) → List ℕ → List ℕ → ℕ → List ℕ → Type 0
+WroteFor f c o n l = (xs : Content) → Holds c xs → (n ≡ length (content-bytes (f xs))) × (l ≡ lead (content-bytes (f xs)) o)

@@ -10,7 +10,7 @@ ghost use Rattle.walk.specs.Place.{One};
 ghost use Rattle.cut.specs.Turned.{turnedMark, turnIf, CutOne, CutAll, textPiece};
 ghost use Rattle.xliff.specs.Parse.{mark-at};
 ghost use Rattle.xliff.specs.Split.{first-items, second-items};
-ghost use Rattle.cut.specs.Halves.{Room, Wrote};
+ghost use Rattle.cut.specs.Halves.{RoomFor, WroteFor};
 
 // The mark of start or end over that of pc or mrk at the head of `out`; every other mark stays.
 fn put_turned_mark(out: &mut [u8], m: Mark)
@@ -81,8 +81,8 @@ fn put_text(out: &mut [u8], t: &[u8]) -> usize
 
 // The first half of a content that is cut at item `k`.
 pub fn put_first(out: &mut [u8], c: &[u8], k: usize) -> usize
-    requires { ⌜ Room (first-items k) (now c) (now out) ⌝ }
-    ensures { λ r. ⌜ Wrote (first-items k) (now (c .entry)) (now (out .entry)) r (now (out .exit)) ⌝ }
+    requires { ⌜ RoomFor (first-items k) (now c) (now out) ⌝ }
+    ensures { λ r. ⌜ WroteFor (first-items k) (now (c .entry)) (now (out .entry)) r (now (out .exit)) ⌝ }
 {
     let p = walk::place_of(c, k);
     let at = p.at;
@@ -99,8 +99,8 @@ pub fn put_first(out: &mut [u8], c: &[u8], k: usize) -> usize
 
 // The second half.
 pub fn put_second(out: &mut [u8], c: &[u8], k: usize) -> usize
-    requires { ⌜ Room (second-items k) (now c) (now out) ⌝ }
-    ensures { λ r. ⌜ Wrote (second-items k) (now (c .entry)) (now (out .entry)) r (now (out .exit)) ⌝ }
+    requires { ⌜ RoomFor (second-items k) (now c) (now out) ⌝ }
+    ensures { λ r. ⌜ WroteFor (second-items k) (now (c .entry)) (now (out .entry)) r (now (out .exit)) ⌝ }
 {
     let p = walk::place_of(c, k);
     let at = p.at;

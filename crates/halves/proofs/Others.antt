@@ -10,7 +10,7 @@ use Rattle.xliff.specs.Bytes.{keep}
 use Rattle.xliff.specs.Rules.{nearest}
 use Rattle.xliff.specs.Item.{Item, Content, start, end, text, character, standalone, isolated, pair, annotation-start, annotation-end, class, half, other-half}
 use Rattle.xliff.proofs.lists.Tests.{and-false}
-use Rattle.places.specs.Markers.{item-at, is-marked, marked}
+use Rattle.places.specs.Markers.{item-at, is-marked, only-markers}
 use Rattle.views.specs.declared.View.{View}
 use Rattle.views.specs.Views.{viewOf, itemsAt}
 use Rattle.keys.specs.Keys.{key, keysAt, otherKey}
@@ -19,40 +19,40 @@ use Rattle.halves.specs.Nearest.{others, half-before, half-after, marker
 use Rattle.id_links.specs.Nearest.{next, previous}
 use Rattle.id_links.proofs.Scans.{next-same, previous-same}
 
-pub length-keys : (t os : List ℕ) → length (keysAt t os) ≡ length os
+pub length-keys : (t markers : List ℕ) → length (keysAt t markers) ≡ length markers
 unfolding keysAt itemsAt
-length-keys t os = length-map (itemsAt t os) key ∙ length-map os (item-at t)
+length-keys t markers = length-map (itemsAt t markers) key ∙ length-map markers (item-at t)
 
-pub key-at : (t os : List ℕ) (k : ℕ) → k < length os → getD (keysAt t os) k 0 ≡ key (marker-at t os k)
+pub key-at : (t markers : List ℕ) (k : ℕ) → k < length markers → getD (keysAt t markers) k 0 ≡ key (marker-at t markers k)
 unfolding keysAt itemsAt
 key-at t [] k h = absurd (omega arith)
-key-at t (o ∷ os) zero h = refl
-key-at t (o ∷ os) (suc k) h = key-at t os k (omega arith)
+key-at t (o ∷ markers) zero h = refl
+key-at t (o ∷ markers) (suc k) h = key-at t markers k (omega arith)
 
 -- an array that holds the keys: as long as the offsets, and what is read at an offset
-module _ (t os keys : List ℕ) (e : keys ≡ keysAt t os) where
-  pub keys-long : length keys ≡ length os
-  keys-long = ap length e ∙ length-keys t os
+module _ (t markers keys : List ℕ) (e : keys ≡ keysAt t markers) where
+  pub keys-long : length keys ≡ length markers
+  keys-long = ap length e ∙ length-keys t markers
 
-  pub key-there : (i o : ℕ) → i < length os → o ≡ getD os i 0 → getD keys i 0 ≡ key (item-at t o)
-  key-there i o h f = ap (λ (l : List ℕ). getD l i 0) e ∙ key-at t os i h ∙ ap (λ (k : ℕ). key (item-at t k)) (sym f)
+  pub key-there : (i o : ℕ) → i < length markers → o ≡ getD markers i 0 → getD keys i 0 ≡ key (item-at t o)
+  key-there i o h f = ap (λ (l : List ℕ). getD l i 0) e ∙ key-at t markers i h ∙ ap (λ (k : ℕ). key (item-at t k)) (sym f)
 
-pub view-there : (t os : List ℕ) (i o : ℕ) (v : View) → o ≡ getD os i 0 → v ≡ viewOf (item-at t o) → v ≡ viewOf (marker-at t os i)
-view-there t os i o v f e = e ∙ ap (λ (k : ℕ). viewOf (item-at t k)) f
+pub view-there : (t markers : List ℕ) (i o : ℕ) (v : View) → o ≡ getD markers i 0 → v ≡ viewOf (item-at t o) → v ≡ viewOf (marker-at t markers i)
+view-there t markers i o v f e = e ∙ ap (λ (k : ℕ). viewOf (item-at t k)) f
 
-module _ (t os : List ℕ) (i : ℕ) (h : i < length os) where
-  others-are : (k : ℕ) → k < length os → others (keysAt t os) i k ≡ other-half (marker-at t os i) (marker-at t os k)
-  others-are k l = ap₂ otherKey (key-at t os i h) (key-at t os k l) ∙ other-key (marker-at t os i) (marker-at t os k)
+module _ (t markers : List ℕ) (i : ℕ) (h : i < length markers) where
+  others-are : (k : ℕ) → k < length markers → others (keysAt t markers) i k ≡ other-half (marker-at t markers i) (marker-at t markers k)
+  others-are k l = ap₂ otherKey (key-at t markers i h) (key-at t markers k l) ∙ other-key (marker-at t markers i) (marker-at t markers k)
 
-  pub before-is : half-before (keysAt t os) i ≡ previous (λ k. other-half (marker-at t os i) (marker-at t os k)) i
+  pub before-is : half-before (keysAt t markers) i ≡ previous (λ k. other-half (marker-at t markers i) (marker-at t markers k)) i
   unfolding half-before
   before-is = previous-same _ _ i (λ k l. others-are k (omega arith))
 
-  pub after-is : half-after (keysAt t os) i ≡ next (λ k. other-half (marker-at t os i) (marker-at t os k)) (suc i) (length os - suc i)
+  pub after-is : half-after (keysAt t markers) i ≡ next (λ k. other-half (marker-at t markers i) (marker-at t markers k)) (suc i) (length markers - suc i)
   unfolding half-after
   after-is =
-      ap (λ (n : ℕ). next (others (keysAt t os) i) (suc i) (n - suc i)) (length-keys t os)
-      ∙ next-same _ _ (suc i) (length os - suc i) (λ k g l. others-are k (omega arith))
+      ap (λ (n : ℕ). next (others (keysAt t markers) i) (suc i) (n - suc i)) (length-keys t markers)
+      ∙ next-same _ _ (suc i) (length markers - suc i) (λ k g l. others-are k (omega arith))
 
 no-half : (y : Item) → is-marked y ≡ false → half y ≡ 0
 unfolding is-marked class half
@@ -82,8 +82,8 @@ not-own (annotation-start w i l) = simp and-false
 not-own (annotation-end w i) = simp and-false
 
 -- what does not pass a test is passed over: among the markers the nearest is the same
-pub nearest-marked : (p : Item → Bool) → ((x : Item) → is-marked x ≡ false → p x ≡ false) → (xs : Content) → nearest p xs ≡ nearest p (marked xs)
-unfolding nearest marked keep
+pub nearest-marked : (p : Item → Bool) → ((x : Item) → is-marked x ≡ false → p x ≡ false) → (xs : Content) → nearest p xs ≡ nearest p (only-markers xs)
+unfolding nearest only-markers keep
 nearest-marked p h [] = refl
 nearest-marked p h (x ∷ xs) = by (is-marked x) refl (nearest-marked p h xs)
   where

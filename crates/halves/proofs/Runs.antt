@@ -20,12 +20,12 @@ use Rattle.id_links.specs.Nearest.{next, previous}
 use Rattle.id_links.proofs.Scans.{next-low, previous-high}
 
 -- the items of the offsets from an index on
-pub items-run : (t os : List ℕ) (n a : ℕ) → a + n ≡ length os → items (placed-at t (drop a os)) ≡ run (marker-at t os) a n
+pub items-run : (t markers : List ℕ) (n a : ℕ) → a + n ≡ length markers → items (placed-at t (drop a markers)) ≡ run (marker-at t markers) a n
 unfolding items placed-at run
-items-run t os zero a h = rw (drop-of-length-le os {i = a} (omega arith))
-items-run t os (suc n) a h =
-    ap (λ (l : List ℕ). items (placed-at t l)) (drop-cons os a 0 (omega arith))
-    ∙ ap {B = Content} (λ l. marker-at t os a ∷ l) (items-run t os n (suc a) (omega arith))
+items-run t markers zero a h = rw (drop-of-length-le markers {i = a} (omega arith))
+items-run t markers (suc n) a h =
+    ap (λ (l : List ℕ). items (placed-at t l)) (drop-cons markers a 0 (omega arith))
+    ∙ ap {B = Content} (λ l. marker-at t markers a ∷ l) (items-run t markers n (suc a) (omega arith))
 
 pub earlier-on : (x : ℕ → Item) (i : ℕ) → x i ∷ earlier x i ≡ earlier x (i + 1)
 unfolding earlier

@@ -22,7 +22,7 @@ half-before keys i = previous (others keys i) i
 
 -- the marker of an index
 abbrev pub marker-at : List ℕ → List ℕ → ℕ → Item
-marker-at t os k = item-at t (getD os k 0)
+marker-at t markers k = item-at t (getD markers k 0)
 
 -- the n elements from an index on, and those before an index, the nearest first
 unfoldable pub run : {A : Type 0} → (ℕ → A) → ℕ → ℕ → List A

@@ -5,6 +5,7 @@ ghost use Prim.Native.Nat.{_<_, _≤_};
 ghost use lib.ListN.{length};
 ghost use Rattle.id_links.specs.Links.{Linked, LinkedAfter};
 ghost use Rattle.halves.specs.Nearest.{half-before, half-after};
+ghost use Rattle.xliff.specs.Parse.{most-records};
 
 // Linear in the markers before `i`: a scan of their keys.
 fn scan_before(keys: &[u32], i: usize) -> usize
@@ -60,7 +61,7 @@ pub fn half_after(keys: &[u32], i: usize) -> usize
 
 // Linear in the markers before `i` of its group: the links lead to them.
 fn follow_before(keys: &[u32], links: &[u16], i: usize) -> usize
-    requires { ⌜ Linked (now keys) (now links) × (length (now keys) ≤ 1024) × (length (now links) ≡ 1024) × (i < length (now keys)) ⌝ }
+    requires { ⌜ Linked (now keys) (now links) × (length (now keys) ≤ most-records) × (length (now links) ≡ most-records) × (i < length (now keys)) ⌝ }
     ensures { λ r. ⌜ (r ≡ half-before (now (keys .entry)) i) × (r ≤ i) ⌝ }
 {
     let key = keys[i];
@@ -76,7 +77,7 @@ fn follow_before(keys: &[u32], links: &[u16], i: usize) -> usize
 
 // Linear in the markers after `i` of its group: the links lead to them.
 fn follow_after(keys: &[u32], links: &[u16], i: usize) -> usize
-    requires { ⌜ LinkedAfter (now keys) (now links) × (length (now keys) ≤ 1024) × (length (now links) ≡ 1024) × (i < length (now keys)) ⌝ }
+    requires { ⌜ LinkedAfter (now keys) (now links) × (length (now keys) ≤ most-records) × (length (now links) ≡ most-records) × (i < length (now keys)) ⌝ }
     ensures { λ r. ⌜ (r ≡ half-after (now (keys .entry)) i) × (i < r) × (r ≤ length (now (keys .entry))) ⌝ }
 {
     let key = keys[i];
@@ -92,7 +93,7 @@ fn follow_after(keys: &[u32], links: &[u16], i: usize) -> usize
 
 // `half_before`, of keys that are linked to those before them.
 pub fn linked_before(keys: &[u32], links: &[u16], i: usize) -> usize
-    requires { ⌜ Linked (now keys) (now links) × (length (now keys) ≤ 1024) × (length (now links) ≡ 1024) × (i < length (now keys)) ⌝ }
+    requires { ⌜ Linked (now keys) (now links) × (length (now keys) ≤ most-records) × (length (now links) ≡ most-records) × (i < length (now keys)) ⌝ }
     ensures { λ r. ⌜ (r ≡ half-before (now (keys .entry)) i) × (r ≤ i) ⌝ }
 {
     if keys::half_of(keys[i]) == 0 {
@@ -103,7 +104,7 @@ pub fn linked_before(keys: &[u32], links: &[u16], i: usize) -> usize
 
 // `half_after`, of keys that are linked to those after them.
 pub fn linked_after(keys: &[u32], links: &[u16], i: usize) -> usize
-    requires { ⌜ LinkedAfter (now keys) (now links) × (length (now keys) ≤ 1024) × (length (now links) ≡ 1024) × (i < length (now keys)) ⌝ }
+    requires { ⌜ LinkedAfter (now keys) (now links) × (length (now keys) ≤ most-records) × (length (now links) ≡ most-records) × (i < length (now keys)) ⌝ }
     ensures { λ r. ⌜ (r ≡ half-after (now (keys .entry)) i) × (i < r) × (r ≤ length (now (keys .entry))) ⌝ }
 {
     if keys::half_of(keys[i]) == 0 {

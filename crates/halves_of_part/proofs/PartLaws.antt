@@ -13,8 +13,8 @@ use Rattle.writer.specs.Pieces.{lead, Written}
 use Rattle.writer.proofs.RunLaws.{Pieces, pair}
 use Rattle.heads.specs.Heads.{OrderIs, HeadRoom}
 use Rattle.heads.proofs.HeadLaws.{id-long}
-use Rattle.part_contents.specs.Targets.{TargetIs}
-use Rattle.part_contents.proofs.TargetLaws.{Present, absent, target-bytes, no-bytes}
+use Rattle.part_at.specs.Targets.{TargetIs}
+use Rattle.part_at.proofs.TargetLaws.{Present, absent, target-bytes, no-bytes}
 use Rattle.halves_of_part.specs.Parts.{PartIs, Rises, halves}
 
 -- no target: nothing is written

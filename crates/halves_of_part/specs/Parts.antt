@@ -8,7 +8,7 @@ use Rattle.xliff.specs.Encode.{head-bytes, target-records, part-records, spell}
 use Rattle.xliff.specs.Split.{first-half, second-half}
 use Rattle.walk.specs.Kept.{Holds}
 use Rattle.writer.specs.Pieces.{Written}
-use Rattle.part_contents.specs.Targets.{TargetIs}
+use Rattle.part_at.specs.Targets.{TargetIs}
 
 abbrev pub PartIs : List ℕ → List ℕ → List ℕ → Part → Type 0
 PartIs h s t p = (head-bytes (p .head) ≡ h) × Holds s (p .source) × TargetIs t (p .target)
@@ -26,11 +26,11 @@ abbrev pub WroteTarget : (Target → Target) → List ℕ → List ℕ → ℕ �
 WroteTarget f t o n l = (g : Target) → TargetIs t g → Written (spell (target-records (f g))) o n l
 
 -- the same for a part
-abbrev pub RoomPart : (Part → Part) → List ℕ → List ℕ → List ℕ → List ℕ → Type 0
-RoomPart f h s t o = (p : Part) × PartIs h s t p × Rises (p .target) × (length (spell (part-records (f p))) ≤ length o)
+abbrev pub RoomHalf : (Part → Part) → List ℕ → List ℕ → List ℕ → List ℕ → Type 0
+RoomHalf f h s t o = (p : Part) × PartIs h s t p × Rises (p .target) × (length (spell (part-records (f p))) ≤ length o)
 
-abbrev pub WrotePart : (Part → Part) → List ℕ → List ℕ → List ℕ → List ℕ → ℕ → List ℕ → Type 0
-WrotePart f h s t o n l = (p : Part) → PartIs h s t p → Written (spell (part-records (f p))) o n l
+abbrev pub WroteHalf : (Part → Part) → List ℕ → List ℕ → List ℕ → List ℕ → ℕ → List ℕ → Type 0
+WroteHalf f h s t o n l = (p : Part) → PartIs h s t p → Written (spell (part-records (f p))) o n l
 
 -- both halves of a part, as `split-focus` has them
 abbrev pub halves : ℕ → ℕ → ℕ → Part → List ℕ

@@ -1,7 +1,7 @@
 // The two halves of a part.
 ghost use Prim.Native.Nat.{_+_, _-_};
 ghost use Rattle.xliff.specs.Split.{first-target, second-target, first-half, second-half};
-ghost use Rattle.halves_of_part.specs.Parts.{RoomTarget, WroteTarget, RoomPart, WrotePart, RoomHalves, WroteHalves};
+ghost use Rattle.halves_of_part.specs.Parts.{RoomTarget, WroteTarget, RoomHalf, WroteHalf, RoomHalves, WroteHalves};
 
 // The target of the first half.
 fn put_target_first(out: &mut [u8], t: &[u8], k: usize) -> usize
@@ -18,8 +18,8 @@ fn put_target_first(out: &mut [u8], t: &[u8], k: usize) -> usize
 
 // The first half of a part: its head `h`, its source content `s`, its target `t`.
 fn put_first_half(out: &mut [u8], h: &[u8], s: &[u8], t: &[u8], k: usize, j: usize) -> usize
-    requires { ⌜ RoomPart (first-half k j) (now h) (now s) (now t) (now out) ⌝ }
-    ensures { λ r. ⌜ WrotePart (first-half k j) (now (h .entry)) (now (s .entry)) (now (t .entry)) (now (out .entry)) r (now (out .exit)) ⌝ }
+    requires { ⌜ RoomHalf (first-half k j) (now h) (now s) (now t) (now out) ⌝ }
+    ensures { λ r. ⌜ WroteHalf (first-half k j) (now (h .entry)) (now (s .entry)) (now (t .entry)) (now (out .entry)) r (now (out .exit)) ⌝ }
 {
     let n = writer::put(out, h);
     let m = cut::put_first(&mut out[n..], s, k);
@@ -51,8 +51,8 @@ fn put_second_half(
     j: usize,
     id: u16,
 ) -> usize
-    requires { ⌜ RoomPart (second-half k j id) (now h) (now s) (now t) (now out) ⌝ }
-    ensures { λ r. ⌜ WrotePart (second-half k j id) (now (h .entry)) (now (s .entry)) (now (t .entry)) (now (out .entry)) r (now (out .exit)) ⌝ }
+    requires { ⌜ RoomHalf (second-half k j id) (now h) (now s) (now t) (now out) ⌝ }
+    ensures { λ r. ⌜ WroteHalf (second-half k j id) (now (h .entry)) (now (s .entry)) (now (t .entry)) (now (out .entry)) r (now (out .exit)) ⌝ }
 {
     let n = heads::put_with_id(out, h, id);
     let m = cut::put_second(&mut out[n..], s, k);

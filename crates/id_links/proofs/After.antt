@@ -11,6 +11,7 @@ use lib.Seq.{getD-set-same, getD-set-other}
 use Rattle.id_links.specs.Nearest.{next}
 use Rattle.id_links.specs.Links.{group, in-group, LinkedAfter}
 use Rattle.id_links.proofs.Scans.{next-hit, next-miss}
+use Rattle.xliff.specs.Parse.{most-records}
 
 -- the links of the keys from i on, and of each group the first of them, counted from the end
 abbrev pub LinkedFrom : List ℕ → ℕ → List ℕ → Type 0
@@ -54,9 +55,9 @@ module _ (keys links heads : List ℕ) (i : ℕ) (l : i < length keys) (g : ℕ)
 
 -- what holds while the keys are linked from the end
 abbrev pub LinkedDownTo : List ℕ → ℕ → List ℕ → List ℕ → Type 0
-LinkedDownTo keys i links heads = (i ≤ length keys) × (length links ≡ 1024) × (length heads ≡ 256) × LinkedFrom keys i links × HeadedFrom keys i heads
+LinkedDownTo keys i links heads = (i ≤ length keys) × (length links ≡ most-records) × (length heads ≡ 256) × LinkedFrom keys i links × HeadedFrom keys i heads
 
-pub down-to-next : (keys links heads : List ℕ) (i g : ℕ) → 0 < i → length keys ≤ 1024 → (g ≡ group (getD keys (i - 1) 0)) × (g < 256) → LinkedDownTo keys i links heads
+pub down-to-next : (keys links heads : List ℕ) (i g : ℕ) → 0 < i → length keys ≤ most-records → (g ≡ group (getD keys (i - 1) 0)) × (g < 256) → LinkedDownTo keys i links heads
     → LinkedDownTo keys (i - 1) (set links (i - 1) (getD heads g 0)) (set heads g (length keys - (i - 1)))
 down-to-next keys links heads i g h few e old =
     let l : i - 1 < length keys = omega (arith, h, old .0) in
@@ -70,7 +71,7 @@ down-to-next keys links heads i g h few e old =
       headed-from keys links heads (i - 1) l g (e .0) (old .2) (subst (λ (j : ℕ). HeadedFrom keys j heads) z (old .4)),
     )
 
-pub down-to-start : (keys links : List ℕ) → length links ≡ 1024 → LinkedDownTo keys (length keys) links (replicate 256 0)
+pub down-to-start : (keys links : List ℕ) → length links ≡ most-records → LinkedDownTo keys (length keys) links (replicate 256 0)
 unfolding next
 down-to-start keys links h = (
   omega arith,

@@ -11,6 +11,7 @@ use lib.ListN.{length, getD, set, take, length-append, length-set, List·getD-ap
 use lib.Seq.{getD-set-same, getD-set-other, getD-append-seam, take-suc, take-all, length-take-le}
 use Rattle.xliff.specs.Bytes.{any}
 use Rattle.xliff.proofs.lists.Tests.{any-append, or-none, or-true}
+use Rattle.xliff.specs.Parse.{most-records}
 use Rattle.id_links.specs.Nearest.{previous}
 use Rattle.id_links.specs.Links.{group, in-group, Linked, Headed}
 use Rattle.id_links.proofs.Scans.{previous-same}
@@ -107,9 +108,9 @@ module _ (keys links heads : List ℕ) (i : ℕ) (l : i < length keys) where
 
 -- what holds while the keys are linked, one after the other
 abbrev pub LinkedUpTo : List ℕ → ℕ → List ℕ → List ℕ → Type 0
-LinkedUpTo keys i links heads = (i ≤ length keys) × (length links ≡ 1024) × (length heads ≡ 256) × Linked (take i keys) links × Headed (take i keys) heads
+LinkedUpTo keys i links heads = (i ≤ length keys) × (length links ≡ most-records) × (length heads ≡ 256) × Linked (take i keys) links × Headed (take i keys) heads
 
-pub up-to-next : (keys links heads links′ heads′ : List ℕ) (i : ℕ) → i < length keys → length keys ≤ 1024 → LinkedUpTo keys i links heads
+pub up-to-next : (keys links heads links′ heads′ : List ℕ) (i : ℕ) → i < length keys → length keys ≤ most-records → LinkedUpTo keys i links heads
     → links′ ≡ set links i (getD heads (group (getD keys i 0)) 0) → heads′ ≡ set heads (group (getD keys i 0)) (i + 1) → LinkedUpTo keys (i + 1) links′ heads′
 up-to-next keys links heads links′ heads′ i l few old e f = (
   omega (arith, l),

@@ -4,6 +4,7 @@ ghost use mathlib.Core.List.{[]};
 ghost use Prim.Native.Nat.{_+_, _-_, _<_, _≤_};
 ghost use lib.ListN.{length, getD, set};
 ghost use Rattle.id_links.specs.Links.{group, Linked, Headed, LinkedAfter};
+ghost use Rattle.xliff.specs.Parse.{most-records};
 
 // The group of a key: the last eight bits of its id.
 pub fn group_of(k: u32) -> usize
@@ -14,7 +15,7 @@ pub fn group_of(k: u32) -> usize
 
 // The `n`th key linked to the last before it of its group, and now itself the last of it.
 pub fn link(links: &mut [u16], heads: &mut [u16], n: usize, k: u32)
-    requires { ⌜ (n < length (now links)) × (n < 1024) × (length (now heads) ≡ 256) ⌝ }
+    requires { ⌜ (n < length (now links)) × (n < most-records) × (length (now heads) ≡ 256) ⌝ }
     ensures { λ r. ⌜ (now (links .exit) ≡ set (now (links .entry)) n (getD (now (heads .entry)) (group k) 0)) × (now (heads .exit) ≡ set (now (heads .entry)) (group k) (n + 1)) ⌝ }
 {
     let g = group_of(k);
@@ -24,8 +25,8 @@ pub fn link(links: &mut [u16], heads: &mut [u16], n: usize, k: u32)
 
 // Links to what is before, and the last key of each group. Linear.
 pub fn link_before(keys: &[u32], links: &mut [u16], heads: &mut [u16])
-    requires { ⌜ (length (now keys) ≤ 1024) × (length (now links) ≡ 1024) × (length (now heads) ≡ 256) × Headed [] (now heads) ⌝ }
-    ensures { λ r. ⌜ Linked (now (keys .entry)) (now (links .exit)) × Headed (now (keys .entry)) (now (heads .exit)) × (length (now (links .exit)) ≡ 1024) × (length (now (heads .exit)) ≡ 256) ⌝ }
+    requires { ⌜ (length (now keys) ≤ most-records) × (length (now links) ≡ most-records) × (length (now heads) ≡ 256) × Headed [] (now heads) ⌝ }
+    ensures { λ r. ⌜ Linked (now (keys .entry)) (now (links .exit)) × Headed (now (keys .entry)) (now (heads .exit)) × (length (now (links .exit)) ≡ most-records) × (length (now (heads .exit)) ≡ 256) ⌝ }
 {
     let mut i: usize = 0;
     while i < keys.len() {
@@ -36,8 +37,8 @@ pub fn link_before(keys: &[u32], links: &mut [u16], heads: &mut [u16])
 
 // Links to what is after, counted from the end. Linear.
 pub fn link_after(keys: &[u32], links: &mut [u16])
-    requires { ⌜ (length (now keys) ≤ 1024) × (length (now links) ≡ 1024) ⌝ }
-    ensures { λ r. ⌜ LinkedAfter (now (keys .entry)) (now (links .exit)) × (length (now (links .exit)) ≡ 1024) ⌝ }
+    requires { ⌜ (length (now keys) ≤ most-records) × (length (now links) ≡ most-records) ⌝ }
+    ensures { λ r. ⌜ LinkedAfter (now (keys .entry)) (now (links .exit)) × (length (now (links .exit)) ≡ most-records) ⌝ }
 {
     let mut heads = [0u16; 256];
     let n = keys.len();

@@ -15,6 +15,7 @@ use Rattle.id_links.proofs.Search.{Searched, Grouped, search-start}
 use Rattle.ids.specs.Keys.{clashTest}
 use Rattle.ids.specs.KeyLinks.{Links, LinkedIf}
 use Rattle.ids.proofs.NameLaws.{take-set}
+use Rattle.xliff.specs.Parse.{most-records}
 
 pub clash-grouped : (k g : ℕ) (keys : List ℕ) → g ≡ group k → Grouped (clashTest k) keys g
 clash-grouped k g keys e j h =
@@ -28,11 +29,11 @@ clash-start k keys links heads l g j e f =
     subst (Searched (clashTest k) keys (group k)) (sym (f ∙ ap (λ (x : ℕ). getD heads x 0) e))
     (search-start (clashTest k) keys (group k) heads (clash-grouped k (group k) keys refl) (l .3) (omega arith))
 
-pub links-none : Links [] (replicate 1024 0) (replicate 256 0)
+pub links-none : Links [] (replicate most-records 0) (replicate 256 0)
 unfolding previous
 links-none = (refl, refl, (λ k l. absurd (omega (arith, l))), λ g l. getD-replicate 256 g 0 0 l)
 
-pub links-more : (keys links heads : List ℕ) (n k : ℕ) → n < length keys → length keys ≡ 1024 → Links (take n keys) links heads
+pub links-more : (keys links heads : List ℕ) (n k : ℕ) → n < length keys → length keys ≡ most-records → Links (take n keys) links heads
     → (links′ heads′ : List ℕ) → LinkedIf links heads n k links′ heads′
     → Links (take (cond (eqb k 0) n (n + 1)) (set keys n k)) links′ heads′
 links-more keys links heads n k h all old links′ heads′ new = by (eqb k 0) new

@@ -10,7 +10,7 @@ use lib.Dec.{eqb}
 use Rattle.xliff.specs.Bytes.{any}
 use Rattle.xliff.specs.Answer.{refusal}
 use Rattle.xliff.specs.Encode.{Record, unit-records}
-use Rattle.xliff.specs.Parse.{unit}
+use Rattle.xliff.specs.Parse.{unit, most-records}
 use Rattle.xliff.specs.Rules.{Named, first-clash, fault-6}
 use Rattle.places.specs.Passes.{Passes}
 use Rattle.places.specs.Offsets.{At}
@@ -29,12 +29,12 @@ pub record Meeting (t keys links heads : List ℕ) (n o at : ℕ) : Type 0 where
   pub here : At t at records
   pub rest : fault-6 (unit t .parts) ≡ first-clash met (names-found (owner o) at records)
   pub stored : Met keys n met
-  pub room : n + length records ≤ 1024
-  pub sized : length keys ≡ 1024
+  pub room : n + length records ≤ most-records
+  pub sized : length keys ≡ most-records
   pub owned : (1 ≤ o) × (o ≤ 3)
   pub linked : Links (take n keys) links heads
 
-pub meeting-start : (t : List ℕ) → Passes t → Meeting t (replicate 1024 0) (replicate 1024 0) (replicate 256 0) 0 2 0
+pub meeting-start : (t : List ℕ) → Passes t → Meeting t (replicate most-records 0) (replicate most-records 0) (replicate 256 0) 0 2 0
 meeting-start t p =
     record {
       records = unit-records (unit t);
@@ -54,7 +54,7 @@ module _ {t keys links heads : List ℕ} {n o at : ℕ} (m : Meeting t keys link
 
   -- one record further
   module _ (g : Glance) (v : Walked t at (m .records) g) where
-    pub meeting-room : n < 1024
+    pub meeting-room : n < most-records
     meeting-room = omega (arith, m .room, ap length (v .step .split))
 
     module _ (l : at < length t) (k : ℕ) (name : NameAt t at (g .head) o k) where
@@ -78,7 +78,7 @@ module _ {t keys links heads : List ℕ} {n o at : ℕ} (m : Meeting t keys link
             here = v .rest;
             rest = on ∙ miss .1 ∙ ap (λ (a : ℕ). first-clash (miss .0) (names-found (owner a) (at + g .width) (v .step .others))) (sym own);
             stored = subst (λ (j : ℕ). Met (set keys n k) j (miss .0)) (sym count) (miss .2);
-            room = subst (λ (j : ℕ). j + length (v .step .others) ≤ 1024) (sym count)
+            room = subst (λ (j : ℕ). j + length (v .step .others) ≤ most-records) (sym count)
                 (count-bound (eqb k 0) n (length (v .step .others)) (omega (arith, m .room, ap length (v .step .split))));
             sized = length-set keys n k ∙ m .sized;
             owned = subst (λ (j : ℕ). (1 ≤ j) × (j ≤ 3)) (sym own) (owner-bound (g .head) o (m .owned));

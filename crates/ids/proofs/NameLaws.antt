@@ -13,7 +13,7 @@ use Rattle.xliff.specs.Bytes.{any}
 use Rattle.xliff.specs.Answer.{refusal}
 use Rattle.xliff.specs.Encode as encode
 use Rattle.xliff.specs.Encode.{record-bytes, unit-records}
-use Rattle.xliff.specs.Parse.{unit, read, is-part}
+use Rattle.xliff.specs.Parse.{unit, read, is-part, most-records}
 use Rattle.xliff.proofs.lists.Tests.{any-append}
 use Rattle.xliff.specs.Rules.{Owner, of-part, of-source, of-target, Named, start-name, clashes, may-share, first-clash, fault-6}
 use Rattle.places.specs.Offsets.{At}
@@ -142,7 +142,7 @@ part-is cs (Target k) = refl
 part-is cs Text = refl
 part-is cs (Inline i) = refl
 
-pub count-bound : (b : Bool) (n m : ℕ) → n + suc m ≤ 1024 → cond b n (n + 1) + m ≤ 1024
+pub count-bound : (b : Bool) (n m : ℕ) → n + suc m ≤ most-records → cond b n (n + 1) + m ≤ most-records
 count-bound true n m h = omega arith
 count-bound false n m h = omega arith
 

@@ -6,9 +6,10 @@ use mathlib.Core.List.{List}
 use lib.Dec.{eqb}
 use lib.ListN.{length, getD, set}
 use Rattle.id_links.specs.Links.{group, Linked, Headed}
+use Rattle.xliff.specs.Parse.{most-records}
 
 abbrev pub Links : List ℕ → List ℕ → List ℕ → Type 0
-Links keys links heads = (length links ≡ 1024) × (length heads ≡ 256) × Linked keys links × Headed keys heads
+Links keys links heads = (length links ≡ most-records) × (length heads ≡ 256) × Linked keys links × Headed keys heads
 
 -- what one more key changes; 0 is none
 abbrev pub LinkedIf : List ℕ → List ℕ → ℕ → ℕ → List ℕ → List ℕ → Type 0

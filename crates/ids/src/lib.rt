@@ -1,5 +1,6 @@
 // Rule 6. An id and its owner are one number: 64 times the id, plus 1 for a part, 2 for the source, 3 for a target; 0 is none.
 use answers::Place;
+use limits::MOST_RECORDS;
 use table::Fields;
 use table::Half;
 use table::Item;
@@ -12,7 +13,7 @@ ghost use lib.ListN.{length};
 ghost use lib.Dec.{eqb};
 ghost use Rattle.answers.specs.Answers.{refusal-at};
 ghost use Rattle.xliff.specs.Bytes.{any};
-ghost use Rattle.xliff.specs.Parse.{unit};
+ghost use Rattle.xliff.specs.Parse.{unit, most-records};
 ghost use Rattle.xliff.specs.Rules.{fault-6};
 ghost use Rattle.places.specs.Passes.{Passes};
 ghost use Rattle.ids.specs.Keys.{Keyed, PairKeyed, ItemKeyed, HeadKeyed, RecordKeyed, ReadKeyed, clashTest, nameBy, ownerBy, NameAt};
@@ -126,7 +127,7 @@ fn clash_with(a: u32, b: u32) -> bool
 
 // Whether `k` clashes with an earlier one: along the links of its group.
 fn clash(keys: &[u32], links: &[u16], heads: &[u16], k: u32) -> bool
-    requires { ⌜ Links (now keys) (now links) (now heads) × (length (now keys) ≤ 1024) ⌝ }
+    requires { ⌜ Links (now keys) (now links) (now heads) × (length (now keys) ≤ most-records) ⌝ }
     ensures { λ r. ⌜ r ≡ any (clashTest k) (now (keys .entry)) ⌝ }
 {
     let mut j = marks::wide(heads[id_links::group_of(k)]);
@@ -140,7 +141,7 @@ fn clash(keys: &[u32], links: &[u16], heads: &[u16], k: u32) -> bool
 }
 
 fn clash_if(keys: &[u32], links: &[u16], heads: &[u16], k: u32) -> bool
-    requires { ⌜ Links (now keys) (now links) (now heads) × (length (now keys) ≤ 1024) ⌝ }
+    requires { ⌜ Links (now keys) (now links) (now heads) × (length (now keys) ≤ most-records) ⌝ }
     ensures { λ r. ⌜ r ≡ cond (eqb k 0) false (any (clashTest k) (now (keys .entry))) ⌝ }
 {
     if k == 0 {
@@ -151,7 +152,7 @@ fn clash_if(keys: &[u32], links: &[u16], heads: &[u16], k: u32) -> bool
 
 // One more key, unless it is 0; how many there are then.
 fn link_if(links: &mut [u16], heads: &mut [u16], n: usize, k: u32) -> usize
-    requires { ⌜ (n < 1024) × (length (now links) ≡ 1024) × (length (now heads) ≡ 256) ⌝ }
+    requires { ⌜ (n < most-records) × (length (now links) ≡ most-records) × (length (now heads) ≡ 256) ⌝ }
     ensures { λ r. ⌜ (r ≡ cond (eqb k 0) n (n + 1)) × LinkedIf (now (links .entry)) (now (heads .entry)) n k (now (links .exit)) (now (heads .exit)) ⌝ }
 {
     if k == 0 {
@@ -166,8 +167,8 @@ pub fn rule_6(t: &[u8]) -> Place
     requires { ⌜ Passes (now t) ⌝ }
     ensures { λ r. ⌜ refusal-at 6 r ≡ fault-6 (unit (now (t .entry)) .parts) ⌝ }
 {
-    let mut keys = [0u32; 1024];
-    let mut links = [0u16; 1024];
+    let mut keys = [0u32; MOST_RECORDS];
+    let mut links = [0u16; MOST_RECORDS];
     let mut heads = [0u16; 256];
     let mut n: usize = 0;
     let mut o: u32 = 2;

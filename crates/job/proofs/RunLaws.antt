@@ -15,7 +15,7 @@ use borrow.Author.Tests.{ltb-false}
 use Rattle.outcomes.proofs.OutcomeLaws.{accepted-none, refused-some}
 
 -- an accepted table has at most 8,192 bytes
-pub accepted-small : (t : List ℕ) (m : ℕ) → spec.accepted m ≡ check t → length t ≤ 8192
+pub accepted-small : (t : List ℕ) (m : ℕ) → spec.accepted m ≡ check t → length t ≤ most-bytes
 unfolding table-refusal
 accepted-small t m h = ltb-false most-bytes (length t) (applies-none 1 (ltb most-bytes (length t)) (then-left _ _ (accepted-none t m h)))
 

@@ -14,6 +14,7 @@ use Rattle.answers.specs.declared.Answer.{Answer}
 use Rattle.answers.specs.declared.Answer.the-variants.{Accepted, Refused}
 use Rattle.writer.specs.Pieces.{lead}
 use Rattle.xliff.proofs.lists.Slices.{tail-is}
+use Rattle.xliff.specs.Parse.{most-bytes}
 use Rattle.writer.proofs.PieceLaws.{tail-ends, two-back}
 use Rattle.outcomes.specs.Outcomes.{Answers}
 use Rattle.job.specs.Job.{FitsIn, kept-table}
@@ -25,13 +26,13 @@ length-of : {n m : ℕ} → spec.accepted n ≡ spec.accepted m → n ≡ m
 length-of e = cc
 
 -- what an accepted answer leaves in the lent output is the whole result
-fits-by : (s out last : List ℕ) → length out ≡ 8192 → length last ≡ 8192 → last ≡ s ++ drop (length s) out → length s ≤ 8192
+fits-by : (s out last : List ℕ) → length out ≡ most-bytes → length last ≡ most-bytes → last ≡ s ++ drop (length s) out → length s ≤ most-bytes
 fits-by s out last h k e = omega (arith, h, k, ap length e, length-append s (drop (length s) out), length-drop (length s) out)
 
 pub head-by : (s out last : List ℕ) (m : ℕ) → m ≡ length s → last ≡ s ++ drop (length s) out → take m last ≡ s
 head-by s out last m e f = rw (e, f, take-append-seam) refl
 
-pub answer-fits : (o : Outcome) (a : Answer) (out last : List ℕ) → Answers o a out last → length out ≡ 8192 → length last ≡ 8192 → FitsIn a
+pub answer-fits : (o : Outcome) (a : Answer) (out last : List ℕ) → Answers o a out last → length out ≡ most-bytes → length last ≡ most-bytes → FitsIn a
 unfolding answer output
 answer-fits (result s) (Accepted m) out last h k l = omega (arith, length-of (h .0), fits-by s out last k l (h .1))
 answer-fits (result s) (Refused n at) out last h k l = tt
@@ -45,8 +46,8 @@ answer-keeps (result s) (Refused k at) n table out last h = clash (sym (h .0))
 answer-keeps (refuse r) (Accepted m) n table out last h = clash (h .0)
 answer-keeps (refuse r) (Refused k at) n table out last h = refl
 
-pub put-keeps : (table work last : List ℕ) (m r : ℕ) → m ≤ length work → length work ≡ 8192 → r ≡ length (take m work) → last ≡ lead (take m work) table
-    → (take r last ≡ take m work) × (r ≤ 8192)
+pub put-keeps : (table work last : List ℕ) (m r : ℕ) → m ≤ length work → length work ≡ most-bytes → r ≡ length (take m work) → last ≡ lead (take m work) table
+    → (take r last ≡ take m work) × (r ≤ most-bytes)
 put-keeps table work last m r h k e f = (head-by (take m work) table last r e f, omega (arith, e, length-take-le m work h, h, k))
 
 -- the first of the requests

@@ -6,6 +6,7 @@ use lib.ListN.{length, take}
 use Rattle.xliff.specs.Answer.{answer}
 use Rattle.xliff.specs.Calls.{Call, outcome, left}
 use Rattle.xliff.specs.Desk.{line}
+use Rattle.xliff.specs.Parse.{most-bytes}
 use Rattle.answers.specs.declared.Answer.{Answer}
 use Rattle.answers.specs.declared.Answer.the-variants.{Accepted, Refused}
 use Rattle.writer.specs.Pieces.{lead}
@@ -13,7 +14,7 @@ use Rattle.job.specs.declared.Step.{Step}
 
 -- an accepted length within the lent output
 abbrev pub FitsIn : Answer → Type 0
-FitsIn (Accepted m) = m ≤ 8192
+FitsIn (Accepted m) = m ≤ most-bytes
 FitsIn (Refused n at) = Unit {0}
 
 -- the result of an accepted request, else the first n bytes, the table as before it
@@ -27,4 +28,4 @@ pub record Performed (c : Call) (t out : List ℕ) (s : Step) (table′ out′ :
   pub wrote : out′ ≡ lead (line (answer (outcome t c))) out
   pub short : s .printed ≤ 48
   pub leaves : take (s .length) table′ ≡ left t c
-  pub fits : s .length ≤ 8192
+  pub fits : s .length ≤ most-bytes

@@ -1,5 +1,6 @@
 // The job runner: what the desk program prints for a job.
 use answers::Answer;
+use limits::MOST_BYTES;
 use requests::Asked;
 use requests::Request;
 ghost use mathlib.Core.Path.{_≡_};
@@ -9,6 +10,7 @@ ghost use lib.ListN.{length, take, drop};
 ghost use Rattle.xliff.specs.Answer.{refused};
 ghost use Rattle.xliff.specs.Check.{check};
 ghost use Rattle.xliff.specs.Desk.{line, table-line, table-length, answer-requests, desk-job, desk};
+ghost use Rattle.xliff.specs.Parse.{most-bytes};
 ghost use Rattle.answers.specs.Answers.{answer-meaning};
 ghost use Rattle.writer.specs.Pieces.{lead};
 ghost use Rattle.requests.specs.Requests.{request-size, call-of};
@@ -22,8 +24,8 @@ pub struct Step {
 
 // The table behind an answer: the result of an accepted request, else the table as before it. Its length.
 fn keep(table: &mut [u8], n: usize, a: Answer, result: &[u8]) -> usize
-    requires { ⌜ (n ≤ 8192) × (length (now table) ≡ 8192) × (length (now result) ≡ 8192) × FitsIn a ⌝ }
-    ensures { λ r. ⌜ (take r (now (table .exit)) ≡ kept-table a n (now (table .entry)) (now (result .entry))) × (r ≤ 8192) ⌝ }
+    requires { ⌜ (n ≤ most-bytes) × (length (now table) ≡ most-bytes) × (length (now result) ≡ most-bytes) × FitsIn a ⌝ }
+    ensures { λ r. ⌜ (take r (now (table .exit)) ≡ kept-table a n (now (table .entry)) (now (result .entry))) × (r ≤ most-bytes) ⌝ }
 {
     match a {
         Answer::Accepted(m) => writer::put(table, &result[..m]),
@@ -34,11 +36,11 @@ fn keep(table: &mut [u8], n: usize, a: Answer, result: &[u8]) -> usize
 // The request `r` at the head of `s`, on the table in the first `n` bytes of `table`: its line at the head of `out`,
 // and in `table` the table that it leaves.
 fn answer_request(r: Request, s: &[u8], table: &mut [u8], n: usize, out: &mut [u8]) -> Step
-    requires { ⌜ (n ≤ 8192) × (length (now table) ≡ 8192) × (48 ≤ length (now out)) × (request-size r ≤ length (now s)) ⌝ }
+    requires { ⌜ (n ≤ most-bytes) × (length (now table) ≡ most-bytes) × (48 ≤ length (now out)) × (request-size r ≤ length (now s)) ⌝ }
     ensures { λ x. ⌜ Performed (call-of (now (s .entry)) r) (take n (now (table .entry))) (now (out .entry)) x (now (table .exit))
         (now (out .exit)) ⌝ }
 {
-    let mut result = [0u8; 8192];
+    let mut result = [0u8; MOST_BYTES];
     let a = operations::perform(&table[..n], r, s, &mut result);
     let printed = lines::put_line(out, a);
     let length = keep(table, n, a, &result);
@@ -50,7 +52,7 @@ fn answer_request(r: Request, s: &[u8], table: &mut [u8], n: usize, out: &mut [u
 
 // The last lines where the request at the offset `at` is unreadable.
 fn put_unreadable(out: &mut [u8], at: usize, t: &[u8]) -> usize
-    requires { ⌜ (length (now t) ≤ 8192) × (16433 ≤ length (now out)) ⌝ }
+    requires { ⌜ (length (now t) ≤ most-bytes) × (16433 ≤ length (now out)) ⌝ }
     ensures { λ r. ⌜ (r ≡ length (line (refused 2 at) ++ table-line (now (t .entry))))
         × (now (out .exit) ≡ lead (line (refused 2 at) ++ table-line (now (t .entry))) (now (out .entry))) × (r ≤ 16433) ⌝ }
 {
@@ -62,7 +64,7 @@ fn put_unreadable(out: &mut [u8], at: usize, t: &[u8]) -> usize
 // table.
 // No line is longer than 48 bytes and no request shorter than 4.
 fn put_requests(job: &[u8], n: usize, table: &mut [u8], out: &mut [u8]) -> usize
-    requires { ⌜ (n ≤ length (now job)) × (n ≤ 8192) × (length (now job) ≤ 65535) × (length (now table) ≡ 8192) × (length (now out) ≡ 1048576) ⌝ }
+    requires { ⌜ (n ≤ length (now job)) × (n ≤ most-bytes) × (length (now job) ≤ 65535) × (length (now table) ≡ most-bytes) × (length (now out) ≡ 1048576) ⌝ }
     ensures { λ r. ⌜ (r ≡ length (answer-requests (length (now (job .entry))) (take n (now (table .entry))) n (drop n (now (job .entry)))))
         × (now (out .exit) ≡ lead (answer-requests (length (now (job .entry))) (take n (now (table .entry))) n (drop n (now (job .entry))))
         (now (out .entry))) ⌝ }
@@ -88,12 +90,12 @@ fn put_requests(job: &[u8], n: usize, table: &mut [u8], out: &mut [u8]) -> usize
 
 // The requests of a job whose table, its first `n` bytes, is accepted.
 fn put_accepted(job: &[u8], n: usize, out: &mut [u8]) -> usize
-    requires { ⌜ (n ≤ length (now job)) × (n ≤ 8192) × (length (now job) ≤ 65535) × (length (now out) ≡ 1048576) ⌝ }
+    requires { ⌜ (n ≤ length (now job)) × (n ≤ most-bytes) × (length (now job) ≤ 65535) × (length (now out) ≡ 1048576) ⌝ }
     ensures { λ r. ⌜ (r ≡ length (answer-requests (length (now (job .entry))) (take n (now (job .entry))) n (drop n (now (job .entry)))))
         × (now (out .exit) ≡ lead (answer-requests (length (now (job .entry))) (take n (now (job .entry))) n (drop n (now (job .entry))))
         (now (out .entry))) ⌝ }
 {
-    let mut table = [0u8; 8192];
+    let mut table = [0u8; MOST_BYTES];
     let m = writer::put(&mut table, &job[..n]);
     put_requests(job, m, &mut table, out)
 }

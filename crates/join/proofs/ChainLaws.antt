@@ -15,23 +15,23 @@ use Rattle.xliff.specs.Join.{join, join-unit, join-refusal, bad-orders}
 use Rattle.outcomes.proofs.OutcomeLaws.{on-passed, applied, passed, then-assoc}
 use Rattle.join_result.specs.Result.{joined-unit}
 use Rattle.join_result.proofs.ResultLaws.{join-unit-is}
-use Rattle.join.specs.Pair.{ending}
+use Rattle.join.specs.Pair.{join-ending}
 
 -- the result is judged last
 module _ (room : ℕ) (v : XliffUnit) where
-  pub refused-17 : is-fault (fault-7 (v .parts)) ≡ true → ending room v ≡ refuse (record { number = 17; place = 0 })
-  unfolding ending
+  pub refused-17 : is-fault (fault-7 (v .parts)) ≡ true → join-ending room v ≡ refuse (record { number = 17; place = 0 })
+  unfolding join-ending
   refused-17 x = applied 17 (is-fault (fault-7 (v .parts))) _ (encode v) x
 
-  after-17 : is-fault (fault-7 (v .parts)) ≡ false → ending room v ≡ unless (applies 15 (too-large room v)) (encode v)
-  unfolding ending
+  after-17 : is-fault (fault-7 (v .parts)) ≡ false → join-ending room v ≡ unless (applies 15 (too-large room v)) (encode v)
+  unfolding join-ending
   after-17 x = ap (λ (o : Option Refusal). unless o (encode v)) (passed 17 (is-fault (fault-7 (v .parts))) _ x)
 
-  pub refused-15 : is-fault (fault-7 (v .parts)) ≡ false → too-large room v ≡ true → ending room v ≡ refuse (record { number = 15; place = 0 })
+  pub refused-15 : is-fault (fault-7 (v .parts)) ≡ false → too-large room v ≡ true → join-ending room v ≡ refuse (record { number = 15; place = 0 })
   unfolding applies unless
   refused-15 x y = after-17 x ∙ ap (λ (c : Bool). unless (applies 15 c) (encode v)) y
 
-  pub done : is-fault (fault-7 (v .parts)) ≡ false → too-large room v ≡ false → ending room v ≡ result (encode v)
+  pub done : is-fault (fault-7 (v .parts)) ≡ false → too-large room v ≡ false → join-ending room v ≡ result (encode v)
   unfolding applies unless
   done x y = after-17 x ∙ ap (λ (c : Bool). unless (applies 15 c) (encode v)) y
 
@@ -92,8 +92,8 @@ module _ (t : List ℕ) (n room : ℕ) (e : table-refusal t ≡ none) where
     refused-16 x y z = after-12 x y ∙ applied 16 (bad-orders (p .target) (q .target)) _ (encode v) z
 
     pub ends : is-closed (unit t .opening .canResegment) p ≡ false → is-closed (unit t .opening .canResegment) q ≡ false → bad-orders (p .target) (q .target) ≡ false
-        → join t n room ≡ ending room (joined-unit (unit t) b p q a)
-    unfolding ending seven large
+        → join t n room ≡ join-ending room (joined-unit (unit t) b p q a)
+    unfolding join-ending seven large
     ends x y z =
         after-12 x y ∙ ap (λ (o : Option Refusal). unless o (encode v)) (passed 16 (bad-orders (p .target) (q .target)) _ z)
-        ∙ ap (ending room) (join-unit-is (unit t) n b p q a h)
+        ∙ ap (join-ending room) (join-unit-is (unit t) n b p q a h)

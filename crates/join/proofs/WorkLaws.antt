@@ -17,13 +17,13 @@ use Rattle.outcomes.specs.Outcomes.{Answers}
 use Rattle.outcomes.proofs.OutcomeLaws.{answers-refused}
 use Rattle.part_at.specs.declared.PartPlace.{PartPlace}
 use Rattle.result_rules.proofs.WorkLaws.{Work, work-written, work-rule, no-room, has-room, answers-work}
-use Rattle.join_result.specs.Result.{Beside, joined-unit, Wrote}
-use Rattle.join.specs.Pair.{ending}
+use Rattle.join_result.specs.Result.{Beside, joined-unit, WroteJoined}
+use Rattle.join.specs.Pair.{join-ending}
 use Rattle.join.proofs.GoodLaws.{joined-good}
 use Rattle.join.proofs.ChainLaws.{refused-17, refused-15, done}
 
 pub joined-work : (t : List ℕ) → ((i : ℕ) → Fits w8 (getD t i 0)) → table-refusal t ≡ none → (x y : PartPlace) (b : List Part) (p q : Part) (a : List Part)
-    → Beside t x y b p q a → (o l : List ℕ) (n : ℕ) → Wrote t x y o n l → Work (joined-unit (unit t) b p q a) n l
+    → Beside t x y b p q a → (o l : List ℕ) (n : ℕ) → WroteJoined t x y o n l → Work (joined-unit (unit t) b p q a) n l
 joined-work t h v x y b p q a s o l n w =
     work-written (joined-unit (unit t) b p q a) o l n (joined-good t h v b p q a (s .first .all)) (w b p q a s)
 
@@ -32,14 +32,14 @@ module _ {v : XliffUnit} {n : ℕ} {l : List ℕ} (w : Work v n l) (out : List �
   seven-is : (x : Bool) → breaks ≡ x → is-fault (fault-7 (v .parts)) ≡ x
   seven-is x f = sym (ap is-fault (work-rule w fault-7)) ∙ sym e ∙ f
 
-  pub answers-17 : breaks ≡ true → Answers (ending (length out) v) (Refused 17 0) out out
+  pub answers-17 : breaks ≡ true → Answers (join-ending (length out) v) (Refused 17 0) out out
   answers-17 f = answers-refused _ 17 0 out (refused-17 (length out) v (seven-is true f))
 
   module _ (f : breaks ≡ false) where
-    pub answers-15 : length out < n → Answers (ending (length out) v) (Refused 15 0) out out
+    pub answers-15 : length out < n → Answers (join-ending (length out) v) (Refused 15 0) out out
     answers-15 k = answers-refused _ 15 0 out (refused-15 (length out) v (seven-is false f) (no-room w (length out) k))
 
     pub answers-joined : n ≤ length out → (m : ℕ) (last : List ℕ) → m ≡ length (take n l) → last ≡ take n l ++ drop (length (take n l)) out
-        → Answers (ending (length out) v) (Accepted m) out last
+        → Answers (join-ending (length out) v) (Accepted m) out last
     answers-joined k m last long is =
         answers-work w _ (done (length out) v (seven-is false f) (has-room w (length out) k)) m out last long is

@@ -22,12 +22,12 @@ abbrev pub PairAt : List ℕ → PartPlace → PartPlace → Type 0
 PairAt t x y = (table-refusal t ≡ none) × (b : List Part) × (p : Part) × (q : Part) × (a : List Part) × Beside t x y b p q a
 
 -- what 17 and 15 leave of a result
-unfoldable pub ending : ℕ → XliffUnit → Outcome
-ending room v = unless (applies 17 (is-fault (fault-7 (v .parts))) then applies 15 (too-large room v)) (encode v)
+unfoldable pub join-ending : ℕ → XliffUnit → Outcome
+join-ending room v = unless (applies 17 (is-fault (fault-7 (v .parts))) then applies 15 (too-large room v)) (encode v)
 
 abbrev pub Ended : List ℕ → PartPlace → PartPlace → Answer → List ℕ → List ℕ → Type 0
 Ended t x y r out last =
-    (b : List Part) (p q : Part) (a : List Part) → Beside t x y b p q a → Answers (ending (length out) (joined-unit (unit t) b p q a)) r out last
+    (b : List Part) (p q : Part) (a : List Part) → Beside t x y b p q a → Answers (join-ending (length out) (joined-unit (unit t) b p q a)) r out last
 
 -- the answer of join, for the number of the first of the two
 abbrev pub PairAnswers : List ℕ → PartPlace → PartPlace → Answer → List ℕ → List ℕ → Type 0

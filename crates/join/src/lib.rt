@@ -1,5 +1,6 @@
 // Join: document 01, "Join (part, with the next)".
 use answers::Answer;
+use limits::MOST_BYTES;
 use part_at::FoundPart;
 use part_at::PartPlace;
 ghost use mathlib.Core.Path.{_≡_};
@@ -11,7 +12,7 @@ ghost use Rattle.xliff.specs.Focus.{focus};
 ghost use Rattle.xliff.specs.Parse.{unit};
 ghost use Rattle.xliff.specs.Join.{join};
 ghost use Rattle.answers.specs.Answers.{answer-meaning};
-ghost use Rattle.part_at.specs.Stands.{PartFound, Placed};
+ghost use Rattle.part_at.specs.Stands.{PartFound, CheckedPart};
 ghost use Rattle.outcomes.specs.Outcomes.{Answers};
 ghost use Rattle.join.specs.Pair.{PairAt, Ended, PairAnswers};
 
@@ -20,7 +21,7 @@ fn join_ended(table: &[u8], x: PartPlace, y: PartPlace, out: &mut [u8]) -> Answe
     requires { ⌜ PairAt (now table) x y ⌝ }
     ensures { λ r. ⌜ Ended (now (table .entry)) x y r (now (out .entry)) (now (out .exit)) ⌝ }
 {
-    let mut work = [0u8; 8192];
+    let mut work = [0u8; MOST_BYTES];
     let n = join_result::put_join(&mut work, table, x, y);
     if result_rules::breaks_7(&work[..n]) {
         return Answer::Refused(17, 0);
@@ -50,7 +51,7 @@ fn join_pair(table: &[u8], x: PartPlace, y: PartPlace, out: &mut [u8]) -> Answer
 
 // The part `n` at `x`: joined with the next, if there is one.
 fn join_next(table: &[u8], n: usize, x: PartPlace, out: &mut [u8]) -> Answer
-    requires { ⌜ Placed (now table) n x × (n < 65536) ⌝ }
+    requires { ⌜ CheckedPart (now table) n x × (n < 65536) ⌝ }
     ensures { λ r. ⌜ Answers (join (now (table .entry)) n (length (now (out .entry)))) r (now (out .entry)) (now (out .exit)) ⌝ }
 {
     match part_at::part_at(table, n + 1) {

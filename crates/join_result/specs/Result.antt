@@ -34,21 +34,21 @@ order-of-two x y = cond (x .«has_target») (x .order) (y .order)
 abbrev pub joined-parts : ℕ → ℕ → List Part → Part → Part → List Part → List ℕ
 joined-parts o k b p q a = (ordered (moved false o) b ++ part-bytes k p q) ++ ordered (moved false o) a
 
-abbrev pub RoomParts : ℕ → ℕ → List ℕ → PartPlace → PartPlace → List ℕ → Type 0
-RoomParts o k t x y out =
+abbrev pub RoomJoinedParts : ℕ → ℕ → List ℕ → PartPlace → PartPlace → List ℕ → Type 0
+RoomJoinedParts o k t x y out =
     (table-refusal t ≡ none) × (b : List Part) × (p : Part) × (q : Part) × (a : List Part) × Beside t x y b p q a × (length (joined-parts o k b p q a) ≤ length out)
 
-abbrev pub WroteParts : ℕ → ℕ → List ℕ → PartPlace → PartPlace → List ℕ → ℕ → List ℕ → Type 0
-WroteParts o k t x y out n l =
+abbrev pub WroteJoinedParts : ℕ → ℕ → List ℕ → PartPlace → PartPlace → List ℕ → ℕ → List ℕ → Type 0
+WroteJoinedParts o k t x y out n l =
     (b : List Part) (p q : Part) (a : List Part) → Beside t x y b p q a → Written (joined-parts o k b p q a) out n l
 
 -- a valid table in which two parts stand side by side, and room for the result
-abbrev pub Room : List ℕ → PartPlace → PartPlace → List ℕ → Type 0
-Room t x y out =
+abbrev pub RoomJoined : List ℕ → PartPlace → PartPlace → List ℕ → Type 0
+RoomJoined t x y out =
     (table-refusal t ≡ none) × (b : List Part) × (p : Part) × (q : Part) × (a : List Part) × Beside t x y b p q a
     × (length (encode (joined-unit (unit t) b p q a)) ≤ length out)
 
-abbrev pub Wrote : List ℕ → PartPlace → PartPlace → List ℕ → ℕ → List ℕ → Type 0
-Wrote t x y out n l =
+abbrev pub WroteJoined : List ℕ → PartPlace → PartPlace → List ℕ → ℕ → List ℕ → Type 0
+WroteJoined t x y out n l =
     (b : List Part) (p q : Part) (a : List Part) → Beside t x y b p q a
     → Written (encode (joined-unit (unit t) b p q a)) out n l

@@ -2,7 +2,7 @@
 use part_at::PartPlace;
 ghost use mathlib.Core.Path.{_≡_};
 ghost use Rattle.xliff.specs.Join.{lower-above};
-ghost use Rattle.join_result.specs.Result.{order-of-two, RoomParts, WroteParts, Room, Wrote};
+ghost use Rattle.join_result.specs.Result.{order-of-two, RoomJoinedParts, WroteJoinedParts, RoomJoined, WroteJoined};
 
 fn lowered(n: u16, q: u16) -> u16
     ensures { λ r. ⌜ r ≡ lower-above q n ⌝ }
@@ -29,8 +29,8 @@ fn put_joined_parts(
     q: u16,
     order: u16,
 ) -> usize
-    requires { ⌜ RoomParts q order (now t) x y (now out) ⌝ }
-    ensures { λ r. ⌜ WroteParts q order (now (t .entry)) x y (now (out .entry)) r (now (out .exit)) ⌝ }
+    requires { ⌜ RoomJoinedParts q order (now t) x y (now out) ⌝ }
+    ensures { λ r. ⌜ WroteJoinedParts q order (now (t .entry)) x y (now (out .entry)) r (now (out .exit)) ⌝ }
 {
     let h = x.head;
     let f = y.end;
@@ -44,8 +44,8 @@ fn put_joined_parts(
 
 // The table `t` with the parts at `x` and `y`, which stand side by side, joined: UN, the parts, UE.
 pub fn put_join(out: &mut [u8], t: &[u8], x: PartPlace, y: PartPlace) -> usize
-    requires { ⌜ Room (now t) x y (now out) ⌝ }
-    ensures { λ r. ⌜ Wrote (now (t .entry)) x y (now (out .entry)) r (now (out .exit)) ⌝ }
+    requires { ⌜ RoomJoined (now t) x y (now out) ⌝ }
+    ensures { λ r. ⌜ WroteJoined (now (t .entry)) x y (now (out .entry)) r (now (out .exit)) ⌝ }
 {
     let q = join_orders::falls_above(t, x, y);
     let order = lowered(order_of_two(x, y), q);

@@ -28,7 +28,7 @@ use Rattle.xliff.proofs.unit.Pieces.{spell-append}
 use Rattle.walk.proofs.PlaceLaws.{is-text, kept-items}
 use Rattle.cut.proofs.CutLaws.{kept-records}
 use Rattle.cut.proofs.HalfLaws.{items-of}
-use Rattle.joined_content.specs.Seam.{Last, Seam, apart, touching, SeamOf, RoomJoined, WroteJoined}
+use Rattle.joined_content.specs.Seam.{Last, Seam, apart, touching, SeamOf, RoomContents, WroteContents}
 
 -- next is the offset behind the record at the offset at of c
 pub record Behind (c : List ℕ) (at next : ℕ) : Type 0 where
@@ -370,7 +370,7 @@ module _ (a b : List ℕ) (n : ℕ) (seam : SeamOf a b n) where
   rest-long : length (take (length b - 4) (drop 4 b)) ≡ length b - 4
   rest-long = ap length (tail-is 4 b) ∙ length-drop 4 b
 
-  pub join-fits : (o : List ℕ) → RoomJoined a b o → JoinFits a b o n
+  pub join-fits : (o : List ℕ) → RoomContents a b o → JoinFits a b o n
   join-fits o (xs, ys, h, q, small, room) =
       record {
         first-room = omega (arith, room, joined-room a b xs ys n h q small (the-seam xs ys h q));
@@ -398,7 +398,7 @@ module _ (a b : List ℕ) (n : ℕ) (seam : SeamOf a b n) where
   -- side by side
   pub join-apart : (o l y : List ℕ) (k m : ℕ) → n ≡ length a → k ≡ length a → l ≡ lead a o → m ≡ length b
       → y ≡ lead b (take (length l - k) (drop k l))
-      → WroteJoined a b o (k + m) (take k l ++ (y ++ drop (length l - k) (drop k l)))
+      → WroteContents a b o (k + m) (take k l ++ (y ++ drop (length l - k) (drop k l)))
   join-apart o l y k m e f g h u xs ys p q =
       let j = side-by-side xs ys p q e in (
         omega (arith, f, h, ap length j, length-append a b),
@@ -406,11 +406,11 @@ module _ (a b : List ℕ) (n : ℕ) (seam : SeamOf a b n) where
       )
 
   -- two texts made one
-  pub join-touching : (o l z y : List ℕ) (k x m : ℕ) → RoomJoined a b o → (n ≡ length a → ⊥) → k ≡ length a → l ≡ lead a o
+  pub join-touching : (o l z y : List ℕ) (k x m : ℕ) → RoomContents a b o → (n ≡ length a → ⊥) → k ≡ length a → l ≡ lead a o
       → x ≡ two-at a (n + 2) + two-at b 2
       → z ≡ overlay l (n + 2) (numberBytes x) → m ≡ length (take (length b - 4) (drop 4 b))
       → y ≡ lead (take (length b - 4) (drop 4 b)) (take (length z - k) (drop k z))
-      → WroteJoined a b o (k + m) (take k z ++ (y ++ drop (length z - k) (drop k z)))
+      → WroteContents a b o (k + m) (take k z ++ (y ++ drop (length z - k) (drop k z)))
   join-touching o l z y k x m (_, _, _, _, small, _) e f g h u v w xs ys p q =
       let t = touch a b xs ys n p q small (the-seam xs ys p q) e in
       let sum = h ∙ ap₂ _+_ (number-there a n 2 ∙ touch-number-a a b xs ys n t) (touch-number-b a b xs ys n t) in (

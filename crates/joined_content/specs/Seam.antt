@@ -29,10 +29,10 @@ abbrev pub SeamOf : List ℕ → List ℕ → ℕ → Type 0
 SeamOf a b n = (rs qs : List Record) → Of a rs → Of b qs → Seam (length a) rs qs n
 
 -- contents, with room for both in one
-abbrev pub RoomJoined : List ℕ → List ℕ → List ℕ → Type 0
-RoomJoined a b o = (xs ys : Content) × Holds a xs × Holds b ys × (length a + length b < 65536) ×
+abbrev pub RoomContents : List ℕ → List ℕ → List ℕ → Type 0
+RoomContents a b o = (xs ys : Content) × Holds a xs × Holds b ys × (length a + length b < 65536) ×
     (length (content-bytes (xs ++ ys)) ≤ length o)
 
-abbrev pub WroteJoined : List ℕ → List ℕ → List ℕ → ℕ → List ℕ → Type 0
-WroteJoined a b o n l = (xs ys : Content) → Holds a xs → Holds b ys
+abbrev pub WroteContents : List ℕ → List ℕ → List ℕ → ℕ → List ℕ → Type 0
+WroteContents a b o n l = (xs ys : Content) → Holds a xs → Holds b ys
     → (n ≡ length (content-bytes (xs ++ ys))) × (l ≡ lead (content-bytes (xs ++ ys)) o)

@@ -5,7 +5,7 @@ ghost use Prim.Native.Nat.{_+_, _<_, _≤_};
 ghost use lib.ListN.{length};
 ghost use Rattle.walk.specs.Kept.{Fair};
 ghost use Rattle.marks.specs.Marks.{marked};
-ghost use Rattle.joined_content.specs.Seam.{LastOf, SeamOf, RoomJoined, WroteJoined};
+ghost use Rattle.joined_content.specs.Seam.{LastOf, SeamOf, RoomContents, WroteContents};
 
 // Where the last record of a content begins.
 fn last_of(c: &[u8]) -> usize
@@ -50,8 +50,8 @@ fn seam(a: &[u8], b: &[u8]) -> usize
 
 // The second content directly behind the first; touching texts become one.
 pub fn put_joined(out: &mut [u8], a: &[u8], b: &[u8]) -> usize
-    requires { ⌜ RoomJoined (now a) (now b) (now out) ⌝ }
-    ensures { λ r. ⌜ WroteJoined (now (a .entry)) (now (b .entry)) (now (out .entry)) r (now (out .exit)) ⌝ }
+    requires { ⌜ RoomContents (now a) (now b) (now out) ⌝ }
+    ensures { λ r. ⌜ WroteContents (now (a .entry)) (now (b .entry)) (now (out .entry)) r (now (out .exit)) ⌝ }
 {
     let p = seam(a, b);
     let n = writer::put(out, a);

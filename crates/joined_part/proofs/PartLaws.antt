@@ -11,14 +11,15 @@ use Rattle.xliff.specs.Focus.{order-part}
 use Rattle.xliff.specs.Join.{join-heads, join-parts}
 use Rattle.xliff.proofs.unit.Pieces.{spell-append}
 use Rattle.xliff.proofs.lists.Slices.{slice-long}
+use Rattle.xliff.specs.Parse.{most-bytes}
 use Rattle.writer.specs.Pieces.{Written}
 use Rattle.writer.proofs.RunLaws.{Pieces}
 use Rattle.walk.specs.Kept.{Holds}
-use Rattle.part_contents.specs.Targets.{TargetIs}
-use Rattle.part_contents.proofs.HoldLaws.{holds-source, target-ends}
-use Rattle.part_contents.proofs.TargetLaws.{target-slice}
+use Rattle.part_at.specs.Targets.{TargetIs}
+use Rattle.part_at.proofs.HoldLaws.{holds-source, target-ends}
+use Rattle.part_at.proofs.TargetLaws.{target-slice}
 use Rattle.part_at.specs.declared.PartPlace.{PartPlace}
-use Rattle.joined_content.specs.Seam.{RoomJoined, WroteJoined}
+use Rattle.joined_content.specs.Seam.{RoomContents, WroteContents}
 use Rattle.joined_part.specs.Heads.{RoomHeads, WroteHeads}
 use Rattle.joined_part.specs.Joined.{joined-target, target-bytes, RoomTargets, WroteTargets, joined-part, part-bytes, TwoParts}
 
@@ -66,7 +67,7 @@ module _ (t : List ℕ) (h : Bytes t) (x y : PartPlace) (v : TwoParts t x y) whe
   second-source : Holds (between t (y .source) (y .target)) (v .second .source)
   second-source = holds-source t h (v .before′) (v .second) (v .after′) y (v .there′)
 
-  pub sources-asked : (l : List ℕ) → length t ≤ 8192 → length sources ≤ length l → RoomJoined (between t (x .source) (x .target)) (between t (y .source) (y .target)) l
+  pub sources-asked : (l : List ℕ) → length t ≤ most-bytes → length sources ≤ length l → RoomContents (between t (x .source) (x .target)) (between t (y .source) (y .target)) l
   sources-asked l m r = (
     v .first .source,
     v .second .source,
@@ -80,7 +81,7 @@ module _ (t : List ℕ) (h : Bytes t) (x y : PartPlace) (v : TwoParts t x y) whe
     r,
   )
 
-  pub sources-wrote : (l : List ℕ) (n : ℕ) (z : List ℕ) → WroteJoined (between t (x .source) (x .target)) (between t (y .source) (y .target)) l n z → Written sources l n z
+  pub sources-wrote : (l : List ℕ) (n : ℕ) (z : List ℕ) → WroteContents (between t (x .source) (x .target)) (between t (y .source) (y .target)) l n z → Written sources l n z
   sources-wrote l n z w = w (v .first .source) (v .second .source) first-source second-source
 
   -- the targets stand within the table
@@ -97,7 +98,7 @@ module _ (t : List ℕ) (h : Bytes t) (x y : PartPlace) (v : TwoParts t x y) whe
   second-target = target-slice t h (v .before′) (v .second) (v .after′) y (v .there′)
 
   module _ (o : ℕ) where
-    pub targets-asked : (l : List ℕ) → length t ≤ 8192 → length (target-bytes o (v .first .target) (v .second .target)) ≤ length l
+    pub targets-asked : (l : List ℕ) → length t ≤ most-bytes → length (target-bytes o (v .first .target) (v .second .target)) ≤ length l
         → RoomTargets o (between t (x .target) (x .end)) (between t (y .target) (y .end)) l
     targets-asked l m r =
         let (e, f) = first-ends in

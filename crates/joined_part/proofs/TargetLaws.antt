@@ -11,9 +11,9 @@ use Rattle.xliff.specs.Join.{join-targets}
 use Rattle.xliff.proofs.lists.Slices.{tail-is}
 use Rattle.writer.specs.Pieces.{lead, Written, rest}
 use Rattle.writer.proofs.RunLaws.{Pieces, pair}
-use Rattle.part_contents.specs.Targets.{TargetIs}
-use Rattle.part_contents.proofs.TargetLaws.{Present, absent, no-bytes, target-bytes as bytes-of}
-use Rattle.joined_content.specs.Seam.{RoomJoined}
+use Rattle.part_at.specs.Targets.{TargetIs}
+use Rattle.part_at.proofs.TargetLaws.{Present, absent, no-bytes, target-bytes as bytes-of}
+use Rattle.joined_content.specs.Seam.{RoomContents}
 use Rattle.joined_part.specs.Joined.{joined-target, target-bytes}
 
 module _ (o : ℕ) (s t : List ℕ) (g k : Target) (a : TargetIs s g) (b : TargetIs t k) where
@@ -46,7 +46,7 @@ module _ (o : ℕ) (s t : List ℕ) (g k : Target) (p : Present s g) (q : Presen
   abbrev pub both-pieces : Pieces (target-bytes o g k)
   both-pieces = pair (record-bytes (target-head o)) (content-bytes (p .items ++ q .items)) both-are
 
-  pub contents-room : (l : List ℕ) → length s + length t < 65536 → length (content-bytes (p .items ++ q .items)) ≤ length l → RoomJoined (rest 4 s) (rest 4 t) l
+  pub contents-room : (l : List ℕ) → length s + length t < 65536 → length (content-bytes (p .items ++ q .items)) ≤ length l → RoomContents (rest 4 s) (rest 4 t) l
   contents-room l h r = (
     p .items,
     q .items,

@@ -6,10 +6,11 @@ use Rattle.xliff.specs.Unit.{Target, Part}
 use Rattle.xliff.specs.Encode.{target-records, part-records, spell}
 use Rattle.xliff.specs.Focus.{order-target, order-part}
 use Rattle.xliff.specs.Join.{join-targets, join-parts}
+use Rattle.xliff.specs.Parse.{most-bytes}
 use Rattle.writer.specs.Pieces.{Written}
 use Rattle.part_at.specs.declared.PartPlace.{PartPlace}
 use Rattle.part_at.specs.Stands.{PartStands}
-use Rattle.part_contents.specs.Targets.{TargetIs}
+use Rattle.part_at.specs.Targets.{TargetIs}
 
 unfoldable pub joined-target : ℕ → Target → Target → Target
 joined-target o g k = order-target (λ r. o) (join-targets g k)
@@ -44,8 +45,8 @@ pub record TwoParts (t : List ℕ) (x y : PartPlace) : Type 0 where
   pub there′ : PartStands t before′ second after′ y
 
 -- and room for both in one; it is written
-abbrev pub RoomParts : ℕ → List ℕ → PartPlace → PartPlace → List ℕ → Type 0
-RoomParts o t x y out = (v : TwoParts t x y) × (length t ≤ 8192) × (length (part-bytes o (v .first) (v .second)) ≤ length out)
+abbrev pub RoomJoinedPart : ℕ → List ℕ → PartPlace → PartPlace → List ℕ → Type 0
+RoomJoinedPart o t x y out = (v : TwoParts t x y) × (length t ≤ most-bytes) × (length (part-bytes o (v .first) (v .second)) ≤ length out)
 
-abbrev pub WroteParts : ℕ → List ℕ → PartPlace → PartPlace → List ℕ → ℕ → List ℕ → Type 0
-WroteParts o t x y out n l = (v : TwoParts t x y) → Written (part-bytes o (v .first) (v .second)) out n l
+abbrev pub WroteJoinedPart : ℕ → List ℕ → PartPlace → PartPlace → List ℕ → ℕ → List ℕ → Type 0
+WroteJoinedPart o t x y out n l = (v : TwoParts t x y) → Written (part-bytes o (v .first) (v .second)) out n l

@@ -1,10 +1,10 @@
 // Two parts joined.
-use table::Segment;
 use part_at::PartPlace;
+use table::Segment;
 ghost use mathlib.Core.Path.{_≡_};
 ghost use Rattle.xliff.specs.Join.{rank, earliest, dash};
 ghost use Rattle.joined_part.specs.Heads.{JoinedSegment, RoomHeads, WroteHeads};
-ghost use Rattle.joined_part.specs.Joined.{RoomTargets, WroteTargets, RoomParts, WroteParts};
+ghost use Rattle.joined_part.specs.Joined.{RoomTargets, WroteTargets, RoomJoinedPart, WroteJoinedPart};
 
 fn dash_if(all: bool) -> u8
     ensures { λ r. ⌜ r ≡ dash all ⌝ }
@@ -91,8 +91,8 @@ fn put_joined_target(out: &mut [u8], g: &[u8], k: &[u8], order: u16) -> usize
 
 // The part at `x` joined with that at `y`; its target has this order.
 pub fn put_joined_part(out: &mut [u8], t: &[u8], x: PartPlace, y: PartPlace, order: u16) -> usize
-    requires { ⌜ RoomParts order (now t) x y (now out) ⌝ }
-    ensures { λ r. ⌜ WroteParts order (now (t .entry)) x y (now (out .entry)) r (now (out .exit)) ⌝ }
+    requires { ⌜ RoomJoinedPart order (now t) x y (now out) ⌝ }
+    ensures { λ r. ⌜ WroteJoinedPart order (now (t .entry)) x y (now (out .entry)) r (now (out .exit)) ⌝ }
 {
     let h = x.head;
     let s = x.source;

@@ -120,7 +120,7 @@ unfolding key viewOf
 key-view x = refl
 
 -- the keys at some offsets, one by one
-pub keys-each : (t os : List ℕ) → map (λ (o : ℕ). key (item-at t o)) os ≡ keysAt t os
+pub keys-each : (t markers : List ℕ) → map (λ (o : ℕ). key (item-at t o)) markers ≡ keysAt t markers
 unfolding keysAt itemsAt
 keys-each t [] = refl
-keys-each t (o ∷ os) = ap (λ (l : List ℕ). key (item-at t o) ∷ l) (keys-each t os)
+keys-each t (o ∷ markers) = ap (λ (l : List ℕ). key (item-at t o) ∷ l) (keys-each t markers)

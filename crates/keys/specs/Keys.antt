@@ -15,7 +15,7 @@ abbrev pub keyOf : View → ℕ
 keyOf v = v .id * 64 + (v .class * 8 + (v .half * 2 + cond (v .pform) 1 0))
 
 unfoldable pub keysAt : List ℕ → List ℕ → List ℕ
-keysAt t os = map key (itemsAt t os)
+keysAt t markers = map key (itemsAt t markers)
 
 -- the parts of a key
 abbrev pub idKey : ℕ → ℕ

@@ -120,13 +120,13 @@ pub fn view_at(t: &[u8], at: usize, k: u32) -> View
 }
 
 // The keys of the items at some offsets, at the front of `out`.
-pub fn keys_at(t: &[u8], os: &[u16], out: &mut [u32]) -> usize
-    requires { ⌜ length (now os) ≤ length (now out) ⌝ }
-    ensures { λ r. ⌜ (r ≡ length (now (os .entry))) × (take r (now (out .exit)) ≡ keysAt (now (t .entry)) (now (os .entry))) × (length (now (out .exit)) ≡ length (now (out .entry))) ⌝ }
+pub fn keys_at(t: &[u8], markers: &[u16], out: &mut [u32]) -> usize
+    requires { ⌜ length (now markers) ≤ length (now out) ⌝ }
+    ensures { λ r. ⌜ (r ≡ length (now (markers .entry))) × (take r (now (out .exit)) ≡ keysAt (now (t .entry)) (now (markers .entry))) × (length (now (out .exit)) ≡ length (now (out .entry))) ⌝ }
 {
     let mut i: usize = 0;
-    while i < os.len() {
-        out[i] = key_at(t, marks::wide(os[i]));
+    while i < markers.len() {
+        out[i] = key_at(t, marks::wide(markers[i]));
         i += 1;
     }
     i

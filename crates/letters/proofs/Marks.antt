@@ -6,7 +6,7 @@ use mathlib.Core.Option.{some}
 use Rattle.xliff.specs.Bytes.{among, keep}
 use Rattle.xliff.specs.Item.{Item, Content, other-half, is-fixed}
 use Rattle.xliff.specs.Rules.{nearest, bad-8-target, bad-8-source, fixed-but-free, is-F, unled}
-use Rattle.places.specs.Markers.{is-marked, marked, OnMarks}
+use Rattle.places.specs.Markers.{is-marked, only-markers, OnMarks}
 use Rattle.places.proofs.Tests.{any-marked}
 use Rattle.places.proofs.Ten.{no-class}
 use Rattle.halves.proofs.Others.{other-unmarked, nearest-marked}

@@ -26,11 +26,11 @@ leading-is : (x : Item) → isLeading (viewOf x) ≡ is-F x
 unfolding is-F viewOf
 leading-is x = ap (λ (b : Bool). b && eqb (fields x .canReorder) 70) (code-same x)
 
-pub led-on : (t os : List ℕ) (i : ℕ) (v : View) (led : Bool) → v ≡ viewOf (marker-at t os i) → led ≡ any is-F (earlier (marker-at t os) i)
-    → isLeading v || led ≡ any is-F (earlier (marker-at t os) (i + 1))
+pub led-on : (t markers : List ℕ) (i : ℕ) (v : View) (led : Bool) → v ≡ viewOf (marker-at t markers i) → led ≡ any is-F (earlier (marker-at t markers) i)
+    → isLeading v || led ≡ any is-F (earlier (marker-at t markers) (i + 1))
 unfolding any
-led-on t os i v led e f =
-    ap₂ _||_ (ap isLeading e ∙ leading-is (marker-at t os i)) f ∙ ap (any is-F) (earlier-on (marker-at t os) i)
+led-on t markers i v led e f =
+    ap₂ _||_ (ap isLeading e ∙ leading-is (marker-at t markers i)) f ∙ ap (any is-F) (earlier-on (marker-at t markers) i)
 
 -- what is wrong with a code by itself
 fixed-is : (x : Item) → fixedFree (viewOf x) ≡ fixed-but-free x
@@ -56,37 +56,37 @@ eight-is true before x after led e =
 eight-is false before x after led e = ap (λ (f : Bool). ill-end before x || f) (or-none (fixedFree (viewOf x)) ∙ fixed-is x)
 
 -- the same of the code's two tests of the marker at an index
-pub eight-bad : (source : Bool) (t os : List ℕ) (i : ℕ) (v : View) (led ill alone : Bool) → v ≡ viewOf (marker-at t os i)
-    → led ≡ any is-F (earlier (marker-at t os) i) → ill ≡ ill-end (earlier (marker-at t os) i) (marker-at t os i) → alone ≡ badAlone source led v
-    → ill || alone ≡ bad-8 source (earlier (marker-at t os) i) (marker-at t os i) (items (placed-at t (drop (suc i) os)))
-eight-bad source t os i v led ill alone e f g h =
+pub eight-bad : (source : Bool) (t markers : List ℕ) (i : ℕ) (v : View) (led ill alone : Bool) → v ≡ viewOf (marker-at t markers i)
+    → led ≡ any is-F (earlier (marker-at t markers) i) → ill ≡ ill-end (earlier (marker-at t markers) i) (marker-at t markers i) → alone ≡ badAlone source led v
+    → ill || alone ≡ bad-8 source (earlier (marker-at t markers) i) (marker-at t markers i) (items (placed-at t (drop (suc i) markers)))
+eight-bad source t markers i v led ill alone e f g h =
     ap₂ _||_ g (h ∙ ap (badAlone source led) e)
-    ∙ eight-is source (earlier (marker-at t os) i) (marker-at t os i) (items (placed-at t (drop (suc i) os))) led f
+    ∙ eight-is source (earlier (marker-at t markers) i) (marker-at t markers i) (items (placed-at t (drop (suc i) markers))) led f
 
 -- an end and its start
 matched-is : (x y : Item) → illMatched (viewOf y) (viewOf x) ≡ ill-ended x (some y)
 unfolding ill-ended ill-matched end-letter viewOf
 matched-is x y = refl
 
-module _ (t os : List ℕ) (i : ℕ) (v : View) (e : v ≡ viewOf (marker-at t os i)) where
-  pub no-end : eqb (v .class) 2 && eqb (v .half) 2 ≡ false → false ≡ ill-end (earlier (marker-at t os) i) (marker-at t os i)
+module _ (t markers : List ℕ) (i : ℕ) (v : View) (e : v ≡ viewOf (marker-at t markers i)) where
+  pub no-end : eqb (v .class) 2 && eqb (v .half) 2 ≡ false → false ≡ ill-end (earlier (marker-at t markers) i) (marker-at t markers i)
   unfolding viewOf
-  no-end h = let k : eqb (class (marker-at t os i)) 2 && eqb (half (marker-at t os i)) 2 ≡ false = rw e at h in rw k
+  no-end h = let k : eqb (class (marker-at t markers i)) 2 && eqb (half (marker-at t markers i)) 2 ≡ false = rw e at h in rw k
 
-  module _ (h : i < length os) (r : ℕ) (f : r ≡ half-before (keysAt t os) i) where
-    start-is : nearest (other-half (marker-at t os i)) (earlier (marker-at t os) i) ≡ found-at (marker-at t os) r
-    start-is = nearest-previous (other-half (marker-at t os i)) (marker-at t os) i ∙ ap (found-at (marker-at t os)) (sym (before-is t os i h) ∙ sym f)
+  module _ (h : i < length markers) (r : ℕ) (f : r ≡ half-before (keysAt t markers) i) where
+    start-is : nearest (other-half (marker-at t markers i)) (earlier (marker-at t markers) i) ≡ found-at (marker-at t markers) r
+    start-is = nearest-previous (other-half (marker-at t markers i)) (marker-at t markers) i ∙ ap (found-at (marker-at t markers)) (sym (before-is t markers i h) ∙ sym f)
 
-    pub no-start : r ≡ 0 → false ≡ ill-end (earlier (marker-at t os) i) (marker-at t os i)
+    pub no-start : r ≡ 0 → false ≡ ill-end (earlier (marker-at t markers) i) (marker-at t markers i)
     unfolding ill-ended found-at
     no-start z = rw (start-is, z, and-false)
 
-    pub with-start : 0 < r → eqb (v .class) 2 && eqb (v .half) 2 ≡ true → (y : View) (m : Bool) → y ≡ viewOf (marker-at t os (r - 1)) → m ≡ illMatched y v
-        → m ≡ ill-end (earlier (marker-at t os) i) (marker-at t os i)
+    pub with-start : 0 < r → eqb (v .class) 2 && eqb (v .half) 2 ≡ true → (y : View) (m : Bool) → y ≡ viewOf (marker-at t markers (r - 1)) → m ≡ illMatched y v
+        → m ≡ ill-end (earlier (marker-at t markers) i) (marker-at t markers i)
     unfolding viewOf
     with-start z h y m q u =
-        let k : eqb (class (marker-at t os i)) 2 && eqb (half (marker-at t os i)) 2 ≡ true = rw e at h in
+        let k : eqb (class (marker-at t markers i)) 2 && eqb (half (marker-at t markers i)) 2 ≡ true = rw e at h in
         u ∙ ap (λ (x : View). illMatched x v) q
-        ∙ ap (illMatched (viewOf (marker-at t os (r - 1)))) e
-        ∙ matched-is (marker-at t os i) (marker-at t os (r - 1))
-        ∙ ap₂ (λ (b : Bool) (o : Option Item). b && ill-ended (marker-at t os i) o) (sym k) (sym (start-is ∙ found-some (marker-at t os) r z))
+        ∙ ap (illMatched (viewOf (marker-at t markers (r - 1)))) e
+        ∙ matched-is (marker-at t markers i) (marker-at t markers (r - 1))
+        ∙ ap₂ (λ (b : Bool) (o : Option Item). b && ill-ended (marker-at t markers i) o) (sym k) (sym (start-is ∙ found-some (marker-at t markers) r z))

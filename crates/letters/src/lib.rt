@@ -1,6 +1,6 @@
 // Rule 8: the letters of partners agree, and a fixed code is neither copied nor deleted.
-// Throughout, `t` is the table, `src` and `tgt` the offsets of the markers of the source and the target sequence,
-// `skeys` and `tkeys` their keys.
+// Throughout, `t` is the table, `source_markers` and `target_markers` the offsets of the markers of the source and the target sequence,
+// `source_keys` and `target_keys` their keys.
 use answers::Place;
 use views::View;
 ghost use mathlib.Core.Path.{_≡_};
@@ -56,9 +56,9 @@ fn bad_alone(source: bool, led: bool, x: View) -> bool
 
 // Whether the marker at `i` is the end of a pair and does not match its start, the nearest other half before it.
 // Linear in the markers before `i`.
-fn ill_ended(t: &[u8], os: &[u16], keys: &[u32], i: usize, x: View) -> bool
-    requires { ⌜ (now keys ≡ keysAt (now t) (now os)) × (i < length (now os)) × (x ≡ viewOf (marker-at (now t) (now os) i)) ⌝ }
-    ensures { λ r. ⌜ r ≡ ill-end (earlier (marker-at (now (t .entry)) (now (os .entry))) i) (marker-at (now (t .entry)) (now (os .entry)) i) ⌝ }
+fn ill_ended(t: &[u8], markers: &[u16], keys: &[u32], i: usize, x: View) -> bool
+    requires { ⌜ (now keys ≡ keysAt (now t) (now markers)) × (i < length (now markers)) × (x ≡ viewOf (marker-at (now t) (now markers) i)) ⌝ }
+    ensures { λ r. ⌜ r ≡ ill-end (earlier (marker-at (now (t .entry)) (now (markers .entry))) i) (marker-at (now (t .entry)) (now (markers .entry)) i) ⌝ }
 {
     if !((x.class == 2) & (x.half == 2)) {
         return false;
@@ -68,24 +68,24 @@ fn ill_ended(t: &[u8], os: &[u16], keys: &[u32], i: usize, x: View) -> bool
         return false;
     }
     ill_matched(
-        keys::view_at(t, marks::wide(os[start - 1]), keys[start - 1]),
+        keys::view_at(t, marks::wide(markers[start - 1]), keys[start - 1]),
         x,
     )
 }
 
 // Rule 8 over the markers of a sequence, below `start`.
 // Quadratic in the markers: each end looks for its start among the keys before it.
-fn eight_in(t: &[u8], source: bool, os: &[u16], keys: &[u32], start: Place) -> Place
-    requires { ⌜ now keys ≡ keysAt (now t) (now os) ⌝ }
-    ensures { λ r. ⌜ refusal-at 8 r ≡ toward 8 start (blamed (bad-8 source) [] (placed-at (now (t .entry)) (now (os .entry)))) ⌝ }
+fn eight_in(t: &[u8], source: bool, markers: &[u16], keys: &[u32], start: Place) -> Place
+    requires { ⌜ now keys ≡ keysAt (now t) (now markers) ⌝ }
+    ensures { λ r. ⌜ refusal-at 8 r ≡ toward 8 start (blamed (bad-8 source) [] (placed-at (now (t .entry)) (now (markers .entry)))) ⌝ }
 {
     let mut best = start;
     let mut led = false;
     let mut i = 0;
-    while i < os.len() {
-        let at = marks::wide(os[i]);
+    while i < markers.len() {
+        let at = marks::wide(markers[i]);
         let x = keys::view_at(t, at, keys[i]);
-        let bad = ill_ended(t, os, keys, i, x) | bad_alone(source, led, x);
+        let bad = ill_ended(t, markers, keys, i, x) | bad_alone(source, led, x);
         best = answers::lower_if(bad, best, at);
         led = is_leading(x) | led;
         i += 1;
@@ -94,10 +94,16 @@ fn eight_in(t: &[u8], source: bool, os: &[u16], keys: &[u32], start: Place) -> P
 }
 
 // Rule 8, by the offsets and the keys of the markers of both sequences.
-pub fn rule_8(t: &[u8], src: &[u16], skeys: &[u32], tgt: &[u16], tkeys: &[u32]) -> Place
-    requires { ⌜ Markers (now t) (now src) (now skeys) (now tgt) (now tkeys) ⌝ }
+pub fn rule_8(
+    t: &[u8],
+    source_markers: &[u16],
+    source_keys: &[u32],
+    target_markers: &[u16],
+    target_keys: &[u32],
+) -> Place
+    requires { ⌜ Markers (now t) (now «source_markers») (now «source_keys») (now «target_markers») (now «target_keys») ⌝ }
     ensures { λ r. ⌜ refusal-at 8 r ≡ fault-8 (unit (now (t .entry)) .parts) ⌝ }
 {
-    let source = eight_in(t, true, src, skeys, Place::Nowhere);
-    eight_in(t, false, tgt, tkeys, source)
+    let source = eight_in(t, true, source_markers, source_keys, Place::Nowhere);
+    eight_in(t, false, target_markers, target_keys, source)
 }

@@ -15,10 +15,10 @@ use Rattle.xliff.specs.Rules.{lone-P}
 use Rattle.xliff.proofs.lists.Tests.{map-append}
 use Rattle.places.specs.Passes.{Passes}
 use Rattle.places.specs.Found.{marker, no-marker, markers, found, found-at, state-after}
-use Rattle.places.specs.Markers.{is-marked, marked, item-in, item-at, placed-at}
+use Rattle.places.specs.Markers.{is-marked, only-markers, item-in, item-at, placed-at}
 use Rattle.places.specs.Offsets.{At}
 use Rattle.places.proofs.Places.{at-start, at-next}
-use Rattle.places.proofs.Found.{found-unit, from-part, of-goal}
+use Rattle.places.proofs.Found.{found-unit, from-part, target-gathered}
 use Rattle.places.proofs.Tests.{blamed-marks}
 use Rattle.contents.specs.Contents.{marker-offset, no-offset, barred-found, barred}
 use Rattle.nesting.specs.Bars.{run-items, lone-bar, bar, bars-found}
@@ -64,7 +64,7 @@ blamed-through (one-more {p} {ps} m ms) before qs e =
 -- a bar and a content after it
 content-blamed : (before : Content) (at : ℕ) (ps qs : List Placed) → run-items (items qs) ≡ []
     → blamed lone-bar before (bar at ++ (markers ps ++ qs)) ≡ blamed lone-P [] ps ++ blamed lone-bar (reverseAux (items (markers ps)) (text 0 ∷ before)) qs
-unfolding blamed lone-bar lone-P half run-items is-marked class marked keep
+unfolding blamed lone-bar lone-P half run-items is-marked class only-markers keep
 content-blamed before at ps qs e =
     blamed-through (markers-marked ps) (text 0 ∷ before) qs e
     ∙ ap (λ (l : List ℕ). l ++ blamed lone-bar (reverseAux (items (markers ps)) (text 0 ∷ before)) qs) (sym (blamed-marks lone-P lone-P on-lone [] ps))
@@ -77,26 +77,26 @@ unfolding run-items items gather from-part is-marked class
 bar-first [] = refl
 bar-first (l ∷ ls) = refl
 
-abbrev of-the-goal : ℕ → Target → List Placed
-of-the-goal at g = of-goal true (λ q. true) (λ h at. bar at) (λ q at. bar at) marker no-marker at g
+abbrev of-the-target : ℕ → Target → List Placed
+of-the-target at g = target-gathered true (λ q. true) (λ h at. bar at) (λ q at. bar at) marker no-marker at g
 
-part-is : (l : Located) (qs : List Placed) → of-part l ++ qs ≡ bar (l .at) ++ (markers (placed-source l) ++ (of-the-goal (order-at l) (l .part .target) ++ qs))
+part-is : (l : Located) (qs : List Placed) → of-part l ++ qs ≡ bar (l .at) ++ (markers (placed-source l) ++ (of-the-target (order-at l) (l .part .target) ++ qs))
 unfolding from-part markers
-part-is l qs = ap {B = List Placed} (λ r. record { item = text 0; at = l .at } ∷ r) (append-assoc (gather (marker true) (placed-source l)) (of-the-goal (order-at l) (l .part .target)) qs)
+part-is l qs = ap {B = List Placed} (λ r. record { item = text 0; at = l .at } ∷ r) (append-assoc (gather (marker true) (placed-source l)) (of-the-target (order-at l) (l .part .target)) qs)
 
 -- a target, or none, before a bar
-goal-blamed : (before : Content) (at : ℕ) (g : Target) (qs : List Placed) (os : List ℕ) → run-items (items qs) ≡ []
-    → ((before : Content) → blamed lone-bar before qs ≡ os) → blamed lone-bar before (of-the-goal at g ++ qs) ≡ blamed lone-P [] (placed-target (at + 4) g) ++ os
-unfolding of-goal placed-target blamed markers
-goal-blamed before at no-target qs os e h = h before
-goal-blamed before at (target q xs) qs os e h =
+target-content-blamed : (before : Content) (at : ℕ) (g : Target) (qs : List Placed) (os : List ℕ) → run-items (items qs) ≡ []
+    → ((before : Content) → blamed lone-bar before qs ≡ os) → blamed lone-bar before (of-the-target at g ++ qs) ≡ blamed lone-P [] (placed-target (at + 4) g) ++ os
+unfolding target-gathered placed-target blamed markers
+target-content-blamed before at no-target qs os e h = h before
+target-content-blamed before at (target q xs) qs os e h =
     content-blamed before at (placed-from (at + 4) [] xs) qs e
     ∙ ap (λ (l : List ℕ). blamed lone-P [] (placed-from (at + 4) [] xs) ++ l) (h (reverseAux (items (markers (placed-from (at + 4) [] xs))) (text 0 ∷ before)))
 
-goal-bar : (at : ℕ) (g : Target) (qs : List Placed) → run-items (items qs) ≡ [] → run-items (items (of-the-goal at g ++ qs)) ≡ []
-unfolding of-goal run-items items is-marked class
-goal-bar at no-target qs e = e
-goal-bar at (target q xs) qs e = refl
+target-bar : (at : ℕ) (g : Target) (qs : List Placed) → run-items (items qs) ≡ [] → run-items (items (of-the-target at g ++ qs)) ≡ []
+unfolding target-gathered run-items items is-marked class
+target-bar at no-target qs e = e
+target-bar at (target q xs) qs e = refl
 
 none-blamed : (before : Content) → blamed lone-bar before [] ≡ []
 unfolding blamed
@@ -108,9 +108,9 @@ parts-blamed before [] = none-blamed before
 parts-blamed before (l ∷ ls) =
     let qs = gather of-part ls in
     ap (blamed lone-bar before) (part-is l qs)
-    ∙ content-blamed before (l .at) (placed-source l) (of-the-goal (order-at l) (l .part .target) ++ qs) (goal-bar (order-at l) (l .part .target) qs (bar-first ls))
+    ∙ content-blamed before (l .at) (placed-source l) (of-the-target (order-at l) (l .part .target) ++ qs) (target-bar (order-at l) (l .part .target) qs (bar-first ls))
     ∙ ap (λ (r : List ℕ). blamed lone-P [] (placed-source l) ++ r)
-    (goal-blamed (reverseAux (items (markers (placed-source l))) (text 0 ∷ before)) (order-at l) (l .part .target) qs
+    (target-content-blamed (reverseAux (items (markers (placed-source l))) (text 0 ∷ before)) (order-at l) (l .part .target) qs
     (gather (blamed lone-P []) (placed-contents ls)) (bar-first ls)
     (λ b. parts-blamed b ls))
 

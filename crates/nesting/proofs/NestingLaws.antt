@@ -8,7 +8,7 @@ use lib.Dec.{eqb}
 use Rattle.xliff.specs.Bytes.{keep}
 use Rattle.xliff.specs.Item.{Item, Content, start, end, text, character, standalone, isolated, pair, annotation-start, annotation-end, class, half, is-form-P, other-half}
 use Rattle.xliff.specs.Rules.{meet, meet-all, all-met, partner-P, ahead, lone-P}
-use Rattle.places.specs.Markers.{is-marked, marked, OnMarks}
+use Rattle.places.specs.Markers.{is-marked, only-markers, OnMarks}
 use Rattle.keys.specs.Keys.{key}
 use Rattle.keys.proofs.KeyLaws.{half-key, form-key, other-key}
 use Rattle.contents.specs.Nesting.{meetKey, meetKeys, allMet, lonePKey}
@@ -70,8 +70,8 @@ meet-unmarked (some (x ∷ xs)) (pair h w f) e = absurd (true≢false e)
 meet-unmarked (some (x ∷ xs)) (annotation-start w i t) e = absurd (true≢false e)
 meet-unmarked (some (x ∷ xs)) (annotation-end w i) e = absurd (true≢false e)
 
-meet-marked : (halves : Option (List Item)) (ys : Content) → meet-all halves ys ≡ meet-all halves (marked ys)
-unfolding meet-all marked keep
+meet-marked : (halves : Option (List Item)) (ys : Content) → meet-all halves ys ≡ meet-all halves (only-markers ys)
+unfolding meet-all only-markers keep
 meet-marked halves [] = refl
 meet-marked halves (y ∷ ys) = by (is-marked y) refl (λ o. meet-marked o ys)
   where
@@ -90,14 +90,14 @@ lone-unmarked before (pair h w f) after e = absurd (true≢false e)
 lone-unmarked before (annotation-start w i t) after e = absurd (true≢false e)
 lone-unmarked before (annotation-end w i) after e = absurd (true≢false e)
 
-lone-marked : (before : Content) (x : Item) (after : Content) → lone-P before x after ≡ lone-P (marked before) x (marked after)
+lone-marked : (before : Content) (x : Item) (after : Content) → lone-P before x after ≡ lone-P (only-markers before) x (only-markers after)
 unfolding lone-P partner-P ahead
 lone-marked before x after = by (eqb (half x) 1)
   where
     at : Content → Content → Type 0
     at ys zs = not (eqb (half x) 0) && (is-form-P x && not (all-met (meet-all (some (x ∷ [])) ys))) ≡ not (eqb (half x) 0) && (is-form-P x && not (all-met (meet-all (some (x ∷ [])) zs)))
 
-    by : (b : Bool) → at (cond b after before) (cond b (marked after) (marked before))
+    by : (b : Bool) → at (cond b after before) (cond b (only-markers after) (only-markers before))
     by true = ap (λ (o : Option (List Item)). not (eqb (half x) 0) && (is-form-P x && not (all-met o))) (meet-marked (some (x ∷ [])) after)
     by false = ap (λ (o : Option (List Item)). not (eqb (half x) 0) && (is-form-P x && not (all-met o))) (meet-marked (some (x ∷ [])) before)
 

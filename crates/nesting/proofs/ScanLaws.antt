@@ -12,23 +12,24 @@ use Rattle.keys.specs.Keys.{halfKey, formKey, otherKey}
 use Rattle.contents.specs.Contents.{isBar, run}
 use Rattle.contents.specs.Nesting.{meetKey, meetKeys, allMet, lonePKey}
 use Rattle.nesting.specs.Scan.{stepsAway, indexAway, away, isApart, depthAfter, isHalfP, opened}
+use Rattle.xliff.specs.Parse.{most-records}
 
 -- the next key, away from index i
-pub away-next : (back : Bool) (i j : ℕ) (ks : List ℕ) → i < length ks → j < stepsAway back i (length ks)
-    → away back i j ks ≡ getD ks (indexAway back i j) 0 ∷ away back i (j + 1) ks
+pub away-next : (back : Bool) (i j : ℕ) (keys : List ℕ) → i < length keys → j < stepsAway back i (length keys)
+    → away back i j keys ≡ getD keys (indexAway back i j) 0 ∷ away back i (j + 1) keys
 unfolding away
-away-next true i j ks h k =
-    ap (λ (n : ℕ). reverse (take n ks)) (let z : i - j ≡ suc (i - (j + 1)) = omega arith in z)
-    ∙ ap reverse (take-suc ks (i - (j + 1)) 0 (omega arith))
-    ∙ reverse-append (take (i - (j + 1)) ks) (getD ks (i - (j + 1)) 0 ∷ [])
-away-next false i j ks h k =
-    drop-cons ks (i + 1 + j) 0 (omega arith)
-    ∙ ap (λ (n : ℕ). getD ks (i + 1 + j) 0 ∷ drop n ks) (let z : suc (i + 1 + j) ≡ i + 1 + (j + 1) = omega arith in z)
+away-next true i j keys h k =
+    ap (λ (n : ℕ). reverse (take n keys)) (let z : i - j ≡ suc (i - (j + 1)) = omega arith in z)
+    ∙ ap reverse (take-suc keys (i - (j + 1)) 0 (omega arith))
+    ∙ reverse-append (take (i - (j + 1)) keys) (getD keys (i - (j + 1)) 0 ∷ [])
+away-next false i j keys h k =
+    drop-cons keys (i + 1 + j) 0 (omega arith)
+    ∙ ap (λ (n : ℕ). getD keys (i + 1 + j) 0 ∷ drop n keys) (let z : suc (i + 1 + j) ≡ i + 1 + (j + 1) = omega arith in z)
 
-pub away-end : (back : Bool) (i j : ℕ) (ks : List ℕ) → i < length ks → stepsAway back i (length ks) ≤ j → away back i j ks ≡ []
+pub away-end : (back : Bool) (i j : ℕ) (keys : List ℕ) → i < length keys → stepsAway back i (length keys) ≤ j → away back i j keys ≡ []
 unfolding away
-away-end true i j ks h k = ap (λ (n : ℕ). reverse (take n ks)) (let z : i - j ≡ 0 = omega arith in z)
-away-end false i j ks h k = drop-of-length-le ks {i = i + 1 + j} (omega arith)
+away-end true i j keys h k = ap (λ (n : ℕ). reverse (take n keys)) (let z : i - j ≡ 0 = omega arith in z)
+away-end false i j keys h k = drop-of-length-le keys {i = i + 1 + j} (omega arith)
 
 -- the stack
 opened-top : (depth : ℕ) (stack : List ℕ) → 1 ≤ depth → depth ≤ length stack → opened depth stack ≡ getD stack (depth - 1) 0 ∷ opened (depth - 1) stack
@@ -51,48 +52,48 @@ opened-below n depth stack k h = ap reverse (take-set-le n stack depth k h)
 
 -- whether all halves are met, from some open ones on
 abbrev pub met-from : List ℕ → List ℕ → Bool
-met-from halves ks = allMet (meetKeys (some halves) (run ks))
+met-from halves keys = allMet (meetKeys (some halves) (run keys))
 
-none-met : (ks : List ℕ) → allMet (meetKeys none ks) ≡ false
+none-met : (keys : List ℕ) → allMet (meetKeys none keys) ≡ false
 unfolding meetKeys meetKey allMet
 none-met [] = refl
-none-met (k ∷ ks) = none-met ks
+none-met (k ∷ keys) = none-met keys
 
-all-met : (ks : List ℕ) → allMet (meetKeys (some []) ks) ≡ true
+all-met : (keys : List ℕ) → allMet (meetKeys (some []) keys) ≡ true
 unfolding meetKeys meetKey allMet
 all-met [] = refl
-all-met (k ∷ ks) = all-met ks
+all-met (k ∷ keys) = all-met keys
 
-apart-from : (x : ℕ) (xs : List ℕ) (k : ℕ) (ks : List ℕ) → isApart x k ≡ true → met-from (x ∷ xs) (k ∷ ks) ≡ false
+apart-from : (x : ℕ) (xs : List ℕ) (k : ℕ) (keys : List ℕ) → isApart x k ≡ true → met-from (x ∷ xs) (k ∷ keys) ≡ false
 unfolding run meetKeys meetKey allMet
-apart-from x xs k ks e = by (isBar k) refl
+apart-from x xs k keys e = by (isBar k) refl
   where
-    inner : (a b c : Bool) → a && (not b && not c) ≡ true → allMet (meetKeys (cond a (cond b (some (k ∷ x ∷ xs)) (cond c (some xs) none)) (some (x ∷ xs))) (run ks)) ≡ false
+    inner : (a b c : Bool) → a && (not b && not c) ≡ true → allMet (meetKeys (cond a (cond b (some (k ∷ x ∷ xs)) (cond c (some xs) none)) (some (x ∷ xs))) (run keys)) ≡ false
     inner true true c h = absurd (true≢false (sym h))
     inner true false true h = absurd (true≢false (sym h))
-    inner true false false h = none-met (run ks)
+    inner true false false h = none-met (run keys)
     inner false b c h = absurd (true≢false (sym h))
 
-    by : (b : Bool) → isBar k ≡ b → allMet (meetKeys (some (x ∷ xs)) (cond b [] (k ∷ run ks))) ≡ false
+    by : (b : Bool) → isBar k ≡ b → allMet (meetKeys (some (x ∷ xs)) (cond b [] (k ∷ run keys))) ≡ false
     by true f = refl
     by false f = inner (formKey k) (eqb (halfKey x) (halfKey k)) (otherKey x k) (rw f at e)
 
-met-on : (x : ℕ) (xs : List ℕ) (k : ℕ) (ks : List ℕ) (halves : List ℕ) → isApart x k ≡ false
-    → halves ≡ cond (formKey k) (cond (eqb (halfKey x) (halfKey k)) (k ∷ x ∷ xs) xs) (x ∷ xs) → met-from (x ∷ xs) (k ∷ ks) ≡ met-from halves ks
+met-on : (x : ℕ) (xs : List ℕ) (k : ℕ) (keys : List ℕ) (halves : List ℕ) → isApart x k ≡ false
+    → halves ≡ cond (formKey k) (cond (eqb (halfKey x) (halfKey k)) (k ∷ x ∷ xs) xs) (x ∷ xs) → met-from (x ∷ xs) (k ∷ keys) ≡ met-from halves keys
 unfolding run meetKeys meetKey
-met-on x xs k ks halves e f = rw f (by (isBar k) refl)
+met-on x xs k keys halves e f = rw f (by (isBar k) refl)
   where
     inner : (a b c : Bool) → a && (not b && not c) ≡ false
-        → allMet (meetKeys (cond a (cond b (some (k ∷ x ∷ xs)) (cond c (some xs) none)) (some (x ∷ xs))) (run ks))
-        ≡ allMet (meetKeys (some (cond a (cond b (k ∷ x ∷ xs) xs) (x ∷ xs))) (run ks))
+        → allMet (meetKeys (cond a (cond b (some (k ∷ x ∷ xs)) (cond c (some xs) none)) (some (x ∷ xs))) (run keys))
+        ≡ allMet (meetKeys (some (cond a (cond b (k ∷ x ∷ xs) xs) (x ∷ xs))) (run keys))
     inner true true c h = refl
     inner true false true h = refl
     inner true false false h = absurd (true≢false h)
     inner false b c h = refl
 
     by : (b : Bool) → isBar k ≡ b
-        → allMet (meetKeys (some (x ∷ xs)) (cond b [] (k ∷ run ks)))
-        ≡ allMet (meetKeys (some (cond (formKey k) (cond (eqb (halfKey x) (halfKey k)) (k ∷ x ∷ xs) xs) (x ∷ xs))) (run ks))
+        → allMet (meetKeys (some (x ∷ xs)) (cond b [] (k ∷ run keys)))
+        ≡ allMet (meetKeys (some (cond (formKey k) (cond (eqb (halfKey x) (halfKey k)) (k ∷ x ∷ xs) xs) (x ∷ xs))) (run keys))
     by true g = absurd (true≢false (rw g at e))
     by false g = inner (formKey k) (eqb (halfKey x) (halfKey k)) (otherKey x k) (rw g at e)
 
@@ -112,19 +113,19 @@ module _ (depth : ℕ) (stack : List ℕ) (x k : ℕ) (h : 1 ≤ depth) (l : dep
       by false b = opened-below depth depth stack k (omega arith) ∙ top-is
 
   -- the next key ends the scan, or is one step on
-  pub scan-apart : (ks : List ℕ) → isApart x k ≡ true → met-from (opened depth stack) (k ∷ ks) ≡ false
-  scan-apart ks f = rw top-is (apart-from x (opened (depth - 1) stack) k ks f)
+  pub scan-apart : (keys : List ℕ) → isApart x k ≡ true → met-from (opened depth stack) (k ∷ keys) ≡ false
+  scan-apart keys f = rw top-is (apart-from x (opened (depth - 1) stack) k keys f)
 
-  pub scan-on : (ks : List ℕ) → isApart x k ≡ false → met-from (opened depth stack) (k ∷ ks) ≡ met-from (opened (depthAfter x k depth) (set stack depth k)) ks
-  scan-on ks f = rw top-is (met-on x (opened (depth - 1) stack) k ks _ f after-is)
+  pub scan-on : (keys : List ℕ) → isApart x k ≡ false → met-from (opened depth stack) (k ∷ keys) ≡ met-from (opened (depthAfter x k depth) (set stack depth k)) keys
+  scan-on keys f = rw top-is (met-on x (opened (depth - 1) stack) k keys _ f after-is)
 
 pub scan-end : (depth : ℕ) (stack : List ℕ) → 1 ≤ depth → depth ≤ length stack → met-from (opened depth stack) [] ≡ false
 unfolding run meetKeys allMet
 scan-end depth stack h l = rw (opened-top depth stack h l)
 
-pub scan-all : (stack ks : List ℕ) → met-from (opened 0 stack) ks ≡ true
+pub scan-all : (stack keys : List ℕ) → met-from (opened 0 stack) keys ≡ true
 unfolding opened
-scan-all stack ks = all-met (run ks)
+scan-all stack keys = all-met (run keys)
 
 depth-small : (x k depth : ℕ) → depthAfter x k depth ≤ depth + 1
 depth-small x k depth = by (formKey k) (eqb (halfKey x) (halfKey k))
@@ -142,14 +143,14 @@ pub record Scan (keys : List ℕ) (back : Bool) (i : ℕ) (stack : List ℕ) (de
   pub within : j ≤ stepsAway back i (length keys)
   pub some-open : 1 ≤ depth
   pub few-open : depth ≤ j + 1
-  pub sized : length stack ≡ 1024
+  pub sized : length stack ≡ most-records
   pub same : met-from (getD keys i 0 ∷ []) (away back i 0 keys) ≡ met-from (opened depth stack) (away back i j keys)
 
 steps-few : (back : Bool) (i n : ℕ) → i < n → stepsAway back i n ≤ n - 1
 steps-few true i n h = omega arith
 steps-few false i n h = omega arith
 
-pub scan-start : (keys : List ℕ) (back : Bool) (i : ℕ) (stack : List ℕ) → length stack ≡ 1024 → Scan keys back i (set stack 0 (getD keys i 0)) 1 0
+pub scan-start : (keys : List ℕ) (back : Bool) (i : ℕ) (stack : List ℕ) → length stack ≡ most-records → Scan keys back i (set stack 0 (getD keys i 0)) 1 0
 unfolding opened
 scan-start keys back i stack e =
     record {
@@ -160,7 +161,7 @@ scan-start keys back i stack e =
       same = ap (λ (l : List ℕ). met-from l (away back i 0 keys)) (sym (opened-push 0 stack (getD keys i 0) (omega arith)));
     }
 
-module _ {keys : List ℕ} {back : Bool} {i : ℕ} {stack : List ℕ} {depth j : ℕ} (s : Scan keys back i stack depth j) (h : i < length keys) (few : length keys ≤ 1024) where
+module _ {keys : List ℕ} {back : Bool} {i : ℕ} {stack : List ℕ} {depth j : ℕ} (s : Scan keys back i stack depth j) (h : i < length keys) (few : length keys ≤ most-records) where
   -- whether the half has its partner
   abbrev Met : Bool
   Met = met-from (getD keys i 0 ∷ []) (away back i 0 keys)
@@ -215,15 +216,15 @@ lone-not before k after e = by (not (eqb (halfKey k) 0)) (formKey k) _ e
     by true false c h = refl
     by false b c h = refl
 
-pub lone-scan : (ks : List ℕ) (i k : ℕ) (met : Bool) → isHalfP k ≡ true → met ≡ met-from (k ∷ []) (away (not (eqb (halfKey k) 1)) i 0 ks)
-    → not met ≡ lonePKey (run (reverse (take i ks))) k (run (drop (i + 1) ks))
+pub lone-scan : (keys : List ℕ) (i k : ℕ) (met : Bool) → isHalfP k ≡ true → met ≡ met-from (k ∷ []) (away (not (eqb (halfKey k) 1)) i 0 keys)
+    → not met ≡ lonePKey (run (reverse (take i keys))) k (run (drop (i + 1) keys))
 unfolding lonePKey away
-lone-scan ks i k met e f = rw f (by (not (eqb (halfKey k) 0)) (formKey k) (eqb (halfKey k) 1) e)
+lone-scan keys i k met e f = rw f (by (not (eqb (halfKey k) 0)) (formKey k) (eqb (halfKey k) 1) e)
   where
     by : (a b c : Bool) → a && b ≡ true
-        → not (met-from (k ∷ []) (cond (not c) (reverse (take (i - 0) ks)) (drop (i + 1 + 0) ks)))
-        ≡ a && (b && not (allMet (meetKeys (some (k ∷ [])) (cond c (run (drop (i + 1) ks)) (run (reverse (take i ks)))))))
-    by true true true h = ap (λ (n : ℕ). not (met-from (k ∷ []) (drop n ks))) (let z : i + 1 + 0 ≡ i + 1 = omega arith in z)
-    by true true false h = ap (λ (n : ℕ). not (met-from (k ∷ []) (reverse (take n ks)))) (let z : i - 0 ≡ i = omega arith in z)
+        → not (met-from (k ∷ []) (cond (not c) (reverse (take (i - 0) keys)) (drop (i + 1 + 0) keys)))
+        ≡ a && (b && not (allMet (meetKeys (some (k ∷ [])) (cond c (run (drop (i + 1) keys)) (run (reverse (take i keys)))))))
+    by true true true h = ap (λ (n : ℕ). not (met-from (k ∷ []) (drop n keys))) (let z : i + 1 + 0 ≡ i + 1 = omega arith in z)
+    by true true false h = ap (λ (n : ℕ). not (met-from (k ∷ []) (reverse (take n keys)))) (let z : i - 0 ≡ i = omega arith in z)
     by true false c h = absurd (true≢false (sym h))
     by false b c h = absurd (true≢false (sym h))

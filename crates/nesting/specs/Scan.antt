@@ -15,7 +15,7 @@ abbrev pub indexAway : Bool → ℕ → ℕ → ℕ
 indexAway back i j = cond back (i - (j + 1)) (i + 1 + j)
 
 unfoldable pub away : Bool → ℕ → ℕ → List ℕ → List ℕ
-away back i j ks = cond back (reverse (take (i - j) ks)) (drop (i + 1 + j) ks)
+away back i j keys = cond back (reverse (take (i - j) keys)) (drop (i + 1 + j) keys)
 
 -- a bar, or a half of pc or mrk that is not the other half of x, the nearest open one
 abbrev pub isApart : ℕ → ℕ → Bool

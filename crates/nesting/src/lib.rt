@@ -1,5 +1,6 @@
 // Rule 7 for pc and mrk (PO PC MO MC): halves without partner in their content.
 use answers::Place;
+use limits::MOST_RECORDS;
 ghost use mathlib.Core.Path.{_≡_};
 ghost use mathlib.Core.Bool.{true};
 ghost use mathlib.Core.List.{[], _∷_, reverse};
@@ -7,7 +8,7 @@ ghost use mathlib.Core.Option.{some};
 ghost use Prim.Native.Nat.{_+_, _-_, _<_, _≤_};
 ghost use lib.ListN.{length, getD, take, drop};
 ghost use Rattle.xliff.specs.Bytes.{gather};
-ghost use Rattle.xliff.specs.Parse.{unit};
+ghost use Rattle.xliff.specs.Parse.{unit, most-records};
 ghost use Rattle.xliff.specs.Sequences.{located, placed-contents, blamed, first-of};
 ghost use Rattle.xliff.specs.Rules.{lone-P};
 ghost use Rattle.places.specs.Passes.{Passes};
@@ -44,7 +45,7 @@ fn is_apart(x: u32, k: u32) -> bool
 
 // How many halves are open after one more key; `x` is the nearest of the `depth` before.
 fn depth_after(x: u32, k: u32, depth: usize) -> usize
-    requires { ⌜ (1 ≤ depth) × (depth < 1024) ⌝ }
+    requires { ⌜ (1 ≤ depth) × (depth < most-records) ⌝ }
     ensures { λ r. ⌜ r ≡ depthAfter x k depth ⌝ }
 {
     if k % 2 == 1 {
@@ -59,8 +60,8 @@ fn depth_after(x: u32, k: u32, depth: usize) -> usize
 // Whether the half at `i` has its partner before it, or after it. The stack holds the open halves.
 // Ends at the partner, at a half that rules one out, or at the end of the content.
 fn is_met(keys: &[u32], back: bool, i: usize, stack: &mut [u32]) -> bool
-    requires { ⌜ (i < length (now keys)) × (length (now keys) ≤ 1024) × (length (now stack) ≡ 1024) ⌝ }
-    ensures { λ r. ⌜ (r ≡ allMet (meetKeys (some (getD (now (keys .entry)) i 0 ∷ [])) (run (away back i 0 (now (keys .entry)))))) × (length (now (stack .exit)) ≡ 1024) ⌝ }
+    requires { ⌜ (i < length (now keys)) × (length (now keys) ≤ most-records) × (length (now stack) ≡ most-records) ⌝ }
+    ensures { λ r. ⌜ (r ≡ allMet (meetKeys (some (getD (now (keys .entry)) i 0 ∷ [])) (run (away back i 0 (now (keys .entry)))))) × (length (now (stack .exit)) ≡ most-records) ⌝ }
 {
     stack[0] = keys[i];
     let n = steps_away(back, i, keys.len());
@@ -91,8 +92,8 @@ fn is_half_p(k: u32) -> bool
 
 // Whether the marker at `i` is a half of pc or mrk without partner in its content.
 pub fn is_lone(keys: &[u32], i: usize, stack: &mut [u32]) -> bool
-    requires { ⌜ (i < length (now keys)) × (length (now keys) ≤ 1024) × (length (now stack) ≡ 1024) ⌝ }
-    ensures { λ r. ⌜ (r ≡ lonePKey (run (reverse (take i (now (keys .entry))))) (getD (now (keys .entry)) i 0) (run (drop (i + 1) (now (keys .entry))))) × (length (now (stack .exit)) ≡ 1024) ⌝ }
+    requires { ⌜ (i < length (now keys)) × (length (now keys) ≤ most-records) × (length (now stack) ≡ most-records) ⌝ }
+    ensures { λ r. ⌜ (r ≡ lonePKey (run (reverse (take i (now (keys .entry))))) (getD (now (keys .entry)) i 0) (run (drop (i + 1) (now (keys .entry))))) × (length (now (stack .exit)) ≡ most-records) ⌝ }
 {
     let k = keys[i];
     if !is_half_p(k) {
@@ -104,16 +105,16 @@ pub fn is_lone(keys: &[u32], i: usize, stack: &mut [u32]) -> bool
 // The first half of pc or mrk without partner, over all contents.
 // Work: for each half the steps to its partner, or to the end of its content: at most the square of the number of
 // markers.
-pub fn first_lone(t: &[u8], os: &[u16], keys: &[u32]) -> Place
-    requires { ⌜ Passes (now t) × (now os ≡ barred true (now t)) × (now keys ≡ barKeys (now t) (now os)) × (length (now os) ≤ 1024) ⌝ }
+pub fn first_lone(t: &[u8], markers: &[u16], keys: &[u32]) -> Place
+    requires { ⌜ Passes (now t) × (now markers ≡ barred true (now t)) × (now keys ≡ barKeys (now t) (now markers)) × (length (now markers) ≤ most-records) ⌝ }
     ensures { λ r. ⌜ refusal-at 7 r ≡ first-of 7 (gather (blamed lone-P []) (placed-contents (located (unit (now (t .entry)) .parts)))) ⌝ }
 {
-    let mut stack: [u32; 1024] = [0; 1024];
+    let mut stack: [u32; MOST_RECORDS] = [0; MOST_RECORDS];
     let mut best = Place::Nowhere;
     let mut i: usize = 0;
-    while i < os.len() {
+    while i < markers.len() {
         let lone = is_lone(keys, i, &mut stack);
-        best = answers::lower_if(lone, best, marks::wide(os[i]));
+        best = answers::lower_if(lone, best, marks::wide(markers[i]));
         i += 1;
     }
     best

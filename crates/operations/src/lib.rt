@@ -1,11 +1,13 @@
 // The operation that a request asks for.
 use answers::Answer;
+use limits::MOST_BYTES;
 use requests::Request;
 ghost use mathlib.Core.Path.{_≡_};
 ghost use Prim.Native.Nat.{_+_, _≤_};
 ghost use lib.ListN.{length, take, drop};
 ghost use Rattle.xliff.specs.SetTarget.{set-target};
 ghost use Rattle.xliff.specs.Calls.{outcome};
+ghost use Rattle.xliff.specs.Parse.{most-bytes};
 ghost use Rattle.outcomes.specs.Outcomes.{Answers};
 ghost use Rattle.requests.specs.Requests.{request-size, call-of};
 
@@ -20,10 +22,10 @@ fn set_content(table: &[u8], part: u16, state: u8, s: &[u8], n: u16, out: &mut [
 }
 
 // The request `r` at the head of `s`. "lends outputs of 8,192 bytes"
-pub fn perform(table: &[u8], r: Request, s: &[u8], out: &mut [u8; 8192]) -> Answer
+pub fn perform(table: &[u8], r: Request, s: &[u8], out: &mut [u8; MOST_BYTES]) -> Answer
     requires { ⌜ request-size r ≤ length (now s) ⌝ }
     ensures { λ a. ⌜ Answers (outcome (now (table .entry)) (call-of (now (s .entry)) r)) a (now (out .entry)) (now (out .exit)) ⌝ }
-    ensures whole { λ a. ⌜ length (now (out .exit)) ≡ 8192 ⌝ }
+    ensures whole { λ a. ⌜ length (now (out .exit)) ≡ most-bytes ⌝ }
 {
     match r {
         Request::Split(part, source, target, id) => split::split(

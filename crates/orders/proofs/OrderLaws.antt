@@ -13,7 +13,7 @@ use Rattle.xliff.specs.Bytes.{among}
 use Rattle.xliff.specs.Answer.{refusal}
 use Rattle.xliff.specs.Encode as encode
 use Rattle.xliff.specs.Encode.{target-head, record-bytes, unit-records}
-use Rattle.xliff.specs.Parse.{unit}
+use Rattle.xliff.specs.Parse.{unit, most-parts}
 use Rattle.xliff.specs.Rules.{bad-order, fault-5}
 use Rattle.xliff.proofs.lists.Tests.{or-left, or-right}
 use Rattle.places.specs.Offsets.{At}
@@ -96,9 +96,9 @@ orders-end t at rs n us a l = ap (λ (l : List encode.Record). first-bad-in n us
 
 -- the array of used orders
 abbrev pub Marked : List ℕ → List ℕ → Type 0
-Marked used us = (q : ℕ) → q ≤ 64 → eqb (getD used q 0) 1 ≡ among q us
+Marked used us = (q : ℕ) → q ≤ most-parts → eqb (getD used q 0) 1 ≡ among q us
 
-pub bad-same : (n k : ℕ) (used us : List ℕ) → n ≤ 64 → Marked used us → (eqb k 0 || (ltb n k || eqb (getD used k 0) 1)) ≡ bad-order n us k
+pub bad-same : (n k : ℕ) (used us : List ℕ) → n ≤ most-parts → Marked used us → (eqb k 0 || (ltb n k || eqb (getD used k 0) 1)) ≡ bad-order n us k
 unfolding bad-order
 bad-same n k used us l m = ap (λ (b : Bool). eqb k 0 || b) (by (ltb n k) refl)
   where
@@ -159,7 +159,7 @@ module _ {t : List ℕ} {n : ℕ} {used : List ℕ} {at : ℕ} (o : Ordering t n
       }
 
   -- a target's order q: the code's test of it, and what follows of it
-  module _ (few : n ≤ 64) (q : ℕ) (e : orderBy g ≡ Is q) where
+  module _ (few : n ≤ most-parts) (q : ℕ) (e : orderBy g ≡ Is q) where
     abbrev is-bad : Bool
     is-bad = eqb q 0 || (ltb n q || eqb (getD used q 0) 1)
 

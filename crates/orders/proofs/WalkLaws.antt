@@ -9,7 +9,7 @@ use lib.ListN.{length, drop}
 use lib.Dec.{eqb}
 use Rattle.xliff.specs.Encode as encode
 use Rattle.xliff.specs.Encode.{record-bytes, unit-records}
-use Rattle.xliff.specs.Parse.{read, unit, is-part}
+use Rattle.xliff.specs.Parse.{read, unit, is-part, most-parts}
 use Rattle.xliff.proofs.unit.Valid.{heads-unit}
 use Rattle.places.specs.Passes.{Passes}
 use Rattle.places.specs.Offsets.{At}
@@ -129,5 +129,5 @@ parts-end t at n rs a l e =
     let z : part-heads rs ≡ 0 = ap part-heads (at-end t at rs a l) in
     omega (arith, z, e, heads-unit (unit t))
 
-pub few-parts : (t : List ℕ) → Passes t → length (unit t .parts) ≤ 64
+pub few-parts : (t : List ℕ) → Passes t → length (unit t .parts) ≤ most-parts
 few-parts t p = omega (arith, p .few-parts, heads-unit (unit t))

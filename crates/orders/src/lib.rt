@@ -7,7 +7,7 @@ ghost use Prim.Native.Nat.{_+_, _-_, _<_, _≤_};
 ghost use lib.ListN.{length, getD};
 ghost use lib.Dec.{eqb, ltb};
 ghost use Rattle.answers.specs.Answers.{refusal-at};
-ghost use Rattle.xliff.specs.Parse.{unit};
+ghost use Rattle.xliff.specs.Parse.{unit, most-parts};
 ghost use Rattle.xliff.specs.Rules.{fault-5};
 ghost use Rattle.places.specs.Passes.{Passes};
 ghost use Rattle.orders.specs.Heads.{orderBy};
@@ -50,7 +50,7 @@ fn order_of(g: Glance) -> Order
 }
 
 fn bad_order(n: usize, used: &[u8; 65], k: usize) -> bool
-    requires { ⌜ n ≤ 64 ⌝ }
+    requires { ⌜ n ≤ most-parts ⌝ }
     ensures { λ r. ⌜ r ≡ (eqb k 0 || (ltb n k || eqb (getD (now (used .entry)) k 0) 1)) ⌝ }
 {
     if n < k {

@@ -23,38 +23,38 @@ use Rattle.halves.proofs.Runs.{items-run, run-split, any-next, any-previous, en
 use Rattle.halves.proofs.Others.{key-at, keys-long, before-is, after-is, not-own}
 use Rattle.overlap.specs.Nine.{Halves, strayKey, strayAt, pairStart, closedStart}
 
-module _ (t os : List ℕ) where
+module _ (t markers : List ℕ) where
   -- the other half of a marker that stands in a run stands there too if the nearest before or the nearest after does
-  module _ (a e k : ℕ) (l : a ≤ k) (h : k < e) (m : e ≤ length os) where
-    around : run (marker-at t os) a (e - a) ≡ run (marker-at t os) a (k - a) ++ (marker-at t os k ∷ run (marker-at t os) (suc k) (e - suc k))
+  module _ (a e k : ℕ) (l : a ≤ k) (h : k < e) (m : e ≤ length markers) where
+    around : run (marker-at t markers) a (e - a) ≡ run (marker-at t markers) a (k - a) ++ (marker-at t markers k ∷ run (marker-at t markers) (suc k) (e - suc k))
     unfolding run
     around =
-        ap (run (marker-at t os) a) (let z : e - a ≡ k - a + suc (e - suc k) = omega arith in z)
-        ∙ run-split (marker-at t os) (k - a) (suc (e - suc k)) a
-        ∙ ap {B = Content} (λ (j : ℕ). run (marker-at t os) a (k - a) ++ run (marker-at t os) j (suc (e - suc k))) (let z : a + (k - a) ≡ k = omega arith in z)
+        ap (run (marker-at t markers) a) (let z : e - a ≡ k - a + suc (e - suc k) = omega arith in z)
+        ∙ run-split (marker-at t markers) (k - a) (suc (e - suc k)) a
+        ∙ ap {B = Content} (λ (j : ℕ). run (marker-at t markers) a (k - a) ++ run (marker-at t markers) j (suc (e - suc k))) (let z : a + (k - a) ≡ k = omega arith in z)
 
-    others-before : any (other-half (marker-at t os k)) (run (marker-at t os) a (k - a)) ≡ ltb a (half-before (keysAt t os) k)
+    others-before : any (other-half (marker-at t markers k)) (run (marker-at t markers) a (k - a)) ≡ ltb a (half-before (keysAt t markers) k)
     others-before =
-        any-previous (other-half (marker-at t os k)) (marker-at t os) (k - a) a
-        ∙ ap (λ (j : ℕ). ltb a (previous (λ i. other-half (marker-at t os k) (marker-at t os i)) j)) (let z : a + (k - a) ≡ k = omega arith in z)
-        ∙ ap (ltb a) (sym (before-is t os k (omega arith)))
+        any-previous (other-half (marker-at t markers k)) (marker-at t markers) (k - a) a
+        ∙ ap (λ (j : ℕ). ltb a (previous (λ i. other-half (marker-at t markers k) (marker-at t markers i)) j)) (let z : a + (k - a) ≡ k = omega arith in z)
+        ∙ ap (ltb a) (sym (before-is t markers k (omega arith)))
 
-    others-after : any (other-half (marker-at t os k)) (run (marker-at t os) (suc k) (e - suc k)) ≡ ltb (half-after (keysAt t os) k) e
+    others-after : any (other-half (marker-at t markers k)) (run (marker-at t markers) (suc k) (e - suc k)) ≡ ltb (half-after (keysAt t markers) k) e
     others-after =
-        any-next (other-half (marker-at t os k)) (marker-at t os) (e - suc k) (length os - suc k) (suc k) (omega arith)
-        ∙ ap₂ ltb (sym (after-is t os k (omega arith))) (let z : suc k + (e - suc k) ≡ e = omega arith in z)
+        any-next (other-half (marker-at t markers k)) (marker-at t markers) (e - suc k) (length markers - suc k) (suc k) (omega arith)
+        ∙ ap₂ ltb (sym (after-is t markers k (omega arith))) (let z : suc k + (e - suc k) ≡ e = omega arith in z)
 
-    others-inside : any (other-half (marker-at t os k)) (run (marker-at t os) a (e - a)) ≡ ltb a (half-before (keysAt t os) k) || ltb (half-after (keysAt t os) k) e
+    others-inside : any (other-half (marker-at t markers k)) (run (marker-at t markers) a (e - a)) ≡ ltb a (half-before (keysAt t markers) k) || ltb (half-after (keysAt t markers) k) e
     unfolding any
     others-inside =
-        ap (any (other-half (marker-at t os k))) around
-        ∙ any-append (other-half (marker-at t os k)) (run (marker-at t os) a (k - a)) (marker-at t os k ∷ run (marker-at t os) (suc k) (e - suc k))
-        ∙ ap₂ _||_ others-before (rw (not-own (marker-at t os k)) others-after)
+        ap (any (other-half (marker-at t markers k))) around
+        ∙ any-append (other-half (marker-at t markers k)) (run (marker-at t markers) a (k - a)) (marker-at t markers k ∷ run (marker-at t markers) (suc k) (e - suc k))
+        ∙ ap₂ _||_ others-before (rw (not-own (marker-at t markers k)) others-after)
 
-    class-at : classKey (getD (keysAt t os) k 0) ≡ class (marker-at t os k)
-    class-at = ap classKey (key-at t os k (omega arith)) ∙ class-key (marker-at t os k)
+    class-at : classKey (getD (keysAt t markers) k 0) ≡ class (marker-at t markers k)
+    class-at = ap classKey (key-at t markers k (omega arith)) ∙ class-key (marker-at t markers k)
 
-    stray-is : strayAt (keysAt t os) a e k ≡ stray (run (marker-at t os) a (e - a)) (marker-at t os k)
+    stray-is : strayAt (keysAt t markers) a e k ≡ stray (run (marker-at t markers) a (e - a)) (marker-at t markers k)
     unfolding stray
     stray-is = ap₂ (λ (c : ℕ) (b : Bool). eqb c 3 || eqb c 4 || eqb c 2 && not b) class-at (sym others-inside)
 
@@ -74,59 +74,59 @@ closed-start x f =
     (sym (ap₂ (λ (c h : ℕ). eqb c 2 && eqb h 1) (class-key x) (half-key x)) ∙ f)
 
 -- Rule 9 of a marker
-module _ (t os : List ℕ) (i : ℕ) (h : i < length os) where
+module _ (t markers : List ℕ) (i : ℕ) (h : i < length markers) where
   encloses : Bool
-  encloses = any-stray (enclosed (marker-at t os i) (items (placed-at t (drop (suc i) os))))
+  encloses = any-stray (enclosed (marker-at t markers i) (items (placed-at t (drop (suc i) markers))))
 
-  bad-is : (before : Content) → bad-9 before (marker-at t os i) (items (placed-at t (drop (suc i) os))) ≡ closedStart (viewOf (marker-at t os i)) && encloses
+  bad-is : (before : Content) → bad-9 before (marker-at t markers i) (items (placed-at t (drop (suc i) markers))) ≡ closedStart (viewOf (marker-at t markers i)) && encloses
   unfolding bad-9 viewOf encloses
   bad-is before =
-      and-group (eqb (class (marker-at t os i)) 2) (eqb (half (marker-at t os i)) 1) (eqb (fields (marker-at t os i) .canOverlap) 78) encloses
+      and-group (eqb (class (marker-at t markers i)) 2) (eqb (half (marker-at t markers i)) 1) (eqb (fields (marker-at t markers i) .canOverlap) 78) encloses
 
-  behind : items (placed-at t (drop (suc i) os)) ≡ run (marker-at t os) (suc i) (length os - suc i)
-  behind = items-run t os (length os - suc i) (suc i) (omega arith)
+  behind : items (placed-at t (drop (suc i) markers)) ≡ run (marker-at t markers) (suc i) (length markers - suc i)
+  behind = items-run t markers (length markers - suc i) (suc i) (omega arith)
 
-  no-stray : length os ≤ half-after (keysAt t os) i → encloses ≡ false
+  no-stray : length markers ≤ half-after (keysAt t markers) i → encloses ≡ false
   unfolding encloses any-stray
   no-stray f =
-      rw (behind, enclosed-none (marker-at t os i) (marker-at t os) (length os - suc i) (suc i) (omega (arith, f, after-is t os i h)))
+      rw (behind, enclosed-none (marker-at t markers i) (marker-at t markers) (length markers - suc i) (suc i) (omega (arith, f, after-is t markers i h)))
 
-  stray-inside : (e r : ℕ) → e ≡ half-after (keysAt t os) i → e < length os → r ≡ next (strayAt (keysAt t os) (i + 1) e) (i + 1) (e - (i + 1))
+  stray-inside : (e r : ℕ) → e ≡ half-after (keysAt t markers) i → e < length markers → r ≡ next (strayAt (keysAt t markers) (i + 1) e) (i + 1) (e - (i + 1))
       → encloses ≡ ltb r e
   unfolding encloses any-stray
   stray-inside e r g l s =
-      ap (λ (c : Content). any-stray (enclosed (marker-at t os i) c)) behind
-      ∙ ap any-stray (enclosed-some (marker-at t os i) (marker-at t os) (length os - suc i) (suc i) e (sym (g ∙ after-is t os i h)) (omega arith))
-      ∙ any-next (stray (run (marker-at t os) (suc i) (e - suc i))) (marker-at t os) (e - suc i) (e - suc i) (suc i) (omega arith)
+      ap (λ (c : Content). any-stray (enclosed (marker-at t markers i) c)) behind
+      ∙ ap any-stray (enclosed-some (marker-at t markers i) (marker-at t markers) (length markers - suc i) (suc i) e (sym (g ∙ after-is t markers i h)) (omega arith))
+      ∙ any-next (stray (run (marker-at t markers) (suc i) (e - suc i))) (marker-at t markers) (e - suc i) (e - suc i) (suc i) (omega arith)
       ∙ ap₂ ltb
-      (sym (next-same _ _ (suc i) (e - suc i) (λ k a b. stray-is t os (suc i) e k a (omega (arith, b, a)) (omega arith)))
-      ∙ ap (λ (k : ℕ). next (strayAt (keysAt t os) k e) k (e - k)) (let z : suc i ≡ i + 1 = omega arith in z)
+      (sym (next-same _ _ (suc i) (e - suc i) (λ k a b. stray-is t markers (suc i) e k a (omega (arith, b, a)) (omega arith)))
+      ∙ ap (λ (k : ℕ). next (strayAt (keysAt t markers) k e) k (e - k)) (let z : suc i ≡ i + 1 = omega arith in z)
       ∙ sym s)
-      (let z : suc i + (e - suc i) ≡ e = omega (arith, g, after-is t os i h, next-low (λ k. other-half (marker-at t os i) (marker-at t os k)) (suc i) (length os - suc i)) in z)
+      (let z : suc i + (e - suc i) ≡ e = omega (arith, g, after-is t markers i h, next-low (λ k. other-half (marker-at t markers i) (marker-at t markers k)) (suc i) (length markers - suc i)) in z)
 
   -- the key tells that it is not the start of a pair
-  pub not-start : (before : Content) → pairStart (getD (keysAt t os) i 0) ≡ false → false ≡ bad-9 before (marker-at t os i) (items (placed-at t (drop (suc i) os)))
-  not-start before f = sym (bad-is before ∙ ap (λ (b : Bool). b && encloses) (closed-start (marker-at t os i) (ap pairStart (sym (key-at t os i h)) ∙ f)))
+  pub not-start : (before : Content) → pairStart (getD (keysAt t markers) i 0) ≡ false → false ≡ bad-9 before (marker-at t markers i) (items (placed-at t (drop (suc i) markers)))
+  not-start before f = sym (bad-is before ∙ ap (λ (b : Bool). b && encloses) (closed-start (marker-at t markers i) (ap pairStart (sym (key-at t markers i h)) ∙ f)))
 
-  module _ (before : Content) (v : View) (q : v ≡ viewOf (marker-at t os i)) where
+  module _ (before : Content) (v : View) (q : v ≡ viewOf (marker-at t markers i)) where
     abbrev test : Bool
-    test = bad-9 before (marker-at t os i) (items (placed-at t (drop (suc i) os)))
+    test = bad-9 before (marker-at t markers i) (items (placed-at t (drop (suc i) markers)))
 
     pub not-closed : closedStart v ≡ false → false ≡ test
     not-closed f = sym (bad-is before ∙ ap (λ (b : Bool). b && encloses) (ap closedStart (sym q) ∙ f))
 
-    pub no-end : length os ≤ half-after (keysAt t os) i → false ≡ test
-    no-end f = sym (bad-is before ∙ ap (λ (b : Bool). closedStart (viewOf (marker-at t os i)) && b) (no-stray f) ∙ and-false (closedStart (viewOf (marker-at t os i))))
+    pub no-end : length markers ≤ half-after (keysAt t markers) i → false ≡ test
+    no-end f = sym (bad-is before ∙ ap (λ (b : Bool). closedStart (viewOf (marker-at t markers i)) && b) (no-stray f) ∙ and-false (closedStart (viewOf (marker-at t markers i))))
 
-    pub with-end : closedStart v ≡ true → (e r : ℕ) → e ≡ half-after (keysAt t os) i → e < length os
-        → r ≡ next (strayAt (keysAt t os) (i + 1) e) (i + 1) (e - (i + 1)) → ltb r e ≡ test
+    pub with-end : closedStart v ≡ true → (e r : ℕ) → e ≡ half-after (keysAt t markers) i → e < length markers
+        → r ≡ next (strayAt (keysAt t markers) (i + 1) e) (i + 1) (e - (i + 1)) → ltb r e ≡ test
     with-end c e r g l s = sym (bad-is before ∙ ap₂ _&&_ (ap closedStart (sym q) ∙ c) (stray-inside e r g l s))
 
 -- arrays that hold the nearest other halves: the end of a start, and the test of one marker
-pub end-there : (t os keys starts ends : List ℕ) → keys ≡ keysAt t os → Halves keys starts ends → (i e : ℕ) → i < length os → e ≡ getD ends i 0
-    → e ≡ half-after (keysAt t os) i
-end-there t os keys starts ends k h i e l f =
-    f ∙ h .1 i (omega (arith, keys-long t os keys k)) ∙ ap (λ (ks : List ℕ). half-after ks i) k
+pub end-there : (t markers keys starts ends : List ℕ) → keys ≡ keysAt t markers → Halves keys starts ends → (i e : ℕ) → i < length markers → e ≡ getD ends i 0
+    → e ≡ half-after (keysAt t markers) i
+end-there t markers keys starts ends k h i e l f =
+    f ∙ h .1 i (omega (arith, keys-long t markers keys k)) ∙ ap (λ (ks : List ℕ). half-after ks i) k
 
 pub stray-there : (keys starts ends : List ℕ) (first end j : ℕ) → Halves keys starts ends → j < length keys → (a b : ℕ) (m : Bool)
     → a ≡ getD starts j 0 → b ≡ getD ends j 0 → m ≡ strayKey (getD keys j 0) first end a b → m ≡ strayAt keys first end j

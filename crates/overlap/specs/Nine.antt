@@ -42,8 +42,8 @@ closedStart x = eqb (x .class) 2 && (eqb (x .half) 1 && eqb (x .overlap) 78)
 
 -- where the test fails of a marker, rule 9 has nothing against it
 abbrev pub OpenAt : List ℕ → List ℕ → ℕ → Bool → Type 0
-OpenAt t os i r = (before : Content) → r ≡ false → false ≡ bad-9 before (marker-at t os i) (items (placed-at t (drop (suc i) os)))
+OpenAt t markers i r = (before : Content) → r ≡ false → false ≡ bad-9 before (marker-at t markers i) (items (placed-at t (drop (suc i) markers)))
 
 -- where it fails of all markers, rule 9 leaves any place as it is
 abbrev pub AllOpen : List ℕ → List ℕ → Bool → Type 0
-AllOpen t os r = (p : Place) → r ≡ true → refusal-at 9 p ≡ toward 9 p (blamed bad-9 [] (placed-at t os))
+AllOpen t markers r = (p : Place) → r ≡ true → refusal-at 9 p ≡ toward 9 p (blamed bad-9 [] (placed-at t markers))

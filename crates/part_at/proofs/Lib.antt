@@ -4,3 +4,6 @@ pub mod PartLaws
 pub mod SearchLaws
 pub mod CheckedLaws
 pub mod SliceLaws
+pub mod HoldLaws
+pub mod TargetLaws
+pub mod CountLaws

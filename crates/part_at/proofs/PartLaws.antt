@@ -18,7 +18,7 @@ use Rattle.places.specs.Offsets.{At}
 use Rattle.places.proofs.Places.{at-start, at-next}
 use Rattle.part_at.specs.declared.PartPlace.{PartPlace}
 use Rattle.part_at.specs.declared.FoundPart.the-variants.{At as FoundAt}
-use Rattle.part_at.specs.Stands.{Begins, part-next, end-next, PartFrom, TargetSpan, PartSpan, PartSpans, Slice, TargetStands, PartStands, PartFound}
+use Rattle.part_at.specs.Stands.{PartOrEnd, part-next, end-next, PartFrom, TargetSpan, PartSpan, PartSpans, Slice, TargetStands, PartStands, PartFound}
 use Rattle.part_at.proofs.ContentLaws.{at-past}
 
 -- positions of parts
@@ -54,7 +54,7 @@ slice-at t from to x y d l e =
 drop-past : (t : List ℕ) (from to : ℕ) (x y : List ℕ) → drop from t ≡ x ++ y → to ≡ from + length x → drop to t ≡ y
 drop-past t from to x y d e = ap (λ (n : ℕ). drop n t) e ∙ sym (drop-drop (length x) from t) ∙ ap (drop (length x)) d ∙ drop-append-seam x y
 
-begins-parts : (ps : List Part) → Begins (gather part-records ps ++ (closing ∷ []))
+begins-parts : (ps : List Part) → PartOrEnd (gather part-records ps ++ (closing ∷ []))
 unfolding gather part-records
 begins-parts [] = end-next
 begins-parts (p ∷ ps) = part-next

@@ -23,7 +23,7 @@ use Rattle.orders.proofs.OrderLaws.{is-not, is-is}
 use Rattle.heads.specs.Heads.{SomeHead, SegmentIs}
 use Rattle.part_at.specs.declared.PartPlace.{PartPlace}
 use Rattle.part_at.specs.Content.{is-content, outer, ContentAt, ContentEnds}
-use Rattle.part_at.specs.Stands.{Begins, part-next, end-next, TargetAt, TargetSpan, TargetSpans, PartFrom, PartSpans, Slice}
+use Rattle.part_at.specs.Stands.{PartOrEnd, part-next, end-next, TargetAt, TargetSpan, TargetSpans, PartFrom, PartSpans, Slice}
 use Rattle.part_at.proofs.ContentLaws.{Means, First, first-read, at-past}
 use Rattle.part_at.proofs.PartLaws.{slice-at}
 
@@ -49,12 +49,12 @@ order-same cs (Good (Inline i) w) = refl
 order-same cs Ill = refl
 order-same cs (Broken b) = refl
 
-outer-begins : (rest : List encode.Record) → Begins rest → outer rest ≡ true
+outer-begins : (rest : List encode.Record) → PartOrEnd rest → outer rest ≡ true
 unfolding outer is-content
 outer-begins (part-head h ∷ rs) part-next = refl
 outer-begins (closing ∷ rs) end-next = refl
 
-outer-target : (g : Target) (rest : List encode.Record) → Begins rest → outer (target-records g ++ rest) ≡ true
+outer-target : (g : Target) (rest : List encode.Record) → PartOrEnd rest → outer (target-records g ++ rest) ≡ true
 unfolding outer is-content target-records
 outer-target no-target rest b = outer-begins rest b
 outer-target (target q xs) rest b = refl
@@ -64,14 +64,14 @@ module _ (t : List ℕ) (at : ℕ) (r : Read) (m : Means t at r) (w : ℕ) (wide
   order-first : (x : encode.Record) (rs : List encode.Record) → At t at (x ∷ rs) → orderOf r ≡ order-at x
   order-first x rs a = order-same (body (drop at t)) r ∙ ap order-at (first-read t at x rs r a m .means)
 
-  target-is : (q : ℕ) → orderOf r ≡ Is q → (g : Target) (rest : List encode.Record) → At t at (target-records g ++ rest) → Begins rest
+  target-is : (q : ℕ) → orderOf r ≡ Is q → (g : Target) (rest : List encode.Record) → At t at (target-records g ++ rest) → PartOrEnd rest
       → (xs : List _) × (g ≡ target q xs)
   unfolding target-records
   target-is q e no-target (part-head h ∷ rs) a part-next = is-not (sym (order-first (part-head h) rs a) ∙ e)
   target-is q e no-target (closing ∷ rs) a end-next = is-not (sym (order-first closing rs a) ∙ e)
   target-is q e (target k xs) rest a b = (xs, ap (λ (n : ℕ). target n xs) (is-is (sym (order-first (target-head k) (content-records xs ++ rest) a) ∙ e)))
 
-  none-is : orderOf r ≡ Not → (g : Target) (rest : List encode.Record) → At t at (target-records g ++ rest) → Begins rest → g ≡ no-target
+  none-is : orderOf r ≡ Not → (g : Target) (rest : List encode.Record) → At t at (target-records g ++ rest) → PartOrEnd rest → g ≡ no-target
   unfolding target-records
   none-is e no-target rest a b = refl
   none-is e (target k xs) rest a b = is-not (sym e ∙ order-first (target-head k) (content-records xs ++ rest) a)
@@ -141,11 +141,11 @@ module _ (t : List ℕ) (at next : ℕ) (after : After t at next) where
   some-head (p, rest, a, b) = (p .head, sym (head-slice p rest a .is))
 
   module _ (e : ℕ) (c : ContentEnds t next e) where
-    target-offset : (p : Part) (rest : List encode.Record) → At t at (part-records p ++ rest) → Begins rest → e ≡ next + length (content-bytes (p .source))
+    target-offset : (p : Part) (rest : List encode.Record) → At t at (part-records p ++ rest) → PartOrEnd rest → e ≡ next + length (content-bytes (p .source))
     unfolding content-bytes
     target-offset p rest a b = c (content-records (p .source)) (target-records (p .target) ++ rest) (source-there p rest a) (content-inner (p .source)) (outer-target (p .target) rest b)
 
-    target-there : (p : Part) (rest : List encode.Record) → At t at (part-records p ++ rest) → Begins rest → At t e (target-records (p .target) ++ rest)
+    target-there : (p : Part) (rest : List encode.Record) → At t at (part-records p ++ rest) → PartOrEnd rest → At t e (target-records (p .target) ++ rest)
     unfolding content-bytes
     target-there p rest a b =
         subst (λ (k : ℕ). At t k (target-records (p .target) ++ rest)) (sym (target-offset p rest a b))

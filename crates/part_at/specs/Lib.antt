@@ -1,2 +1,3 @@
 pub mod Content
 pub mod Stands
+pub mod Targets

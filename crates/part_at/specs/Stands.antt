@@ -18,9 +18,9 @@ use Rattle.part_at.specs.declared.FoundPart.{FoundPart}
 use Rattle.part_at.specs.declared.FoundPart.the-variants.{At as FoundAt, Missing}
 
 -- a part or the end of the unit comes first
-pub data Begins : List Record → Type 0 where
-  part-next : {h : Head} {rs : List Record} → Begins (part-head h ∷ rs)
-  end-next : {rs : List Record} → Begins (closing ∷ rs)
+pub data PartOrEnd : List Record → Type 0 where
+  part-next : {h : Head} {rs : List Record} → PartOrEnd (part-head h ∷ rs)
+  end-next : {rs : List Record} → PartOrEnd (closing ∷ rs)
 
 -- the order of a target, 0 without one
 abbrev pub target-order : Target → ℕ
@@ -29,7 +29,7 @@ target-order (target q xs) = q
 
 -- at an offset stands a target, or none, then the next part or the end
 abbrev pub TargetAt : List ℕ → ℕ → Type 0
-TargetAt t at = (g : Target) × (rest : List Record) × At t at (target-records g ++ rest) × Begins rest
+TargetAt t at = (g : Target) × (rest : List Record) × At t at (target-records g ++ rest) × PartOrEnd rest
 
 pub record TargetSpan (at : ℕ) (g : Target) (place : PartPlace) : Type 0 where
   pub ends : place .end ≡ at + length (spell (target-records g))
@@ -37,11 +37,11 @@ pub record TargetSpan (at : ℕ) (g : Target) (place : PartPlace) : Type 0 where
   pub has : place .«has_target» ≡ has-target g
 
 abbrev pub TargetSpans : List ℕ → ℕ → PartPlace → Type 0
-TargetSpans t at place = (g : Target) (rest : List Record) → At t at (target-records g ++ rest) → Begins rest → TargetSpan at g place
+TargetSpans t at place = (g : Target) (rest : List Record) → At t at (target-records g ++ rest) → PartOrEnd rest → TargetSpan at g place
 
 -- at an offset stands a part, then the next or the end
 abbrev pub PartFrom : List ℕ → ℕ → Type 0
-PartFrom t at = (p : Part) × (rest : List Record) × At t at (part-records p ++ rest) × Begins rest
+PartFrom t at = (p : Part) × (rest : List Record) × At t at (part-records p ++ rest) × PartOrEnd rest
 
 pub record PartSpan (at : ℕ) (p : Part) (place : PartPlace) : Type 0 where
   pub head : place .head ≡ at
@@ -51,7 +51,7 @@ pub record PartSpan (at : ℕ) (p : Part) (place : PartPlace) : Type 0 where
   pub rest : TargetSpan (place .target) (p .target) place
 
 abbrev pub PartSpans : List ℕ → ℕ → PartPlace → Type 0
-PartSpans t at place = (p : Part) (rest : List Record) → At t at (part-records p ++ rest) → Begins rest → PartSpan at p place
+PartSpans t at place = (p : Part) (rest : List Record) → At t at (part-records p ++ rest) → PartOrEnd rest → PartSpan at p place
 
 -- from one offset to another the table has these bytes
 pub record Slice (t : List ℕ) (from to : ℕ) (bytes : List ℕ) : Type 0 where
@@ -85,8 +85,8 @@ Standing t place = (b : List Part) × (p : Part) × (a : List Part) × PartStand
 abbrev pub Checked : List ℕ → PartPlace → Type 0
 Checked t place = (table-refusal t ≡ none) × Standing t place
 
-abbrev pub Placed : List ℕ → ℕ → PartPlace → Type 0
-Placed t n place =
+abbrev pub CheckedPart : List ℕ → ℕ → PartPlace → Type 0
+CheckedPart t n place =
     (table-refusal t ≡ none) × ((b : List Part) × (p : Part) × (a : List Part) × (focus (unit t .parts) n ≡ here b p a) × PartStands t b p a place)
 
 -- a part is found exactly where there is one

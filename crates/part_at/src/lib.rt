@@ -1,17 +1,18 @@
-// Where the parts of a table stand.
+// Where the parts of a table stand, and how many records it has.
 use orders::Order;
 use table::Read;
 use table::Record;
 ghost use mathlib.Core.Path.{_≡_};
 ghost use mathlib.Core.Bool.{true, false};
 ghost use Prim.Native.Nat.{_+_, _-_, _<_};
-ghost use lib.ListN.{drop};
+ghost use lib.ListN.{drop, length};
 ghost use Rattle.xliff.specs.Parse.{read, is-part, unit};
 ghost use Rattle.xliff.specs.Focus.{focus};
 ghost use Rattle.places.specs.Passes.{Passes};
 ghost use Rattle.orders.specs.Heads.{orderOf, orderIn};
 ghost use Rattle.part_at.specs.Content.{inContent, isContent, ContentAt, ContentEnds};
 ghost use Rattle.part_at.specs.Stands.{TargetAt, TargetSpans, PartFrom, PartSpans, PartFound};
+ghost use Rattle.xliff.specs.Encode.{unit-records};
 
 fn in_content(x: Record) -> bool
     ensures { λ r. ⌜ r ≡ inContent x ⌝ }
@@ -166,4 +167,19 @@ pub fn part_at(t: &[u8], n: usize) -> FoundPart
         return FoundPart::Missing;
     }
     FoundPart::At(part_from(t, at))
+}
+
+// The number of records of a table.
+pub fn count_records(t: &[u8]) -> usize
+    requires { ⌜ Passes (now t) ⌝ }
+    ensures { λ r. ⌜ r ≡ length (unit-records (unit (now (t .entry)))) ⌝ }
+{
+    let mut at = 0;
+    let mut n = 0;
+    while at < t.len() {
+        let g = walker::glance_at(t, at);
+        at += g.width;
+        n += 1;
+    }
+    n
 }

@@ -14,13 +14,13 @@ use Rattle.xliff.specs.Sequences.{Placed, placed-from, placed-source, Located, 
 use Rattle.xliff.proofs.lists.Tests.{map-append}
 use Rattle.places.specs.Passes.{Passes}
 use Rattle.places.specs.Found.{found, found-at, state-after, marker}
-use Rattle.places.specs.Markers.{is-marked, marked}
+use Rattle.places.specs.Markers.{is-marked, only-markers}
 use Rattle.places.specs.Offsets.{At}
 use Rattle.places.proofs.Places.{at-start, at-next}
-use Rattle.places.proofs.Found.{found-unit, from-part, of-goal, gather-same}
+use Rattle.places.proofs.Found.{found-unit, from-part, target-gathered, gather-same}
 use Rattle.keys.specs.Keys.{key}
 use Rattle.contents.specs.Contents.{marker-offset, no-offset, barred-found, barred, bar-key, barKeys}
-use Rattle.partners.specs.Partners.{goal-bars, part-bars}
+use Rattle.partners.specs.Partners.{target-bars, part-bars}
 
 -- the key of a marker, where the walk stands in a content that is asked for
 unfoldable marker-key : Bool → Placed → List ℕ
@@ -62,8 +62,8 @@ module _ (t : List ℕ) (targets : Bool) where
       ∙ ap₂ _++_ (one-key at inside r (n .reads)) (keys-back (at + length (record-bytes r)) _ rs (n .then))
 
 -- over a content
-content-keys : (inside : Bool) (at : ℕ) (seen xs : Content) → gather (marker-key inside) (placed-from at seen xs) ≡ cond inside (map key (marked xs)) []
-unfolding gather placed-from marked keep marker-key marker is-marked
+content-keys : (inside : Bool) (at : ℕ) (seen xs : Content) → gather (marker-key inside) (placed-from at seen xs) ≡ cond inside (map key (only-markers xs)) []
+unfolding gather placed-from only-markers keep marker-key marker is-marked
 content-keys true at seen [] = refl
 content-keys true at seen (x ∷ xs) = by (not (eqb (class x) 0)) (at + length (content-bytes (reverse seen))) (content-keys true at (x ∷ seen) xs)
   where
@@ -76,15 +76,15 @@ content-keys false at seen [] = refl
 content-keys false at seen (x ∷ xs) = content-keys false at (x ∷ seen) xs
 
 -- over a part
-goal-keys : (targets : Bool) (at : ℕ) (g : Target) → of-goal true (λ q. targets) (λ h at. 0 ∷ []) (λ q at. 1 ∷ []) marker-key no-key at g ≡ goal-bars targets g
-unfolding of-goal goal-bars
-goal-keys targets at no-target = refl
-goal-keys targets at (target q xs) = ap (λ (l : List ℕ). 1 ∷ l) (content-keys targets (at + 4) [] xs)
+keys-of-target : (targets : Bool) (at : ℕ) (g : Target) → target-gathered true (λ q. targets) (λ h at. 0 ∷ []) (λ q at. 1 ∷ []) marker-key no-key at g ≡ target-bars targets g
+unfolding target-gathered target-bars
+keys-of-target targets at no-target = refl
+keys-of-target targets at (target q xs) = ap (λ (l : List ℕ). 1 ∷ l) (content-keys targets (at + 4) [] xs)
 
 part-keys : (targets : Bool) (l : Located) → from-part true (λ q. targets) (λ h at. 0 ∷ []) (λ q at. 1 ∷ []) marker-key no-key l ≡ part-bars targets (l .part)
 unfolding from-part part-bars placed-source
 part-keys targets l =
-    ap₂ (λ (a b : List ℕ). 0 ∷ (a ++ b)) (content-keys true (source-at l) [] (l .part .source)) (goal-keys targets (order-at l) (l .part .target))
+    ap₂ (λ (a b : List ℕ). 0 ∷ (a ++ b)) (content-keys true (source-at l) [] (l .part .source)) (keys-of-target targets (order-at l) (l .part .target))
 
 -- over the parts
 located-bars : (targets : Bool) (at : ℕ) (ps : List Part) → gather (λ l. part-bars targets (l .part)) (located-from at ps) ≡ gather (part-bars targets) ps

@@ -9,12 +9,12 @@ use Rattle.xliff.specs.Bytes.{any, keep}
 use Rattle.xliff.specs.Item.{Item, Content, text, character, standalone, isolated, pair, annotation-start, annotation-end, class, half, id-of, alike, is-half, is-start-half, is-form-P, other-half}
 use Rattle.xliff.specs.Rules.{partner-S, ahead, lone-S, half-of-id, may-be-lone, lone-in-target}
 use Rattle.xliff.specs.Sequences.{blamed, items}
-use Rattle.places.specs.Markers.{is-marked, marked, OnMarks, item-at, placed-at}
+use Rattle.places.specs.Markers.{is-marked, only-markers, OnMarks, item-at, placed-at}
 use Rattle.places.proofs.Tests.{any-marked}
 use Rattle.views.specs.Views.{itemsAt}
 use Rattle.keys.specs.Keys.{key, keysAt, halfKey, otherKey}
 use Rattle.keys.proofs.KeyLaws.{id-key, half-key, form-key, alike-key, other-key}
-use Rattle.partners.specs.Partners.{partnerSKey, loneSKey, halfOfId, onlyHalf, waitsFor, loneInTarget, blamedKeys}
+use Rattle.partners.specs.Partners.{partnerSKey, loneSKey, halfOfId, onlyHalf, waitsForKey, loneInTarget, blamedKeys}
 use Rattle.views.proofs.ViewLaws.{items-at}
 
 -- on keys
@@ -57,10 +57,10 @@ and-assoc true b c = refl
 and-assoc false b c = refl
 
 -- in targets; `wait` and `bars` say alike which halves wait
-module _ (wait : Content) (bars : List ℕ) (waiting-keys : (x : Item) → any (other-half x) wait ≡ waitsFor (key x) [] bars) where
-  pub target-keys : (before : Content) (x : Item) (after : Content) → lone-in-target wait before x after ≡ loneInTarget bars (map key before) (key x) (map key after)
+module _ (wait : Content) (bars : List ℕ) (waiting-keys : (x : Item) → any (other-half x) wait ≡ waitsForKey (key x) [] bars) where
+  pub lone-target-keys : (before : Content) (x : Item) (after : Content) → lone-in-target wait before x after ≡ loneInTarget bars (map key before) (key x) (map key after)
   unfolding lone-in-target loneInTarget may-be-lone
-  target-keys before x after =
+  lone-target-keys before x after =
       ap₂ (λ (a b : Bool). a && not b) (lone-keys before x after)
       (sym
       (ap₂ _&&_ (only-keys before x after) (sym (waiting-keys x))
@@ -81,8 +81,8 @@ not-alike : (x y : Item) → is-marked x ≡ true → is-marked y ≡ false → 
 unfolding is-marked alike
 not-alike x y m e = rw (eqb-true (class y) 0 (not-false _ e), not-true (eqb (class x) 0) m)
 
-partner-marked : (x : Item) → is-marked x ≡ true → (ys : Content) → partner-S x ys ≡ partner-S x (marked ys)
-unfolding partner-S marked keep
+partner-marked : (x : Item) → is-marked x ≡ true → (ys : Content) → partner-S x ys ≡ partner-S x (only-markers ys)
+unfolding partner-S only-markers keep
 partner-marked x m [] = refl
 partner-marked x m (y ∷ ys) = by (is-marked y) refl (partner-marked x m ys)
   where
@@ -91,7 +91,7 @@ partner-marked x m (y ∷ ys) = by (is-marked y) refl (partner-marked x m ys)
     by true e ih = ap (cond (alike x y && not (is-form-P y)) (other-half x y)) ih
     by false e ih = rw (not-alike x y m e) ih
 
-marked-cond : (b : Bool) (xs ys : Content) → marked (cond b xs ys) ≡ cond b (marked xs) (marked ys)
+marked-cond : (b : Bool) (xs ys : Content) → only-markers (cond b xs ys) ≡ cond b (only-markers xs) (only-markers ys)
 marked-cond true xs ys = refl
 marked-cond false xs ys = refl
 
@@ -99,7 +99,7 @@ lone-unmarked : (before : Content) (x : Item) (after : Content) → is-marked x 
 unfolding lone-S
 lone-unmarked before x after e = rw (no-half x e)
 
-pub lone-marked : (before : Content) (x : Item) (after : Content) → is-marked x ≡ true → lone-S before x after ≡ lone-S (marked before) x (marked after)
+pub lone-marked : (before : Content) (x : Item) (after : Content) → is-marked x ≡ true → lone-S before x after ≡ lone-S (only-markers before) x (only-markers after)
 unfolding lone-S ahead
 lone-marked before x after m =
     ap (λ (b : Bool). is-half x && (not (is-form-P x) && not b))
@@ -126,10 +126,10 @@ on-marks-target wait =
 -- what such a test blames among the markers at some offsets
 module _ (bad : Content → Item → Content → Bool) (bad-key : List ℕ → ℕ → List ℕ → Bool)
     (same : (before : Content) (x : Item) (after : Content) → bad before x after ≡ bad-key (map key before) (key x) (map key after)) where
-  pub blamed-keys : (t os : List ℕ) (before : Content) → blamed bad before (placed-at t os) ≡ blamedKeys bad-key (map key before) os (keysAt t os)
+  pub blamed-keys : (t markers : List ℕ) (before : Content) → blamed bad before (placed-at t markers) ≡ blamedKeys bad-key (map key before) markers (keysAt t markers)
   unfolding blamed placed-at blamedKeys keysAt itemsAt
   blamed-keys t [] before = refl
-  blamed-keys t (o ∷ os) before =
+  blamed-keys t (o ∷ markers) before =
       ap₂ (λ (b : Bool) (l : List ℕ). cond b (o ∷ l) l)
-      (same before (item-at t o) (items (placed-at t os)) ∙ ap (λ (l : Content). bad-key (map key before) (key (item-at t o)) (map key l)) (items-at t os))
-      (blamed-keys t os (item-at t o ∷ before))
+      (same before (item-at t o) (items (placed-at t markers)) ∙ ap (λ (l : Content). bad-key (map key before) (key (item-at t o)) (map key l)) (items-at t markers))
+      (blamed-keys t markers (item-at t o ∷ before))

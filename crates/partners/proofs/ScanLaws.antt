@@ -19,45 +19,45 @@ use Rattle.partners.specs.Partners.{partnerSKey, loneSKey, someKey, lone
 use Rattle.answers.proofs.Places.{toward-if}
 
 -- the next key, and the keys before it, the nearest first
-pub next-key : (ks : List ℕ) (i : ℕ) → i < length ks → drop i ks ≡ getD ks i 0 ∷ drop (i + 1) ks
-next-key ks i h = drop-cons ks i 0 h ∙ ap (λ (n : ℕ). getD ks i 0 ∷ drop n ks) (let z : suc i ≡ i + 1 = omega arith in z)
+pub next-key : (keys : List ℕ) (i : ℕ) → i < length keys → drop i keys ≡ getD keys i 0 ∷ drop (i + 1) keys
+next-key keys i h = drop-cons keys i 0 h ∙ ap (λ (n : ℕ). getD keys i 0 ∷ drop n keys) (let z : suc i ≡ i + 1 = omega arith in z)
 
-pub key-before : (ks : List ℕ) (i : ℕ) → i < length ks → reverse (take (i + 1) ks) ≡ getD ks i 0 ∷ reverse (take i ks)
-key-before ks i h =
-    ap (λ (n : ℕ). reverse (take n ks)) (let z : i + 1 ≡ suc i = omega arith in z)
-    ∙ ap reverse (take-suc ks i 0 h)
-    ∙ reverse-append (take i ks) (getD ks i 0 ∷ [])
+pub key-before : (keys : List ℕ) (i : ℕ) → i < length keys → reverse (take (i + 1) keys) ≡ getD keys i 0 ∷ reverse (take i keys)
+key-before keys i h =
+    ap (λ (n : ℕ). reverse (take n keys)) (let z : i + 1 ≡ suc i = omega arith in z)
+    ∙ ap reverse (take-suc keys i 0 h)
+    ∙ reverse-append (take i keys) (getD keys i 0 ∷ [])
 
 -- the nearest of the marks of start and end alike to a key, after an index and before it
-module _ (k : ℕ) (ks : List ℕ) where
-  pub after-met : (i : ℕ) → i < length ks → alikeKeys k (getD ks i 0) && not (formKey (getD ks i 0)) ≡ true → partnerSKey k (drop i ks) ≡ otherKey k (getD ks i 0)
+module _ (k : ℕ) (keys : List ℕ) where
+  pub after-met : (i : ℕ) → i < length keys → alikeKeys k (getD keys i 0) && not (formKey (getD keys i 0)) ≡ true → partnerSKey k (drop i keys) ≡ otherKey k (getD keys i 0)
   unfolding partnerSKey
-  after-met i h e = ap (partnerSKey k) (next-key ks i h) ∙ rw e
+  after-met i h e = ap (partnerSKey k) (next-key keys i h) ∙ rw e
 
-  pub after-passed : (i : ℕ) → i < length ks → alikeKeys k (getD ks i 0) && not (formKey (getD ks i 0)) ≡ false → partnerSKey k (drop i ks) ≡ partnerSKey k (drop (i + 1) ks)
+  pub after-passed : (i : ℕ) → i < length keys → alikeKeys k (getD keys i 0) && not (formKey (getD keys i 0)) ≡ false → partnerSKey k (drop i keys) ≡ partnerSKey k (drop (i + 1) keys)
   unfolding partnerSKey
-  after-passed i h e = ap (partnerSKey k) (next-key ks i h) ∙ rw e
+  after-passed i h e = ap (partnerSKey k) (next-key keys i h) ∙ rw e
 
-  pub after-none : (i : ℕ) → length ks ≤ i → partnerSKey k (drop i ks) ≡ false
+  pub after-none : (i : ℕ) → length keys ≤ i → partnerSKey k (drop i keys) ≡ false
   unfolding partnerSKey
-  after-none i h = rw (drop-of-length-le ks h)
+  after-none i h = rw (drop-of-length-le keys h)
 
-  last-first : (n : ℕ) → 0 < n → n ≤ length ks → reverse (take n ks) ≡ getD ks (n - 1) 0 ∷ reverse (take (n - 1) ks)
-  last-first n p h = ap (λ (m : ℕ). reverse (take m ks)) (let z : n ≡ n - 1 + 1 = omega arith in z) ∙ key-before ks (n - 1) (omega arith)
+  last-first : (n : ℕ) → 0 < n → n ≤ length keys → reverse (take n keys) ≡ getD keys (n - 1) 0 ∷ reverse (take (n - 1) keys)
+  last-first n p h = ap (λ (m : ℕ). reverse (take m keys)) (let z : n ≡ n - 1 + 1 = omega arith in z) ∙ key-before keys (n - 1) (omega arith)
 
-  pub before-met : (n : ℕ) → 0 < n → n ≤ length ks → alikeKeys k (getD ks (n - 1) 0) && not (formKey (getD ks (n - 1) 0)) ≡ true
-      → partnerSKey k (reverse (take n ks)) ≡ otherKey k (getD ks (n - 1) 0)
+  pub before-met : (n : ℕ) → 0 < n → n ≤ length keys → alikeKeys k (getD keys (n - 1) 0) && not (formKey (getD keys (n - 1) 0)) ≡ true
+      → partnerSKey k (reverse (take n keys)) ≡ otherKey k (getD keys (n - 1) 0)
   unfolding partnerSKey
   before-met n p h e = ap (partnerSKey k) (last-first n p h) ∙ rw e
 
-  pub before-passed : (n : ℕ) → 0 < n → n ≤ length ks → alikeKeys k (getD ks (n - 1) 0) && not (formKey (getD ks (n - 1) 0)) ≡ false
-      → partnerSKey k (reverse (take n ks)) ≡ partnerSKey k (reverse (take (n - 1) ks))
+  pub before-passed : (n : ℕ) → 0 < n → n ≤ length keys → alikeKeys k (getD keys (n - 1) 0) && not (formKey (getD keys (n - 1) 0)) ≡ false
+      → partnerSKey k (reverse (take n keys)) ≡ partnerSKey k (reverse (take (n - 1) keys))
   unfolding partnerSKey
   before-passed n p h e = ap (partnerSKey k) (last-first n p h) ∙ rw e
 
-  pub before-none : (n : ℕ) → n ≤ 0 → partnerSKey k (reverse (take n ks)) ≡ false
+  pub before-none : (n : ℕ) → n ≤ 0 → partnerSKey k (reverse (take n keys)) ≡ false
   unfolding partnerSKey
-  before-none n h = ap (λ (m : ℕ). partnerSKey k (reverse (take m ks))) (let z : n ≡ 0 = omega arith in z)
+  before-none n h = ap (λ (m : ℕ). partnerSKey k (reverse (take m keys))) (let z : n ≡ 0 = omega arith in z)
 
 -- a key that is no half with the mark of a start or an end; a start; an end
 module _ (before : List ℕ) (k : ℕ) (after : List ℕ) where
@@ -86,18 +86,18 @@ module _ (before : List ℕ) (k : ℕ) (after : List ℕ) where
   lone-end e f = lone-looks e ∙ ap (λ (b : Bool). not (partnerSKey k (cond b after before))) f
 
 -- some key from an index on passes a test
-module _ (p : ℕ → Bool) (ks : List ℕ) (i : ℕ) where
-  pub any-on : i < length ks → p (getD ks i 0) ≡ true → any p (drop i ks) ≡ true
+module _ (p : ℕ → Bool) (keys : List ℕ) (i : ℕ) where
+  pub any-on : i < length keys → p (getD keys i 0) ≡ true → any p (drop i keys) ≡ true
   unfolding any
-  any-on h e = ap (any p) (next-key ks i h) ∙ rw e
+  any-on h e = ap (any p) (next-key keys i h) ∙ rw e
 
-  pub any-off : i < length ks → p (getD ks i 0) ≡ false → any p (drop i ks) ≡ any p (drop (i + 1) ks)
+  pub any-off : i < length keys → p (getD keys i 0) ≡ false → any p (drop i keys) ≡ any p (drop (i + 1) keys)
   unfolding any
-  any-off h e = ap (any p) (next-key ks i h) ∙ rw e
+  any-off h e = ap (any p) (next-key keys i h) ∙ rw e
 
-  pub any-end : length ks ≤ i → any p (drop i ks) ≡ false
+  pub any-end : length keys ≤ i → any p (drop i keys) ≡ false
   unfolding any
-  any-end h = rw (drop-of-length-le ks h)
+  any-end h = rw (drop-of-length-le keys h)
 
 or-swap : (a b : Bool) → a || b ≡ b || a
 or-swap true true = refl
@@ -105,58 +105,58 @@ or-swap true false = refl
 or-swap false true = refl
 or-swap false false = refl
 
-pub any-reverse : (p : ℕ → Bool) (ks : List ℕ) → any p (reverse ks) ≡ any p ks
+pub any-reverse : (p : ℕ → Bool) (keys : List ℕ) → any p (reverse keys) ≡ any p keys
 unfolding any
 any-reverse p [] = refl
-any-reverse p (k ∷ ks) =
-    ap (any p) (reverse-append (k ∷ []) ks)
-    ∙ any-append p (reverse ks) (k ∷ [])
-    ∙ ap₂ _||_ (any-reverse p ks) (or-none (p k))
-    ∙ or-swap (any p ks) (p k)
+any-reverse p (k ∷ keys) =
+    ap (any p) (reverse-append (k ∷ []) keys)
+    ∙ any-append p (reverse keys) (k ∷ [])
+    ∙ ap₂ _||_ (any-reverse p keys) (or-none (p k))
+    ∙ or-swap (any p keys) (p k)
 
 -- the next bar is a TG
-module _ (ks : List ℕ) (i : ℕ) where
-  pub targeted-on : i < length ks → isBar (getD ks i 0) ≡ true → targeted (drop i ks) ≡ eqb (getD ks i 0) 1
+module _ (keys : List ℕ) (i : ℕ) where
+  pub targeted-on : i < length keys → isBar (getD keys i 0) ≡ true → targeted (drop i keys) ≡ eqb (getD keys i 0) 1
   unfolding targeted
-  targeted-on h e = ap targeted (next-key ks i h) ∙ rw e
+  targeted-on h e = ap targeted (next-key keys i h) ∙ rw e
 
-  pub targeted-off : i < length ks → isBar (getD ks i 0) ≡ false → targeted (drop i ks) ≡ targeted (drop (i + 1) ks)
+  pub targeted-off : i < length keys → isBar (getD keys i 0) ≡ false → targeted (drop i keys) ≡ targeted (drop (i + 1) keys)
   unfolding targeted
-  targeted-off h e = ap targeted (next-key ks i h) ∙ rw e
+  targeted-off h e = ap targeted (next-key keys i h) ∙ rw e
 
-  pub targeted-end : length ks ≤ i → targeted (drop i ks) ≡ false
+  pub targeted-end : length keys ≤ i → targeted (drop i keys) ≡ false
   unfolding targeted
-  targeted-end h = rw (drop-of-length-le ks h)
+  targeted-end h = rw (drop-of-length-le keys h)
 
 -- a key that waits for x
-module _ (p : List ℕ → ℕ → List ℕ → Bool) (ks : List ℕ) (i : ℕ) where
-  some-first : i < length ks
-      → someKey p (reverse (take i ks)) (drop i ks)
-      ≡ p (reverse (take i ks)) (getD ks i 0) (drop (i + 1) ks) || someKey p (reverse (take (i + 1) ks)) (drop (i + 1) ks)
+module _ (p : List ℕ → ℕ → List ℕ → Bool) (keys : List ℕ) (i : ℕ) where
+  some-first : i < length keys
+      → someKey p (reverse (take i keys)) (drop i keys)
+      ≡ p (reverse (take i keys)) (getD keys i 0) (drop (i + 1) keys) || someKey p (reverse (take (i + 1) keys)) (drop (i + 1) keys)
   unfolding someKey
   some-first h =
-      ap (someKey p (reverse (take i ks))) (next-key ks i h)
-      ∙ ap (λ (b : List ℕ). p (reverse (take i ks)) (getD ks i 0) (drop (i + 1) ks) || someKey p b (drop (i + 1) ks)) (sym (key-before ks i h))
+      ap (someKey p (reverse (take i keys))) (next-key keys i h)
+      ∙ ap (λ (b : List ℕ). p (reverse (take i keys)) (getD keys i 0) (drop (i + 1) keys) || someKey p b (drop (i + 1) keys)) (sym (key-before keys i h))
 
-  pub some-on : i < length ks → p (reverse (take i ks)) (getD ks i 0) (drop (i + 1) ks) ≡ true → someKey p (reverse (take i ks)) (drop i ks) ≡ true
-  some-on h e = some-first h ∙ ap (λ (b : Bool). b || someKey p (reverse (take (i + 1) ks)) (drop (i + 1) ks)) e
+  pub some-on : i < length keys → p (reverse (take i keys)) (getD keys i 0) (drop (i + 1) keys) ≡ true → someKey p (reverse (take i keys)) (drop i keys) ≡ true
+  some-on h e = some-first h ∙ ap (λ (b : Bool). b || someKey p (reverse (take (i + 1) keys)) (drop (i + 1) keys)) e
 
-  pub some-off : i < length ks → p (reverse (take i ks)) (getD ks i 0) (drop (i + 1) ks) ≡ false
-      → someKey p (reverse (take i ks)) (drop i ks) ≡ someKey p (reverse (take (i + 1) ks)) (drop (i + 1) ks)
-  some-off h e = some-first h ∙ ap (λ (b : Bool). b || someKey p (reverse (take (i + 1) ks)) (drop (i + 1) ks)) e
+  pub some-off : i < length keys → p (reverse (take i keys)) (getD keys i 0) (drop (i + 1) keys) ≡ false
+      → someKey p (reverse (take i keys)) (drop i keys) ≡ someKey p (reverse (take (i + 1) keys)) (drop (i + 1) keys)
+  some-off h e = some-first h ∙ ap (λ (b : Bool). b || someKey p (reverse (take (i + 1) keys)) (drop (i + 1) keys)) e
 
-  pub some-end : length ks ≤ i → someKey p (reverse (take i ks)) (drop i ks) ≡ false
+  pub some-end : length keys ≤ i → someKey p (reverse (take i keys)) (drop i keys) ≡ false
   unfolding someKey
-  some-end h = ap (someKey p (reverse (take i ks))) (drop-of-length-le ks h)
+  some-end h = ap (someKey p (reverse (take i keys))) (drop-of-length-le keys h)
 
 -- where no half is lone in the target sequence, none is at fault
-pub none-blamed : (bars before os ks : List ℕ) → someKey loneSKey before ks ≡ false → blamedKeys (loneInTarget bars) before os ks ≡ []
+pub none-blamed : (bars before markers keys : List ℕ) → someKey loneSKey before keys ≡ false → blamedKeys (loneInTarget bars) before markers keys ≡ []
 unfolding someKey blamedKeys loneInTarget
-none-blamed bars before [] ks e = refl
-none-blamed bars before (o ∷ os) [] e = refl
-none-blamed bars before (o ∷ os) (k ∷ ks) e =
-    rw (or-left (loneSKey before k ks) (someKey loneSKey (k ∷ before) ks) e)
-    (none-blamed bars (k ∷ before) os ks (or-right (loneSKey before k ks) (someKey loneSKey (k ∷ before) ks) e))
+none-blamed bars before [] keys e = refl
+none-blamed bars before (o ∷ markers) [] e = refl
+none-blamed bars before (o ∷ markers) (k ∷ keys) e =
+    rw (or-left (loneSKey before k keys) (someKey loneSKey (k ∷ before) keys) e)
+    (none-blamed bars (k ∷ before) markers keys (or-right (loneSKey before k keys) (someKey loneSKey (k ∷ before) keys) e))
 
 -- nothing is lower than a place
 pub none-lower : (n : ℕ) (p : Place) → toward n p [] ≡ refusal-at n p
@@ -165,27 +165,27 @@ none-lower n Nowhere = refl
 none-lower n (At a) = refl
 
 -- what a test of keys blames, one key further
-blamed-first : (bad : List ℕ → ℕ → List ℕ → Bool) (before : List ℕ) (o : ℕ) (os : List ℕ) (k : ℕ) (ks : List ℕ)
-    → blamedKeys bad before (o ∷ os) (k ∷ ks) ≡ cond (bad before k ks) (o ∷ blamedKeys bad (k ∷ before) os ks) (blamedKeys bad (k ∷ before) os ks)
+blamed-first : (bad : List ℕ → ℕ → List ℕ → Bool) (before : List ℕ) (o : ℕ) (markers : List ℕ) (k : ℕ) (keys : List ℕ)
+    → blamedKeys bad before (o ∷ markers) (k ∷ keys) ≡ cond (bad before k keys) (o ∷ blamedKeys bad (k ∷ before) markers keys) (blamedKeys bad (k ∷ before) markers keys)
 unfolding blamedKeys
-blamed-first bad before o os k ks = refl
+blamed-first bad before o markers k keys = refl
 
-module _ (bad : List ℕ → ℕ → List ℕ → Bool) (os ks : List ℕ) (same : length ks ≡ length os) (n : ℕ) (best : Place) (i : ℕ) where
+module _ (bad : List ℕ → ℕ → List ℕ → Bool) (markers keys : List ℕ) (same : length keys ≡ length markers) (n : ℕ) (best : Place) (i : ℕ) where
   -- `b` is whether the key at i is at fault, `at` its offset, `next` the lower place
-  pub blamed-on : (b : Bool) (at : ℕ) (next : Place) → i < length os → b ≡ bad (reverse (take i ks)) (getD ks i 0) (drop (i + 1) ks) → at ≡ getD os i 0
+  pub blamed-on : (b : Bool) (at : ℕ) (next : Place) → i < length markers → b ≡ bad (reverse (take i keys)) (getD keys i 0) (drop (i + 1) keys) → at ≡ getD markers i 0
       → next ≡ cond b (lower best at) best
-      → toward n best (blamedKeys bad (reverse (take i ks)) (drop i os) (drop i ks))
-      ≡ toward n next (blamedKeys bad (reverse (take (i + 1) ks)) (drop (i + 1) os) (drop (i + 1) ks))
+      → toward n best (blamedKeys bad (reverse (take i keys)) (drop i markers) (drop i keys))
+      ≡ toward n next (blamedKeys bad (reverse (take (i + 1) keys)) (drop (i + 1) markers) (drop (i + 1) keys))
   blamed-on b at next h e f g =
-      let l : i < length ks = omega arith in
-      let B : List ℕ = blamedKeys bad (getD ks i 0 ∷ reverse (take i ks)) (drop (i + 1) os) (drop (i + 1) ks) in
+      let l : i < length keys = omega arith in
+      let B : List ℕ = blamedKeys bad (getD keys i 0 ∷ reverse (take i keys)) (drop (i + 1) markers) (drop (i + 1) keys) in
       ap (toward n best)
-      (ap₂ (blamedKeys bad (reverse (take i ks))) (next-key os i h) (next-key ks i l)
-      ∙ blamed-first bad (reverse (take i ks)) (getD os i 0) (drop (i + 1) os) (getD ks i 0) (drop (i + 1) ks)
+      (ap₂ (blamedKeys bad (reverse (take i keys))) (next-key markers i h) (next-key keys i l)
+      ∙ blamed-first bad (reverse (take i keys)) (getD markers i 0) (drop (i + 1) markers) (getD keys i 0) (drop (i + 1) keys)
       ∙ ap₂ (λ (c : Bool) (k : ℕ). cond c (k ∷ B) B) (sym e) (sym f))
       ∙ toward-if n b best at B
-      ∙ ap₂ (λ (p : Place) (l : List ℕ). toward n p (blamedKeys bad l (drop (i + 1) os) (drop (i + 1) ks))) (sym g) (sym (key-before ks i l))
+      ∙ ap₂ (λ (p : Place) (l : List ℕ). toward n p (blamedKeys bad l (drop (i + 1) markers) (drop (i + 1) keys))) (sym g) (sym (key-before keys i l))
 
-  pub blamed-end : length os ≤ i → toward n best (blamedKeys bad (reverse (take i ks)) (drop i os) (drop i ks)) ≡ refusal-at n best
+  pub blamed-end : length markers ≤ i → toward n best (blamedKeys bad (reverse (take i keys)) (drop i markers) (drop i keys)) ≡ refusal-at n best
   unfolding blamedKeys
-  blamed-end h = rw (drop-of-length-le os h) (none-lower n best)
+  blamed-end h = rw (drop-of-length-le markers h) (none-lower n best)

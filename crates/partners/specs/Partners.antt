@@ -7,7 +7,7 @@ use lib.Dec.{eqb}
 use Rattle.xliff.specs.Bytes.{any}
 use Rattle.xliff.specs.Unit.{Target, no-target, target, Part}
 use Rattle.keys.specs.Keys.{key, idKey, halfKey, formKey, alikeKeys, otherKey}
-use Rattle.places.specs.Markers.{marked}
+use Rattle.places.specs.Markers.{only-markers}
 use Rattle.contents.specs.Contents.{run, targeted}
 use Rattle.contents.specs.Nesting.{lonePKey}
 
@@ -30,34 +30,34 @@ onlyHalf before k after = not (any (halfOfId (idKey k)) before) && not (any (hal
 
 -- Of the keys of the source contents with bars between them: k is the other half of x, has its partner, and is in a
 -- part without target
-unfoldable pub waits : ℕ → List ℕ → ℕ → List ℕ → Bool
-waits x before k after =
+unfoldable pub waitsKey : ℕ → List ℕ → ℕ → List ℕ → Bool
+waitsKey x before k after =
     otherKey x k && (not (lonePKey (run before) k (run after)) && (not (loneSKey before k after) && not (targeted after)))
 
 -- some key passes a test of it and of what stands before it, the nearest first, and after it
 unfoldable pub someKey : (List ℕ → ℕ → List ℕ → Bool) → List ℕ → List ℕ → Bool
 someKey p before [] = false
-someKey p before (k ∷ ks) = p before k ks || someKey p (k ∷ before) ks
+someKey p before (k ∷ keys) = p before k keys || someKey p (k ∷ before) keys
 
-abbrev pub waitsFor : ℕ → List ℕ → List ℕ → Bool
-waitsFor x = someKey (waits x)
+abbrev pub waitsForKey : ℕ → List ℕ → List ℕ → Bool
+waitsForKey x = someKey (waitsKey x)
 
 -- a half of the target sequence at fault; `bars` are the keys of the source contents with bars between them
 unfoldable pub loneInTarget : List ℕ → List ℕ → ℕ → List ℕ → Bool
-loneInTarget bars before k after = loneSKey before k after && not (onlyHalf before k after && waitsFor k [] bars)
+loneInTarget bars before k after = loneSKey before k after && not (onlyHalf before k after && waitsForKey k [] bars)
 
 -- the offsets at which a test of keys fails
 unfoldable pub blamedKeys : (List ℕ → ℕ → List ℕ → Bool) → List ℕ → List ℕ → List ℕ → List ℕ
-blamedKeys bad before [] ks = []
-blamedKeys bad before (o ∷ os) [] = []
-blamedKeys bad before (o ∷ os) (k ∷ ks) =
-    let rest = blamedKeys bad (k ∷ before) os ks in
-    cond (bad before k ks) (o ∷ rest) rest
+blamedKeys bad before [] keys = []
+blamedKeys bad before (o ∷ markers) [] = []
+blamedKeys bad before (o ∷ markers) (k ∷ keys) =
+    let rest = blamedKeys bad (k ∷ before) markers keys in
+    cond (bad before k keys) (o ∷ rest) rest
 
 -- The keys of a part's contents with their bars: its source and, where `targets`, its target
-unfoldable pub goal-bars : Bool → Target → List ℕ
-goal-bars targets no-target = []
-goal-bars targets (target q xs) = 1 ∷ cond targets (map key (marked xs)) []
+unfoldable pub target-bars : Bool → Target → List ℕ
+target-bars targets no-target = []
+target-bars targets (target q xs) = 1 ∷ cond targets (map key (only-markers xs)) []
 
 unfoldable pub part-bars : Bool → Part → List ℕ
-part-bars targets p = 0 ∷ (map key (marked (p .source)) ++ goal-bars targets (p .target))
+part-bars targets p = 0 ∷ (map key (only-markers (p .source)) ++ target-bars targets (p .target))

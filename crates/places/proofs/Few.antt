@@ -9,7 +9,7 @@ use lib.Dec.{eqb}
 use borrow.Author.Tests.{eqb-true, ne-eqb}
 use Rattle.xliff.specs.Item.{class}
 use Rattle.xliff.specs.Encode.{Record, opening, closing, part-head, target-head, text-run, inline, ill-text, broken, record-bytes, unit-records}
-use Rattle.xliff.specs.Parse.{unit}
+use Rattle.xliff.specs.Parse.{unit, most-records}
 use Rattle.xliff.specs.Sequences.{Placed}
 use Rattle.places.specs.Passes.{Passes}
 use Rattle.places.specs.Found.{marker, no-marker, marks-found, found, found-at, state-after}
@@ -116,7 +116,7 @@ total-is t q (suc n) =
     let e = ap (λ (b : Bool). length (marks-found false (suc q) b 0 (unit-records (unit t)))) (ne-eqb (suc q) 0 (λ z. omega arith)) in
     omega (arith, length-append (map (λ (p : Placed). p .at) m) (target-offsets t (suc q) n), length-map m (λ (p : Placed). p .at), e, total-is t (suc q) n)
 
-pub few-targets : (t : List ℕ) → Passes t → (n : ℕ) → length (target-offsets t 0 n) ≤ 1024
+pub few-targets : (t : List ℕ) → Passes t → (n : ℕ) → length (target-offsets t 0 n) ≤ most-records
 few-targets t p n = omega (arith, total-is t 0 n, total-few 0 0 0 n (unit-records (unit t)), p .few)
 
 found-one : (source : Bool) (q : ℕ) (inside : Bool) (at : ℕ) (r : Record)
@@ -144,6 +144,6 @@ found-few source q inside at (r ∷ rs) =
       found-few source q (state-after source (λ k. not source && eqb q k) (λ h at. []) (λ k at. []) marker no-marker inside r) (at + length (record-bytes r)) rs,
     )
 
-pub few-source : (t : List ℕ) → Passes t → length (map (λ (p : Placed). p .at) (marks-found true 0 false 0 (unit-records (unit t)))) ≤ 1024
+pub few-source : (t : List ℕ) → Passes t → length (map (λ (p : Placed). p .at) (marks-found true 0 false 0 (unit-records (unit t)))) ≤ most-records
 few-source t p =
     omega (arith, length-map (marks-found true 0 false 0 (unit-records (unit t))) (λ (p : Placed). p .at), found-few true 0 false 0 (unit-records (unit t)), p .few)

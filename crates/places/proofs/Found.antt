@@ -32,13 +32,13 @@ module _ (p : Part) where
         length-append (spell (content-records (p .source))) (spell (target-records (p .target))),
       )
 
-goal-length : (q : ℕ) (xs : Content) → length (spell (target-records (target q xs))) ≡ 4 + length (content-bytes xs)
+target-length : (q : ℕ) (xs : Content) → length (spell (target-records (target q xs))) ≡ 4 + length (content-bytes xs)
 unfolding target-records spell gather record-bytes content-bytes two
-goal-length q xs = omega (arith, length-append (record-bytes (target-head q)) (spell (content-records xs)))
+target-length q xs = omega (arith, length-append (record-bytes (target-head q)) (spell (content-records xs)))
 
-no-goal-length : length (spell (target-records no-target)) ≡ 0
+no-target-length : length (spell (target-records no-target)) ≡ 0
 unfolding target-records spell gather
-no-goal-length = refl
+no-target-length = refl
 
 -- The walk with a state that heads set
 module _ {S B : Type 0} (part-state : S) (target-state : ℕ → S) (on-head : Head → ℕ → List B) (on-target : ℕ → ℕ → List B) (on-item : S → Placed → List B)
@@ -72,12 +72,12 @@ module _ {S B : Type 0} (part-state : S) (target-state : ℕ → S) (on-head : H
       found-inner s at (content-inner xs) qs
       ∙ ap (λ (l : List B). l ++ walk s (at + length (spell (content-records xs))) qs) (content-found (on-item s) (no-text s) at xs)
 
-  unfoldable pub of-goal : ℕ → Target → List B
-  of-goal at no-target = []
-  of-goal at (target q xs) = on-target q at ++ gather (on-item (target-state q)) (placed-from (at + 4) [] xs)
+  unfoldable pub target-gathered : ℕ → Target → List B
+  target-gathered at no-target = []
+  target-gathered at (target q xs) = on-target q at ++ gather (on-item (target-state q)) (placed-from (at + 4) [] xs)
 
   unfoldable pub from-part : Located → List B
-  from-part l = on-head (l .part .head) (l .at) ++ (gather (on-item part-state) (placed-source l) ++ of-goal (order-at l) (l .part .target))
+  from-part l = on-head (l .part .head) (l .at) ++ (gather (on-item part-state) (placed-source l) ++ target-gathered (order-at l) (l .part .target))
 
   -- what is found from some records on does not depend on the state, as before a part and before the end
   Anew : List Record → Type 0
@@ -87,17 +87,17 @@ module _ {S B : Type 0} (part-state : S) (target-state : ℕ → S) (on-head : H
   unfolding found found-at state-after record-bytes two
   found-target s at q qs = refl
 
-  found-goal : (at : ℕ) (g : Target) (qs : List Record) → Anew qs
-      → walk part-state at (target-records g ++ qs) ≡ of-goal at g ++ walk part-state (at + length (spell (target-records g))) qs
-  unfolding target-records of-goal Anew
-  found-goal at no-target qs a = ap (λ (k : ℕ). walk part-state k qs) (let z : at ≡ at + length (spell (target-records no-target)) = omega (arith, no-goal-length) in z)
-  found-goal at (target q xs) qs a =
+  found-in-target : (at : ℕ) (g : Target) (qs : List Record) → Anew qs
+      → walk part-state at (target-records g ++ qs) ≡ target-gathered at g ++ walk part-state (at + length (spell (target-records g))) qs
+  unfolding target-records target-gathered Anew
+  found-in-target at no-target qs a = ap (λ (k : ℕ). walk part-state k qs) (let z : at ≡ at + length (spell (target-records no-target)) = omega (arith, no-target-length) in z)
+  found-in-target at (target q xs) qs a =
       found-target part-state at q (content-records xs ++ qs)
       ∙ ap (λ (l : List B). on-target q at ++ l)
       (found-content (target-state q) (at + 4) xs qs
       ∙ ap (λ (l : List B). gather (on-item (target-state q)) (placed-from (at + 4) [] xs) ++ l)
       (a (target-state q) part-state (at + 4 + length (content-bytes xs))
-      ∙ ap (λ (k : ℕ). walk part-state k qs) (let z : at + 4 + length (content-bytes xs) ≡ at + length (spell (target-records (target q xs))) = omega (arith, goal-length q xs) in z)))
+      ∙ ap (λ (k : ℕ). walk part-state k qs) (let z : at + 4 + length (content-bytes xs) ≡ at + length (spell (target-records (target q xs))) = omega (arith, target-length q xs) in z)))
       ∙ sym (append-assoc (on-target q at) (gather (on-item (target-state q)) (placed-from (at + 4) [] xs)) (walk part-state (at + length (spell (target-records (target q xs)))) qs))
 
   found-head : (s : S) (at : ℕ) (h : Head) (qs : List Record) → walk s at (part-head h ∷ qs) ≡ on-head h at ++ walk part-state (at + length (head-bytes h)) qs
@@ -111,14 +111,14 @@ module _ {S B : Type 0} (part-state : S) (target-state : ℕ → S) (on-head : H
       let at1 = at + length (head-bytes (p .head)) in
       let at2 = at1 + length (content-bytes (p .source)) in
       let C = gather (on-item part-state) (placed-from at1 [] (p .source)) in
-      let G = of-goal at2 (p .target) in
+      let G = target-gathered at2 (p .target) in
       let F = walk part-state (at + part-size p) qs in
       found-head s at (p .head) (content-records (p .source) ++ target-records (p .target) ++ qs)
       ∙ ap (λ (l : List B). on-head (p .head) at ++ l)
       (ap (walk part-state at1) (append-assoc (content-records (p .source)) (target-records (p .target)) qs)
       ∙ found-content part-state at1 (p .source) (target-records (p .target) ++ qs)
       ∙ ap (λ (l : List B). C ++ l)
-      (found-goal at2 (p .target) qs a
+      (found-in-target at2 (p .target) qs a
       ∙ ap (λ (k : ℕ). G ++ walk part-state k qs) (let z : at2 + length (spell (target-records (p .target))) ≡ at + part-size p = omega (arith, part-length p) in z))
       ∙ sym (append-assoc C G F))
       ∙ sym (append-assoc (on-head (p .head) at) (C ++ G) F)
@@ -160,27 +160,27 @@ module _ {A B : Type 0} where
 abbrev one-order : ℕ → ℕ → List Ordered
 one-order q at = record { order = q; at = at } ∷ []
 
-unfoldable goal-order : ℕ → Target → List Ordered
-goal-order at no-target = []
-goal-order at (target q xs) = record { order = q; at = at } ∷ []
+unfoldable order-of-target : ℕ → Target → List Ordered
+order-of-target at no-target = []
+order-of-target at (target q xs) = record { order = q; at = at } ∷ []
 
-goal-order-is : (at : ℕ) (g : Target) → of-goal {S = Unit {0}} tt (λ q. tt) (λ h at. []) one-order (λ s p. []) (λ s c at. refl) at g ≡ goal-order at g
-unfolding of-goal goal-order
-goal-order-is at no-target = refl
-goal-order-is at (target q xs) = ap {B = List Ordered} (λ l. record { order = q; at = at } ∷ l) (gather-none (placed-from (at + 4) [] xs))
+target-order-is : (at : ℕ) (g : Target) → target-gathered {S = Unit {0}} tt (λ q. tt) (λ h at. []) one-order (λ s p. []) (λ s c at. refl) at g ≡ order-of-target at g
+unfolding target-gathered order-of-target
+target-order-is at no-target = refl
+target-order-is at (target q xs) = ap {B = List Ordered} (λ l. record { order = q; at = at } ∷ l) (gather-none (placed-from (at + 4) [] xs))
 
-part-order-is : (l : Located) → from-part {S = Unit {0}} tt (λ q. tt) (λ h at. []) one-order (λ s p. []) (λ s c at. refl) l ≡ goal-order (order-at l) (l .part .target)
+part-order-is : (l : Located) → from-part {S = Unit {0}} tt (λ q. tt) (λ h at. []) one-order (λ s p. []) (λ s c at. refl) l ≡ order-of-target (order-at l) (l .part .target)
 unfolding from-part
-part-order-is l = ap₂ _++_ (gather-none (placed-source l)) (goal-order-is (order-at l) (l .part .target))
+part-order-is l = ap₂ _++_ (gather-none (placed-source l)) (target-order-is (order-at l) (l .part .target))
 
-bad-order-is : (n : ℕ) (used : List ℕ) (ls : List Located) → first-bad-in n used (gather (λ l. goal-order (order-at l) (l .part .target)) ls) ≡ first-bad-order n used ls
-unfolding gather first-bad-in first-bad-order goal-order
+bad-order-is : (n : ℕ) (used : List ℕ) (ls : List Located) → first-bad-in n used (gather (λ l. order-of-target (order-at l) (l .part .target)) ls) ≡ first-bad-order n used ls
+unfolding gather first-bad-in first-bad-order order-of-target
 bad-order-is n used [] = refl
 bad-order-is n used (l ∷ ls) = by (λ us. bad-order-is n us ls) (l .part .target) refl
   where
-    by : ((us : List ℕ) → first-bad-in n us (gather (λ l. goal-order (order-at l) (l .part .target)) ls) ≡ first-bad-order n us ls)
+    by : ((us : List ℕ) → first-bad-in n us (gather (λ l. order-of-target (order-at l) (l .part .target)) ls) ≡ first-bad-order n us ls)
         → (g : Target) → l .part .target ≡ g
-        → first-bad-in n used (goal-order (order-at l) g ++ gather (λ l. goal-order (order-at l) (l .part .target)) ls)
+        → first-bad-in n used (order-of-target (order-at l) g ++ gather (λ l. order-of-target (order-at l) (l .part .target)) ls)
         ≡ elim g [ no-target ↦ first-bad-order n used ls | target q xs ↦ cond (bad-order n used q) (refusal 5 (order-at l)) (first-bad-order n (q ∷ used) ls) ]
     by ih no-target e = ih used
     by ih (target q xs) e = (ap (cond (bad-order n used q) (refusal 5 (order-at l))) (ih (q ∷ used)))
@@ -194,15 +194,15 @@ rule-5-found u =
     (sym (gather-same _ _ part-order-is (located (u .parts)))
     ∙ sym (found-unit {S = Unit {0}} tt (λ q. tt) (λ h at. []) one-order (λ s p. []) (λ s c at. refl) tt u))
 
-goal-names : (at : ℕ) (g : Target) → of-goal of-source (λ q. of-target) head-name (λ q at. []) start-name no-name at g ≡ gather (start-name of-target) (placed-target (at + 4) g)
-unfolding of-goal placed-target gather
-goal-names at no-target = refl
-goal-names at (target q xs) = refl
+target-names : (at : ℕ) (g : Target) → target-gathered of-source (λ q. of-target) head-name (λ q at. []) start-name no-name at g ≡ gather (start-name of-target) (placed-target (at + 4) g)
+unfolding target-gathered placed-target gather
+target-names at no-target = refl
+target-names at (target q xs) = refl
 
 part-names : (l : Located) → from-part of-source (λ q. of-target) head-name (λ q at. []) start-name no-name l ≡ names l
 unfolding from-part names part-name target-at
 part-names l =
-    ap (λ (k : List Named). head-name (l .part .head) (l .at) ++ (gather (start-name of-source) (placed-source l) ++ k)) (goal-names (order-at l) (l .part .target))
+    ap (λ (k : List Named). head-name (l .part .head) (l .at) ++ (gather (start-name of-source) (placed-source l) ++ k)) (target-names (order-at l) (l .part .target))
     ∙ sym (append-assoc (head-name (l .part .head) (l .at)) (gather (start-name of-source) (placed-source l)) (gather (start-name of-target) (placed-target (order-at l + 4) (l .part .target))))
 
 pub rule-6-found : (u : XliffUnit) → fault-6 (u .parts) ≡ first-clash [] (names-found of-source 0 (unit-records u))
@@ -221,15 +221,15 @@ unfolding gather
 gather-gather f g [] = refl
 gather-gather {C} f g (x ∷ xs) = gather-append g (f x) (gather f xs) ∙ ap (λ (l : List C). gather g (f x) ++ l) (gather-gather f g xs)
 
-goal-no-marks : (at : ℕ) (g : Target) → of-goal true (λ k. not true && eqb 0 k) (λ h at. []) (λ k at. []) marker no-marker at g ≡ []
-unfolding of-goal
-goal-no-marks at no-target = refl
-goal-no-marks at (target q xs) = no-markers (placed-from (at + 4) [] xs)
+target-no-marks : (at : ℕ) (g : Target) → target-gathered true (λ k. not true && eqb 0 k) (λ h at. []) (λ k at. []) marker no-marker at g ≡ []
+unfolding target-gathered
+target-no-marks at no-target = refl
+target-no-marks at (target q xs) = no-markers (placed-from (at + 4) [] xs)
 
 part-source : (l : Located) → from-part true (λ k. not true && eqb 0 k) (λ h at. []) (λ k at. []) marker no-marker l ≡ gather (marker true) (placed-source l)
 unfolding from-part
 part-source l =
-    ap (λ (k : List Placed). gather (marker true) (placed-source l) ++ k) (goal-no-marks (order-at l) (l .part .target)) ∙ append-nil (gather (marker true) (placed-source l))
+    ap (λ (k : List Placed). gather (marker true) (placed-source l) ++ k) (target-no-marks (order-at l) (l .part .target)) ∙ append-nil (gather (marker true) (placed-source l))
 
 pub source-marks : (inside : Bool) (u : XliffUnit) → marks-found true 0 inside 0 (unit-records u) ≡ markers (placed-source-sequence (located (u .parts)))
 unfolding markers placed-source-sequence
@@ -242,17 +242,17 @@ unfolding gather
 cond-marks true ps = refl
 cond-marks false ps = no-markers ps
 
-goal-marks : (q at : ℕ) (g : Target) → of-goal false (λ k. not false && eqb q k) (λ h at. []) (λ k at. []) marker no-marker at g ≡ gather (marker true) (placed-of-order q (at + 4) g)
-unfolding of-goal placed-of-order gather
-goal-marks q at no-target = refl
-goal-marks q at (target k xs) = cond-marks (eqb q k) (placed-from (at + 4) [] xs)
+target-marks : (q at : ℕ) (g : Target) → target-gathered false (λ k. not false && eqb q k) (λ h at. []) (λ k at. []) marker no-marker at g ≡ gather (marker true) (placed-of-order q (at + 4) g)
+unfolding target-gathered placed-of-order gather
+target-marks q at no-target = refl
+target-marks q at (target k xs) = cond-marks (eqb q k) (placed-from (at + 4) [] xs)
 
 part-target : (q : ℕ) (l : Located)
     → from-part false (λ k. not false && eqb q k) (λ h at. []) (λ k at. []) marker no-marker l ≡ gather (marker true) (placed-of-order q (target-at l) (l .part .target))
 unfolding from-part target-at
 part-target q l =
-    ap (λ (k : List Placed). k ++ of-goal false (λ k. not false && eqb q k) (λ h at. []) (λ k at. []) marker no-marker (order-at l) (l .part .target)) (no-markers (placed-source l))
-    ∙ goal-marks q (order-at l) (l .part .target)
+    ap (λ (k : List Placed). k ++ target-gathered false (λ k. not false && eqb q k) (λ h at. []) (λ k at. []) marker no-marker (order-at l) (l .part .target)) (no-markers (placed-source l))
+    ∙ target-marks q (order-at l) (l .part .target)
 
 pub order-marks : (q : ℕ) (inside : Bool) (u : XliffUnit)
     → marks-found false q inside 0 (unit-records u) ≡ markers (gather (λ l. placed-of-order q (target-at l) (l .part .target)) (located (u .parts)))

@@ -235,8 +235,8 @@ passes t h k =
     record {
       good = subst AllGood (sym e) (table-walked t h k .good);
       bytes = encode-unit t h k;
-      few = subst (λ (rs : List Record). length rs ≤ 1024) (sym e) (n .0);
-      few-parts = subst (λ (rs : List Record). part-heads rs ≤ 64) (sym e) (n .1);
+      few = subst (λ (rs : List Record). length rs ≤ most-records) (sym e) (n .0);
+      few-parts = subst (λ (rs : List Record). part-heads rs ≤ most-parts) (sym e) (n .1);
       good-parts = unit-good t h k;
     }
 

@@ -17,7 +17,7 @@ use Rattle.xliff.proofs.lists.Tests.{and-left, any-append}
 use Rattle.xliff.specs.Good.{each-nil, each-cons, GoodIn, GoodContent, GoodParts}
 use Rattle.places.specs.Passes.{Passes}
 use Rattle.places.specs.Found.{marks-found}
-use Rattle.places.specs.Markers.{is-marked, marked, OnMarks, placed-at, target-offsets}
+use Rattle.places.specs.Markers.{is-marked, only-markers, OnMarks, placed-at, target-offsets}
 use Rattle.places.proofs.Tests.{any-marked, source-blamed, target-blamed, source-items}
 
 not-true : (b : Bool) → not b ≡ true → b ≡ false
@@ -92,7 +92,7 @@ module _ (x : Item) (m : is-marked x ≡ true) where
   unfolding may-copy
   copy-marked y e = rw (unlike-class y e)
 
-  ten-marked : (source before after : Content) → bad-10-target source before x after ≡ bad-10-target (marked source) before x after
+  ten-marked : (source before after : Content) → bad-10-target source before x after ≡ bad-10-target (only-markers source) before x after
   unfolding bad-10-target unlike-source bad-copy
   ten-marked source before after =
       rw (
@@ -117,11 +117,11 @@ no-ten source before (pair g w f) after h e = absurd (true≢false e)
 no-ten source before (annotation-start w i l) after h e = absurd (true≢false e)
 no-ten source before (annotation-end w i) after h e = absurd (true≢false e)
 
-pub on-10-target : (source : Content) → any (starts-id 0) source ≡ false → OnMarks (bad-10-target source) (bad-10-target (marked source))
+pub on-10-target : (source : Content) → any (starts-id 0) source ≡ false → OnMarks (bad-10-target source) (bad-10-target (only-markers source))
 on-10-target source h =
     record {
       unmarked = λ before x after e. no-ten source before x after h e;
-      alone = λ before x after e. ten-marked x e source before after ∙ ten-anew x e (marked source) before (marked before) after (marked after);
+      alone = λ before x after e. ten-marked x e source before after ∙ ten-anew x e (only-markers source) before (only-markers before) after (only-markers after);
     }
 
 -- rule 10 on the markers at their offsets

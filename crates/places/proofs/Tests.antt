@@ -19,10 +19,10 @@ use Rattle.places.specs.Offsets.{At}
 use Rattle.places.proofs.Places.{at-start, at-next}
 use Rattle.places.specs.Found.{marker, no-marker, markers, marks-found, found, found-at, state-after}
 use Rattle.places.proofs.Found.{source-marks, order-marks}
-use Rattle.places.specs.Markers.{is-marked, marked, OnMarks, item-in, item-at, placed-at, target-offsets}
+use Rattle.places.specs.Markers.{is-marked, only-markers, OnMarks, item-in, item-at, placed-at, target-offsets}
 
-pub marked-items : (ps : List Placed) → items (markers ps) ≡ marked (items ps)
-unfolding items markers marked gather keep marker is-marked
+pub marked-items : (ps : List Placed) → items (markers ps) ≡ only-markers (items ps)
+unfolding items markers only-markers gather keep marker is-marked
 marked-items [] = refl
 marked-items (p ∷ ps) = by (not (eqb (class (p .item)) 0)) (marked-items ps)
   where
@@ -33,8 +33,8 @@ marked-items (p ∷ ps) = by (not (eqb (class (p .item)) 0)) (marked-items ps)
 
 -- what such a test blames is what it blames among the markers
 pub blamed-marks : (bad bad′ : Content → Item → Content → Bool) → OnMarks bad bad′ → (before : Content) (ps : List Placed)
-    → blamed bad before ps ≡ blamed bad′ (marked before) (markers ps)
-unfolding blamed markers gather marked keep marker is-marked
+    → blamed bad before ps ≡ blamed bad′ (only-markers before) (markers ps)
+unfolding blamed markers gather only-markers keep marker is-marked
 blamed-marks bad bad′ o before [] = refl
 blamed-marks bad bad′ o before (p ∷ ps) = by (not (eqb (class (p .item)) 0)) refl (blamed-marks bad bad′ o (p .item ∷ before) ps)
   where
@@ -54,8 +54,8 @@ blamed-marks bad bad′ o before (p ∷ ps) = by (not (eqb (class (p .item)) 0))
         rw (o .unmarked before (p .item) (items ps) e) h
 
 -- Some item passes a test that is false of items without a class: some marker does
-pub any-marked : (p : Item → Bool) → ((x : Item) → is-marked x ≡ false → p x ≡ false) → (xs : Content) → any p xs ≡ any p (marked xs)
-unfolding any marked keep
+pub any-marked : (p : Item → Bool) → ((x : Item) → is-marked x ≡ false → p x ≡ false) → (xs : Content) → any p xs ≡ any p (only-markers xs)
+unfolding any only-markers keep
 any-marked p h [] = refl
 any-marked p h (x ∷ xs) = by (is-marked x) refl (any-marked p h xs)
   where
@@ -103,7 +103,7 @@ read-back t at (r ∷ rs) source q inside a =
 -- a test of the source sequence, on the markers at their offsets
 pub source-blamed : (t : List ℕ) → Passes t → (bad bad′ : Content → Item → Content → Bool) → OnMarks bad bad′
     → blamed bad [] (placed-source-sequence (located (unit t .parts))) ≡ blamed bad′ [] (placed-at t (offs (marks-found true 0 false 0 (unit-records (unit t)))))
-unfolding marked keep
+unfolding only-markers keep
 source-blamed t p bad bad′ o =
     blamed-marks bad bad′ o [] (placed-source-sequence (located (unit t .parts)))
     ∙ ap (blamed bad′ []) (sym (source-marks false (unit t)) ∙ sym (read-back t 0 (unit-records (unit t)) true 0 false (at-start t p)))
@@ -119,7 +119,7 @@ targets-back t p q (suc n) =
 -- a test of the target sequence, on the markers at their offsets
 pub target-blamed : (t : List ℕ) → Passes t → (bad bad′ : Content → Item → Content → Bool) → OnMarks bad bad′
     → blamed bad [] (placed-target-sequence (located (unit t .parts))) ≡ blamed bad′ [] (placed-at t (target-offsets t 0 (length (located (unit t .parts)))))
-unfolding marked keep placed-target-sequence
+unfolding only-markers keep placed-target-sequence
 target-blamed t p bad bad′ o =
     blamed-marks bad bad′ o [] (placed-targets (located (unit t .parts)) 0 (length (located (unit t .parts))))
     ∙ ap (blamed bad′ []) (sym (targets-back t p 0 (length (located (unit t .parts)))))
@@ -129,9 +129,9 @@ unfolding located
 length-located ps = length-from 3 ps
 
 -- the markers of the source sequence, by their offsets
-pub source-items : (t : List ℕ) → Passes t → marked (source-sequence (unit t .parts)) ≡ items (placed-at t (map (λ (p : Placed). p .at) (marks-found true 0 false 0 (unit-records (unit t)))))
+pub source-items : (t : List ℕ) → Passes t → only-markers (source-sequence (unit t .parts)) ≡ items (placed-at t (map (λ (p : Placed). p .at) (marks-found true 0 false 0 (unit-records (unit t)))))
 unfolding located
 source-items t p =
-    ap marked (sym (items-source 3 (unit t .parts)))
+    ap only-markers (sym (items-source 3 (unit t .parts)))
     ∙ sym (marked-items (placed-source-sequence (located (unit t .parts))))
     ∙ ap items (sym (source-marks false (unit t)) ∙ sym (read-back t 0 (unit-records (unit t)) true 0 false (at-start t p)))

@@ -16,13 +16,13 @@ use Rattle.places.specs.Found.{marks-found}
 unfoldable pub is-marked : Item → Bool
 is-marked x = not (eqb (class x) 0)
 
-unfoldable pub marked : Content → Content
-marked xs = keep is-marked xs
+unfoldable pub only-markers : Content → Content
+only-markers xs = keep is-marked xs
 
 -- A test that texts and characters do not bear on, and the same test where there are markers alone
 pub record OnMarks (bad bad′ : Content → Item → Content → Bool) : Type 0 where
   pub unmarked : (before : Content) (x : Item) (after : Content) → is-marked x ≡ false → bad before x after ≡ false
-  pub alone : (before : Content) (x : Item) (after : Content) → is-marked x ≡ true → bad before x after ≡ bad′ (marked before) x (marked after)
+  pub alone : (before : Content) (x : Item) (after : Content) → is-marked x ≡ true → bad before x after ≡ bad′ (only-markers before) x (only-markers after)
 
 -- The item at an offset
 unfoldable pub item-in : Record → Item

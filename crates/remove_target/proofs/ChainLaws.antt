@@ -18,7 +18,7 @@ use Rattle.part_at.specs.Stands.{TargetStands}
 use Rattle.result_rules.specs.Broken.{judged}
 use Rattle.removed_target.specs.Removed.{removed-unit}
 use Rattle.removed_target.proofs.RemovedLaws.{remove-unit-is}
-use Rattle.remove_target.specs.Ending.{ending}
+use Rattle.remove_target.specs.Ending.{removal-ending}
 
 -- a part's place tells whether it has a target
 pub lacks-is : (t : List ℕ) (place : PartPlace) (g : Target) → TargetStands t place g → lacks-target g ≡ not (place .«has_target»)
@@ -48,9 +48,9 @@ module _ (t : List ℕ) (n room : ℕ) (e : table-refusal t ≡ none) where
     unfolding remove-refusal
     refused-20 x = on-focus (here b p a) h ∙ applied 20 (lacks-target (p .target)) rest (encode v) x
 
-    pub ends : lacks-target (p .target) ≡ false → remove-target t n room ≡ ending room (removed-unit (unit t) b p a)
+    pub ends : lacks-target (p .target) ≡ false → remove-target t n room ≡ removal-ending room (removed-unit (unit t) b p a)
     unfolding remove-refusal judged
     ends x =
         on-focus (here b p a) h
         ∙ ap (λ (o : Option Refusal). unless o (encode v)) (passed 20 (lacks-target (p .target)) rest x)
-        ∙ ap (ending room) (remove-unit-is (unit t) n b p a h)
+        ∙ ap (removal-ending room) (remove-unit-is (unit t) n b p a h)

@@ -26,7 +26,7 @@ use Rattle.part_at.proofs.CheckedLaws.{table-passes}
 use Rattle.result_rules.proofs.GoodLaws.{GoodUnit}
 use Rattle.removed_target.specs.Removed.{removed-unit}
 use Rattle.removed_target.proofs.RemovedLaws.{bared, in-order, removed-long}
-use Rattle.record_count.proofs.CountLaws.{count, count-append, count-cons, unit-count}
+use Rattle.part_at.proofs.CountLaws.{count, count-append, count-cons, unit-count}
 
 bared-fewer : (p : Part) → length (part-records (bared p)) ≤ length (part-records p)
 unfolding part-records target-records

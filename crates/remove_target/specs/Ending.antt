@@ -14,8 +14,8 @@ use Rattle.part_at.specs.Stands.{PartStands}
 use Rattle.removed_target.specs.Removed.{removed-unit}
 
 -- what "15. Then 7, 9." leaves of a result
-abbrev pub ending : ℕ → XliffUnit → Outcome
-ending room v = judged room v (fault-7 (v .parts) then fault-9 (v .parts))
+abbrev pub removal-ending : ℕ → XliffUnit → Outcome
+removal-ending room v = judged room v (fault-7 (v .parts) then fault-9 (v .parts))
 
 abbrev pub Ended : List ℕ → PartPlace → Answer → List ℕ → List ℕ → Type 0
-Ended t place r out last = (b : List Part) (p : Part) (a : List Part) → PartStands t b p a place → Answers (ending (length out) (removed-unit (unit t) b p a)) r out last
+Ended t place r out last = (b : List Part) (p : Part) (a : List Part) → PartStands t b p a place → Answers (removal-ending (length out) (removed-unit (unit t) b p a)) r out last

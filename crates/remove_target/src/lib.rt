@@ -1,5 +1,6 @@
 // Remove target: document 01, "Remove target (part)".
 use answers::Answer;
+use limits::MOST_BYTES;
 use part_at::FoundPart;
 use part_at::PartPlace;
 ghost use mathlib.Core.Path.{_≡_};
@@ -10,7 +11,7 @@ ghost use Rattle.xliff.specs.Focus.{focus};
 ghost use Rattle.xliff.specs.Parse.{unit};
 ghost use Rattle.xliff.specs.RemoveTarget.{remove-target};
 ghost use Rattle.answers.specs.Answers.{answer-meaning};
-ghost use Rattle.part_at.specs.Stands.{PartFound, Checked, Placed};
+ghost use Rattle.part_at.specs.Stands.{PartFound, Checked, CheckedPart};
 ghost use Rattle.outcomes.specs.Outcomes.{Answers};
 ghost use Rattle.remove_target.specs.Ending.{Ended};
 
@@ -19,7 +20,7 @@ fn remove_ended(table: &[u8], place: PartPlace, out: &mut [u8]) -> Answer
     requires { ⌜ Checked (now table) place ⌝ }
     ensures { λ r. ⌜ Ended (now (table .entry)) place r (now (out .entry)) (now (out .exit)) ⌝ }
 {
-    let mut work = [0u8; 8192];
+    let mut work = [0u8; MOST_BYTES];
     let n = removed_target::put_removed(&mut work, table, place);
     if out.len() < n {
         return Answer::Refused(15, 0);
@@ -33,7 +34,7 @@ fn remove_ended(table: &[u8], place: PartPlace, out: &mut [u8]) -> Answer
 
 // 20, then the rest.
 fn remove_there(table: &[u8], n: usize, place: PartPlace, out: &mut [u8]) -> Answer
-    requires { ⌜ Placed (now table) n place ⌝ }
+    requires { ⌜ CheckedPart (now table) n place ⌝ }
     ensures { λ r. ⌜ Answers (remove-target (now (table .entry)) n (length (now (out .entry)))) r (now (out .entry)) (now (out .exit)) ⌝ }
 {
     if !place.has_target {

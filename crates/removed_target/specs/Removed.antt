@@ -23,5 +23,5 @@ WroteToSource st t place out n last =
 unfoldable pub removed-unit : XliffUnit → List Part → Part → List Part → XliffUnit
 removed-unit u b p a = with-parts u (remove-focus (u .parts) (here b p a))
 
-abbrev pub Wrote : List ℕ → PartPlace → List ℕ → ℕ → List ℕ → Type 0
-Wrote t place out n last = (b : List Part) (p : Part) (a : List Part) → PartStands t b p a place → Written (encode (removed-unit (unit t) b p a)) out n last
+abbrev pub WroteRemoved : List ℕ → PartPlace → List ℕ → ℕ → List ℕ → Type 0
+WroteRemoved t place out n last = (b : List Part) (p : Part) (a : List Part) → PartStands t b p a place → Written (encode (removed-unit (unit t) b p a)) out n last

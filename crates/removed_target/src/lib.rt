@@ -3,7 +3,7 @@ use part_at::PartPlace;
 ghost use Prim.Native.Nat.{_≤_};
 ghost use lib.ListN.{length};
 ghost use Rattle.part_at.specs.Stands.{Standing};
-ghost use Rattle.removed_target.specs.Removed.{WroteToSource, Wrote};
+ghost use Rattle.removed_target.specs.Removed.{WroteToSource, WroteRemoved};
 
 // The table up to the end of a part's source, the state of that part as given.
 pub fn put_to_source(out: &mut [u8], t: &[u8], place: PartPlace, state: u8) -> usize
@@ -23,7 +23,7 @@ pub fn put_to_source(out: &mut [u8], t: &[u8], place: PartPlace, state: u8) -> u
 // The table without the target of the part at `place`; a segment's state becomes I.
 pub fn put_removed(out: &mut [u8], t: &[u8], place: PartPlace) -> usize
     requires { ⌜ Standing (now t) place × (length (now t) ≤ length (now out)) ⌝ }
-    ensures { λ r. ⌜ Wrote (now (t .entry)) place (now (out .entry)) r (now (out .exit)) ⌝ }
+    ensures { λ r. ⌜ WroteRemoved (now (t .entry)) place (now (out .entry)) r (now (out .exit)) ⌝ }
 {
     let e = place.end;
     let n = put_to_source(out, t, place, b'I');

@@ -14,14 +14,14 @@ use Rattle.requests.specs.declared.Asked.the-variants.{Readable, Unreada
 
 -- the call that a request at the head of s asks for; the content of set target stands behind its first seven bytes
 abbrev pub call-of : List ℕ → Request → Call
-call-of s (Split n cut tcut new) = SP n cut tcut new lent
+call-of s (Split n source-cut target-cut new) = SP n source-cut target-cut new lent
 call-of s (Join n) = JN n lent
 call-of s (SetTarget n st k) = ST n st (take k (drop 7 s)) lent
 call-of s (RemoveTarget n) = RT n lent
 call-of s (Rewrite side i w) = RW side i w lent
 
 abbrev pub request-size : Request → ℕ
-request-size (Split n cut tcut new) = 10
+request-size (Split n source-cut target-cut new) = 10
 request-size (Join n) = 4
 request-size (SetTarget n st k) = 7 + k
 request-size (RemoveTarget n) = 4

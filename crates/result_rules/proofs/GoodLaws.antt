@@ -10,7 +10,7 @@ use lib.Dec.{ltb}
 use borrow.Author.Tests.{le-ltb}
 use Rattle.xliff.specs.Unit.{Part, XliffUnit}
 use Rattle.xliff.specs.Encode.{opening, unit-records, encode}
-use Rattle.xliff.specs.Parse.{unit}
+use Rattle.xliff.specs.Parse.{unit, most-bytes, most-parts, most-records}
 use Rattle.xliff.specs.Check.{too-large}
 use Rattle.xliff.proofs.lists.Tests.{or-none}
 use Rattle.xliff.proofs.records.Parse.{records-unit}
@@ -23,9 +23,9 @@ pub record GoodUnit (v : XliffUnit) : Type 0 where
   pub others : List Part
   pub parts : v .parts ≡ first ∷ others
   pub good : GoodParts (v .parts)
-  pub size : length (encode v) ≤ 8192
-  pub few : length (unit-records v) ≤ 1024
-  pub few-parts : length (v .parts) ≤ 64
+  pub size : length (encode v) ≤ most-bytes
+  pub few : length (unit-records v) ≤ most-records
+  pub few-parts : length (v .parts) ≤ most-parts
 
 module _ (v : XliffUnit) (g : GoodUnit v) where
   all-good : AllGood (unit-records v)
@@ -40,12 +40,12 @@ module _ (v : XliffUnit) (g : GoodUnit v) where
       record {
         good = subst (λ (u : XliffUnit). AllGood (unit-records u)) (sym read-back) all-good;
         bytes = ap encode read-back;
-        few = subst (λ (u : XliffUnit). length (unit-records u) ≤ 1024) (sym read-back) (g .few);
-        few-parts = subst (λ (u : XliffUnit). part-heads (unit-records u) ≤ 64) (sym read-back) (let z = g .few-parts in omega (arith, heads-unit v));
+        few = subst (λ (u : XliffUnit). length (unit-records u) ≤ most-records) (sym read-back) (g .few);
+        few-parts = subst (λ (u : XliffUnit). part-heads (unit-records u) ≤ most-parts) (sym read-back) (let z = g .few-parts in omega (arith, heads-unit v));
         good-parts = subst (λ (u : XliffUnit). GoodParts (u .parts)) (sym read-back) (g .good);
       }
 
   -- within the limits 15 is only a matter of the room
   pub only-room : (room : ℕ) → too-large room v ≡ ltb room (length (encode v))
   unfolding too-large
-  only-room room = rw (le-ltb 8192 (length (encode v)) (g .size), le-ltb 1024 (length (unit-records v)) (g .few), le-ltb 64 (length (v .parts)) (g .few-parts)) (or-none (ltb room (length (encode v))))
+  only-room room = rw (le-ltb most-bytes (length (encode v)) (g .size), le-ltb most-records (length (unit-records v)) (g .few), le-ltb most-parts (length (v .parts)) (g .few-parts)) (or-none (ltb room (length (encode v))))

@@ -11,7 +11,7 @@ use borrow.Author.Tests.{lt-ltb, le-ltb}
 use Rattle.xliff.specs.Answer.{Refusal, Outcome, result}
 use Rattle.xliff.specs.Unit.{Part, XliffUnit}
 use Rattle.xliff.specs.Encode.{encode}
-use Rattle.xliff.specs.Parse.{unit}
+use Rattle.xliff.specs.Parse.{unit, most-bytes}
 use Rattle.xliff.specs.Check.{too-large}
 use Rattle.places.specs.Passes.{Passes}
 use Rattle.answers.specs.declared.Answer.the-variants.{Accepted}
@@ -40,7 +40,7 @@ module _ {u : XliffUnit} {n : ℕ} {l : List ℕ} (w : Work u n l) where
   pub work-long : n ≡ length (take n l)
   work-long = w .long ∙ sym (ap length (w .is))
 
-  pub work-passes : Passes (take n l) × (length (take n l) ≤ 8192)
+  pub work-passes : Passes (take n l) × (length (take n l) ≤ most-bytes)
   work-passes = (subst Passes (sym (w .is)) (result-passes u (w .good)), omega (arith, ap length (w .is), w .good .size))
 
   -- a rule of its parts is that of the unit

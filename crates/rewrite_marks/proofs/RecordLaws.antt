@@ -91,12 +91,12 @@ module _ (i : ℕ) (w : Form) where
       ap {B = List Record} (λ l. part-head (p .head) ∷ l)
       (ap (rewritten f true true) (append-assoc (content-records (p .source)) (target-records (p .target)) bs)
       ∙ content-inside true (p .source) (target-records (p .target) ++ bs)
-      ∙ ap (λ (l : List Record). content-records (map f (p .source)) ++ l) (goal (p .target))
+      ∙ ap (λ (l : List Record). content-records (map f (p .source)) ++ l) (own-target (p .target))
       ∙ sym (append-assoc (content-records (map f (p .source))) (target-records (p .target)) qs))
     where
-      goal : (g : Target) → rewritten f true true (target-records g ++ bs) ≡ target-records g ++ qs
-      goal no-target = h true
-      goal (target q xs) = ap {B = List Record} (λ l. target-head q ∷ l) (content-outside true xs bs ∙ ap (λ (l : List Record). content-records xs ++ l) (h false))
+      own-target : (g : Target) → rewritten f true true (target-records g ++ bs) ≡ target-records g ++ qs
+      own-target no-target = h true
+      own-target (target q xs) = ap {B = List Record} (λ l. target-head q ∷ l) (content-outside true xs bs ∙ ap (λ (l : List Record). content-records xs ++ l) (h false))
 
   target-part : (b : Bool) (p : Part) (bs qs : List Record) → ((c : Bool) → rewritten f false c bs ≡ qs)
       → rewritten f false b (part-records p ++ bs) ≡ part-records (record { head = p .head; source = p .source; target = rewrite-target f (p .target) }) ++ qs
@@ -105,12 +105,12 @@ module _ (i : ℕ) (w : Form) where
       ap {B = List Record} (λ l. part-head (p .head) ∷ l)
       (ap (rewritten f false false) (append-assoc (content-records (p .source)) (target-records (p .target)) bs)
       ∙ content-outside false (p .source) (target-records (p .target) ++ bs)
-      ∙ ap (λ (l : List Record). content-records (p .source) ++ l) (goal (p .target))
+      ∙ ap (λ (l : List Record). content-records (p .source) ++ l) (own-target (p .target))
       ∙ sym (append-assoc (content-records (p .source)) (target-records (rewrite-target f (p .target))) qs))
     where
-      goal : (g : Target) → rewritten f false false (target-records g ++ bs) ≡ target-records (rewrite-target f g) ++ qs
-      goal no-target = h false
-      goal (target q xs) = ap {B = List Record} (λ l. target-head q ∷ l) (content-inside false xs bs ∙ ap (λ (l : List Record). content-records (map f xs) ++ l) (h true))
+      own-target : (g : Target) → rewritten f false false (target-records g ++ bs) ≡ target-records (rewrite-target f g) ++ qs
+      own-target no-target = h false
+      own-target (target q xs) = ap {B = List Record} (λ l. target-head q ∷ l) (content-inside false xs bs ∙ ap (λ (l : List Record). content-records (map f xs) ++ l) (h true))
 
   one-part : (source b : Bool) (p : Part) (bs qs : List Record) → ((c : Bool) → rewritten f source c bs ≡ qs)
       → rewritten f source b (part-records p ++ bs)

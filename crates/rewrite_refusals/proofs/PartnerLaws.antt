@@ -19,7 +19,7 @@ use Rattle.xliff.specs.Good.{Each, each-nil, each-cons}
 use Rattle.xliff.proofs.lists.Tests.{none-some, and-left, and-right, or-left, or-right, not-true, not-false}
 use Rattle.xliff.proofs.rules.Flat.{half-alike, id-alike}
 use Rattle.xliff.proofs.rules.Sequences.{clear, clear-blamed, first-of-none, append-nil-left, append-nil-right, items-placed}
-use Rattle.xliff.proofs.rules.Six.{items-goal}
+use Rattle.xliff.proofs.rules.Six.{items-of-target}
 use Rattle.xliff.proofs.rules.Total.{total-source, total-target-most}
 use Rattle.xliff.proofs.operations.Sources.{flat-rewrite}
 use Rattle.xliff.proofs.operations.Rewrite.{form-in}
@@ -43,7 +43,7 @@ contents-clear at (p ∷ ps) e =
     each-cons
     (record {
       source = ap (clear lone-P []) (sym (items-placed (source-at l) [] (p .source))) ∙ clear-blamed lone-P [] s a;
-      target = ap (clear lone-P []) (sym (items-goal (target-at l) (p .target))) ∙ clear-blamed lone-P [] t b;
+      target = ap (clear lone-P []) (sym (items-of-target (target-at l) (p .target))) ∙ clear-blamed lone-P [] t b;
     })
     (contents-clear (at + part-size p) ps (append-nil-right (blamed lone-P [] t) _ r))
 

@@ -12,7 +12,7 @@ use Rattle.xliff.specs.Bytes.{'P'}
 use Rattle.xliff.specs.Answer.{is-fault}
 use Rattle.xliff.specs.Item.{Form, form-P, form-S}
 use Rattle.xliff.specs.Encode.{encode}
-use Rattle.xliff.specs.Parse.{unit}
+use Rattle.xliff.specs.Parse.{unit, most-bytes}
 use Rattle.xliff.specs.Rules.{fault-7}
 use Rattle.xliff.specs.Rewrite.{form-of, rewrite-unit, side-sequence, Whole, find-whole, unfit-letter}
 use Rattle.xliff.proofs.lists.Tests.{or-true, or-none}
@@ -39,7 +39,7 @@ module _ (t : List ℕ) (side i : ℕ) (p : Whole) (a : Asked t side i form-P p)
   unfolding form-of
   fits-aside = omega (arith, e, ap length l, length-append aside (drop (length aside) out))
 
-  pub aside-passes : Passes (take n last) × (length (take n last) ≤ 8192)
+  pub aside-passes : Passes (take n last) × (length (take n last) ≤ most-bytes)
   aside-passes = (
     subst Passes (sym taken) (result-passes (rewrite-unit (unit t) side i form-P) (good-unit t (a .bytes) (a .valid) side i form-P)),
     omega (arith, ap length taken, length-kept i form-P t side (checked-passes t (a .bytes) (a .valid)), small-table t (a .valid)),

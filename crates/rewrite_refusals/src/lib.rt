@@ -1,4 +1,5 @@
 // Rewrite, 21: "to P: not in one content, not balanced between, or the end's canReorder is not the PC letter".
+use limits::MOST_BYTES;
 ghost use mathlib.Core.Path.{_≡_};
 ghost use Rattle.xliff.specs.Parse.{unit};
 ghost use Rattle.xliff.specs.Rewrite.{form-of};
@@ -10,7 +11,7 @@ fn is_apart(t: &[u8], side: u8, id: u16) -> bool
     requires { ⌜ Fitting (now t) side id ⌝ }
     ensures { λ r. ⌜ r ≡ apart (unit (now (t .entry))) side id ⌝ }
 {
-    let mut work = [0u8; 8192];
+    let mut work = [0u8; MOST_BYTES];
     let n = rewrite_marks::put_rewritten(&mut work, t, side, id, b'P');
     result_rules::breaks_7(&work[..n])
 }

@@ -11,6 +11,7 @@ use Rattle.xliff.specs.Encode.{record-bytes}
 use Rattle.xliff.specs.Item as spec
 use Rattle.xliff.specs.Item.{class}
 use Rattle.xliff.proofs.lists.Tests.{map-append}
+use Rattle.xliff.specs.Parse.{most-records}
 use Rattle.places.specs.Passes.{Passes}
 use Rattle.places.specs.Offsets.{At}
 use Rattle.places.proofs.Places.{at-end}
@@ -93,7 +94,7 @@ collected A P P′ T T′ W e f g = ap (λ (l : List ℕ). l ++ P′) f ∙ appe
 pub counted : (A P P′ : List ℕ) (m m′ k : ℕ) → P ≡ A ++ P′ → m′ ≡ length A + m → length P + m ≡ k → length P′ + m′ ≡ k
 counted A P P′ m m′ k e f g = omega (arith, ap length e, length-append A P′, f, g)
 
-pub source-room : (t : List ℕ) → Passes t → length (offsets true 0 t) ≤ 1024
+pub source-room : (t : List ℕ) → Passes t → length (offsets true 0 t) ≤ most-records
 unfolding offsets
 source-room t p = few-source t p
 

@@ -6,7 +6,7 @@ use mathlib.Core.List.{List}
 use native.Mathlib.Omega.{arith}
 use lib.ListN.{length, take}
 use lib.Seq.{length-take-le}
-use Rattle.xliff.specs.Parse.{unit}
+use Rattle.xliff.specs.Parse.{unit, most-bytes, most-records}
 use Rattle.places.specs.Passes.{Passes}
 use Rattle.places.specs.Markers.{target-offsets}
 use Rattle.keys.specs.Keys.{keysAt}
@@ -15,7 +15,7 @@ use Rattle.sequences.specs.Markers.{Markers}
 
 -- k offsets at the front of an array of 1,024
 abbrev pub Front : List ℕ → List ℕ → ℕ → Type 0
-Front os l k = (take k l ≡ os) × (k ≤ 1024) × (length l ≡ 1024)
+Front os l k = (take k l ≡ os) × (k ≤ most-records) × (length l ≡ most-records)
 
 pub front-long : (os l : List ℕ) (k : ℕ) → Front os l k → k ≡ length (take k l)
 front-long os l k f = sym (length-take-le k l (omega (arith, f .1, f .2)))
@@ -24,7 +24,7 @@ keys-front : (t os l keys : List ℕ) (k r : ℕ) → Front os l k → r ≡ len
     → take k keys ≡ keysAt t (take k l)
 keys-front t os l keys k r f e g = ap (λ (n : ℕ). take n keys) (front-long os l k f ∙ sym e) ∙ g
 
-pub both-markers : (t : List ℕ) (parts : ℕ) → Passes t → length t ≤ 8192 → parts ≡ length (unit t .parts)
+pub both-markers : (t : List ℕ) (parts : ℕ) → Passes t → length t ≤ most-bytes → parts ≡ length (unit t .parts)
     → (src skeys tgt tkeys : List ℕ) (k m i j : ℕ) → Front (offsets true 0 t) src k → Front (target-offsets t 0 parts) tgt m
     → i ≡ length (take k src) → take i skeys ≡ keysAt t (take k src)
     → j ≡ length (take m tgt) → take j tkeys ≡ keysAt t (take m tgt)

@@ -13,7 +13,7 @@ use Rattle.xliff.specs.Item as spec
 use Rattle.xliff.specs.Unit.{no-target, target, Target, Part, XliffUnit}
 use Rattle.xliff.specs.Encode as encode
 use Rattle.xliff.specs.Encode.{opening, closing, part-head, target-head, text-run, inline, ill-text, broken, record-bytes, content-records, target-records, part-records, unit-records}
-use Rattle.xliff.specs.Parse.{unit}
+use Rattle.xliff.specs.Parse.{unit, most-parts}
 use Rattle.xliff.proofs.lists.Tests.{map-append}
 use Rattle.places.specs.Passes.{Passes}
 use Rattle.places.specs.Offsets.{At, Inner, no-inner, text-inner, inline-inner}
@@ -250,7 +250,7 @@ unit-targets : (u : XliffUnit) → targets-in (unit-records u) ≤ length (u .pa
 unfolding unit-records targets-in one-if
 unit-targets u = omega (arith, targets-append (gather part-records (u .parts)) (closing ∷ []), parts-targets (u .parts))
 
-pub heads-few : (t : List ℕ) → Passes t → length (head-offsets t) ≤ 64
+pub heads-few : (t : List ℕ) → Passes t → length (head-offsets t) ≤ most-parts
 unfolding head-offsets heads-of
 heads-few t p =
     omega (

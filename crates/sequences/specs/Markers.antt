@@ -4,7 +4,7 @@ use mathlib.Core.Path.{_≡_}
 use mathlib.Core.Bool.{true}
 use mathlib.Core.List.{List}
 use lib.ListN.{length}
-use Rattle.xliff.specs.Parse.{unit}
+use Rattle.xliff.specs.Parse.{unit, most-bytes, most-records}
 use Rattle.places.specs.Passes.{Passes}
 use Rattle.places.specs.Markers.{target-offsets}
 use Rattle.keys.specs.Keys.{keysAt}
@@ -14,4 +14,4 @@ abbrev pub Markers : List ℕ → List ℕ → List ℕ → List ℕ → List �
 Markers t src skeys tgt tkeys =
     Passes t × (src ≡ offsets true 0 t) × (skeys ≡ keysAt t src)
     × (tgt ≡ target-offsets t 0 (length (unit t .parts))) × (tkeys ≡ keysAt t tgt)
-    × (length src ≤ 1024) × (length tgt ≤ 1024) × (length t ≤ 8192)
+    × (length src ≤ most-records) × (length tgt ≤ most-records) × (length t ≤ most-bytes)

@@ -1,10 +1,11 @@
 // The offsets of the markers of the two sequences, and their keys.
+use limits::MOST_PARTS;
 ghost use mathlib.Core.Path.{_≡_};
 ghost use mathlib.Core.Bool.{true, false, cond};
 ghost use mathlib.Core.List.{[], _∷_};
 ghost use Prim.Native.Nat.{_+_, _-_, _<_, _≤_};
 ghost use lib.ListN.{length, take};
-ghost use Rattle.xliff.specs.Parse.{unit};
+ghost use Rattle.xliff.specs.Parse.{unit, most-bytes, most-parts, most-records};
 ghost use Rattle.places.specs.Passes.{Passes};
 ghost use Rattle.places.specs.Markers.{target-offsets};
 ghost use Rattle.sequences.specs.Marks.{insideSource, offsets, Appended};
@@ -13,7 +14,7 @@ ghost use Rattle.sequences.specs.Targets.{head-offsets, head-number, of-
 
 // `at` behind the first `m` of `out`, if asked for; how many there are then.
 pub fn put_if(b: bool, out: &mut [u16], m: usize, at: u16) -> usize
-    requires { ⌜ (length (cond b (at ∷ []) []) + m ≤ length (now out)) × (length (now out) ≤ 1024) ⌝ }
+    requires { ⌜ (length (cond b (at ∷ []) []) + m ≤ length (now out)) × (length (now out) ≤ most-records) ⌝ }
     ensures { λ r. ⌜ Appended (cond b (at ∷ []) []) (now (out .entry)) m (now (out .exit)) r ⌝ }
 {
     if b {
@@ -32,8 +33,8 @@ fn inside_source(head: u8, inside: bool) -> bool
 
 // The markers of the source sequence.
 pub fn sources(t: &[u8], out: &mut [u16]) -> usize
-    requires { ⌜ Passes (now t) × (length (now t) ≤ 8192) × (length (now out) ≡ 1024) ⌝ }
-    ensures { λ r. ⌜ (take r (now (out .exit)) ≡ offsets true 0 (now (t .entry))) × (r ≤ 1024) × (length (now (out .exit)) ≡ 1024) ⌝ }
+    requires { ⌜ Passes (now t) × (length (now t) ≤ most-bytes) × (length (now out) ≡ most-records) ⌝ }
+    ensures { λ r. ⌜ (take r (now (out .exit)) ≡ offsets true 0 (now (t .entry))) × (r ≤ most-records) × (length (now (out .exit)) ≡ most-records) ⌝ }
 {
     let mut at: usize = 0;
     let mut inside = false;
@@ -49,8 +50,8 @@ pub fn sources(t: &[u8], out: &mut [u16]) -> usize
 
 // The offsets of the TG records, in table order.
 fn target_heads(t: &[u8], heads: &mut [u16]) -> usize
-    requires { ⌜ Passes (now t) × (length (now t) ≤ 8192) × (length (now heads) ≡ 64) ⌝ }
-    ensures { λ r. ⌜ (take r (now (heads .exit)) ≡ head-offsets (now (t .entry))) × (r ≤ 64) × (length (now (heads .exit)) ≡ 64) ⌝ }
+    requires { ⌜ Passes (now t) × (length (now t) ≤ most-bytes) × (length (now heads) ≡ most-parts) ⌝ }
+    ensures { λ r. ⌜ (take r (now (heads .exit)) ≡ head-offsets (now (t .entry))) × (r ≤ most-parts) × (length (now (heads .exit)) ≡ most-parts) ⌝ }
 {
     let mut at: usize = 0;
     let mut m: usize = 0;
@@ -65,8 +66,8 @@ fn target_heads(t: &[u8], heads: &mut [u16]) -> usize
 // The markers of the target whose TG is number `i` of the heads, if its order is `q`, behind the first `n`: those up to
 // the next head.
 fn target_markers(t: &[u8], heads: &[u16], i: usize, q: u16, out: &mut [u16], n: usize) -> usize
-    requires { ⌜ Passes (now t) × (length (now t) ≤ 8192) × (now heads ≡ head-offsets (now t)) × (i < length (now heads))
-        × (length (of-order q (head-number (now t) i)) + n ≤ length (now out)) × (length (now out) ≤ 1024) ⌝ }
+    requires { ⌜ Passes (now t) × (length (now t) ≤ most-bytes) × (now heads ≡ head-offsets (now t)) × (i < length (now heads))
+        × (length (of-order q (head-number (now t) i)) + n ≤ length (now out)) × (length (now out) ≤ most-records) ⌝ }
     ensures { λ r. ⌜ Appended (of-order q (head-number (now (t .entry)) i)) (now (out .entry)) n (now (out .exit)) r ⌝ }
 {
     let head = marks::wide(heads[i]);
@@ -110,8 +111,8 @@ fn markers_of(
     out: &mut [u16],
     n: usize,
 ) -> usize
-    requires { ⌜ Passes (now t) × (length (now t) ≤ 8192) × (now heads ≡ head-offsets (now t)) × (i < length (now heads))
-        × (length (of-order q (head-number (now t) i)) + n ≤ length (now out)) × (length (now out) ≤ 1024)
+    requires { ⌜ Passes (now t) × (length (now t) ≤ most-bytes) × (now heads ≡ head-offsets (now t)) × (i < length (now heads))
+        × (length (of-order q (head-number (now t) i)) + n ≤ length (now out)) × (length (now out) ≤ most-records)
         × (length (now heads) ≤ length (now orders)) × Ordered (now t) (length (now heads)) (now orders) ⌝ }
     ensures { λ r. ⌜ Appended (of-order q (head-number (now (t .entry)) i)) (now (out .entry)) n (now (out .exit)) r ⌝ }
 {
@@ -124,8 +125,8 @@ fn markers_of(
 // The markers of the targets of order `q`, behind the first `n`; `heads` and `orders` are the offsets and the orders of
 // the TG records.
 fn collect(t: &[u8], heads: &[u16], orders: &[u16], q: u16, out: &mut [u16], n: usize) -> usize
-    requires { ⌜ Passes (now t) × (length (now t) ≤ 8192) × (now heads ≡ head-offsets (now t))
-        × (length (offsets false q (now t)) + n ≤ length (now out)) × (length (now out) ≤ 1024)
+    requires { ⌜ Passes (now t) × (length (now t) ≤ most-bytes) × (now heads ≡ head-offsets (now t))
+        × (length (offsets false q (now t)) + n ≤ length (now out)) × (length (now out) ≤ most-records)
         × (length (now heads) ≤ length (now orders)) × Ordered (now t) (length (now heads)) (now orders) ⌝ }
     ensures { λ r. ⌜ Appended (offsets false q (now (t .entry))) (now (out .entry)) n (now (out .exit)) r ⌝ }
 {
@@ -140,11 +141,11 @@ fn collect(t: &[u8], heads: &[u16], orders: &[u16], q: u16, out: &mut [u16], n: 
 
 // The markers of the target sequence, by rising order. Linear in the records, and one look at each TG for each order.
 pub fn targets(t: &[u8], parts: u16, out: &mut [u16]) -> usize
-    requires { ⌜ Passes (now t) × (length (now t) ≤ 8192) × (length (now out) ≡ 1024) × (parts ≤ 64) ⌝ }
-    ensures { λ r. ⌜ (take r (now (out .exit)) ≡ target-offsets (now (t .entry)) 0 parts) × (r ≤ 1024) × (length (now (out .exit)) ≡ 1024) ⌝ }
+    requires { ⌜ Passes (now t) × (length (now t) ≤ most-bytes) × (length (now out) ≡ most-records) × (parts ≤ most-parts) ⌝ }
+    ensures { λ r. ⌜ (take r (now (out .exit)) ≡ target-offsets (now (t .entry)) 0 parts) × (r ≤ most-records) × (length (now (out .exit)) ≡ most-records) ⌝ }
 {
-    let mut heads = [0u16; 64];
-    let mut orders = [0u16; 64];
+    let mut heads = [0u16; MOST_PARTS];
+    let mut orders = [0u16; MOST_PARTS];
     let k = target_heads(t, &mut heads);
     head_orders(t, &heads[..k], &mut orders);
     let mut q: u16 = 0;
@@ -157,7 +158,7 @@ pub fn targets(t: &[u8], parts: u16, out: &mut [u16]) -> usize
 }
 
 fn narrow(n: usize) -> u16
-    requires { ⌜ n ≤ 64 ⌝ }
+    requires { ⌜ n ≤ most-parts ⌝ }
     ensures { λ r. ⌜ r ≡ n ⌝ }
 {
     n as u16
@@ -179,8 +180,8 @@ pub fn markers(
     tgt: &mut [u16],
     tkeys: &mut [u32],
 ) -> Counts
-    requires { ⌜ Passes (now t) × (length (now t) ≤ 8192) × (parts ≡ length (unit (now t) .parts)) × (length (now src) ≡ 1024)
-        × (length (now skeys) ≡ 1024) × (length (now tgt) ≡ 1024) × (length (now tkeys) ≡ 1024) ⌝ }
+    requires { ⌜ Passes (now t) × (length (now t) ≤ most-bytes) × (parts ≡ length (unit (now t) .parts)) × (length (now src) ≡ most-records)
+        × (length (now skeys) ≡ most-records) × (length (now tgt) ≡ most-records) × (length (now tkeys) ≡ most-records) ⌝ }
     ensures { λ r. ⌜ Markers (now (t .entry)) (take (r .source) (now (src .exit))) (take (r .source) (now (skeys .exit)))
         (take (r .target) (now (tgt .exit))) (take (r .target) (now (tkeys .exit)))
         × (r .source ≡ length (take (r .source) (now (src .exit)))) × (r .source ≡ length (take (r .source) (now (skeys .exit))))

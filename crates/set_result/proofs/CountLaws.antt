@@ -10,7 +10,7 @@ use borrow.Author.Tests.{lt-ltb, le-ltb}
 use Rattle.xliff.specs.Item.{Content}
 use Rattle.xliff.specs.Unit.{Target, no-target, target, Part, XliffUnit, target-items}
 use Rattle.xliff.specs.Encode.{Record, content-records, target-records, part-records, unit-records, content-bytes, encode}
-use Rattle.xliff.specs.Parse.{unit}
+use Rattle.xliff.specs.Parse.{unit, most-bytes, most-parts, most-records}
 use Rattle.xliff.specs.Check.{too-large}
 use Rattle.xliff.specs.Focus.{with-parts}
 use Rattle.xliff.proofs.lists.Tests.{or-true, or-none}
@@ -20,7 +20,7 @@ use Rattle.walk.specs.Kept.{Of, Holds, Rest}
 use Rattle.walk.proofs.WalkLaws.{Next, rest-start, rest-end}
 use Rattle.part_at.specs.declared.PartPlace.{PartPlace}
 use Rattle.part_at.specs.Stands.{PartStands, TargetStands}
-use Rattle.record_count.proofs.CountLaws.{count, count-append, count-cons, unit-count}
+use Rattle.part_at.proofs.CountLaws.{count, count-append, count-cons, unit-count}
 use Rattle.set_result.specs.SetUnit.{set-part, unit-with, size-with}
 use Rattle.set_result.proofs.PieceLaws.{set-long}
 
@@ -95,26 +95,26 @@ module _ (u : XliffUnit) (st q : ℕ) (xs : Content) (b : List Part) (p : Part) 
 
 -- the test
 too-large-is : (room bytes records : ℕ) (v : XliffUnit) → bytes ≡ length (encode v) → records ≡ length (unit-records v)
-    → length (v .parts) ≤ 64
-    → ltb room bytes || (ltb 8192 bytes || ltb 1024 records) ≡ too-large room v
+    → length (v .parts) ≤ most-parts
+    → ltb room bytes || (ltb most-bytes bytes || ltb most-records records) ≡ too-large room v
 unfolding too-large
-too-large-is room bytes records v x y z = rw (x, y, le-ltb 64 (length (v .parts)) z, or-none (ltb 1024 (length (unit-records v))))
+too-large-is room bytes records v x y z = rw (x, y, le-ltb most-parts (length (v .parts)) z, or-none (ltb most-records (length (unit-records v))))
 
-long-is : (room : ℕ) (v : XliffUnit) → 8192 < length (encode v) → true ≡ too-large room v
+long-is : (room : ℕ) (v : XliffUnit) → most-bytes < length (encode v) → true ≡ too-large room v
 unfolding too-large
-long-is room v x = sym (rw (lt-ltb 8192 (length (encode v)) x) (or-true (ltb room (length (encode v)))))
+long-is room v x = sym (rw (lt-ltb most-bytes (length (encode v)) x) (or-true (ltb room (length (encode v)))))
 
 module _ (t : List ℕ) (k : Passes t) (place : PartPlace) (b : List Part) (p : Part) (a : List Part) (s : PartStands t b p a place)
     (c : List ℕ) (xs : Content) (is : content-bytes xs ≡ c) (st q room : ℕ) where
   abbrev v : XliffUnit
   v = unit-with (unit t) st q xs b p a
 
-  pub long-content : 8192 < length c → true ≡ too-large room v
+  pub long-content : most-bytes < length c → true ≡ too-large room v
   long-content l = long-is room v (omega (arith, set-long t b p a place s st q xs c is))
 
   pub counted : (all new old : ℕ) → all ≡ length (unit-records (unit t)) → new ≡ length (content-records xs)
       → old ≡ length (target-records (p .target))
-      → ltb room (size-with t place c) || (ltb 8192 (size-with t place c) || ltb 1024 (all + 1 + new - old)) ≡ too-large room v
+      → ltb room (size-with t place c) || (ltb most-bytes (size-with t place c) || ltb most-records (all + 1 + new - old)) ≡ too-large room v
   counted all new old x y z =
       too-large-is room (size-with t place c) (all + 1 + new - old) v (sym (set-long t b p a place s st q xs c is))
       (rw (x, y, z) (new-records (unit t) st q xs b p a (s .all)))

@@ -28,10 +28,10 @@ unit-with u st q xs b p a = with-parts u (b ++ (set-part st q xs p ∷ a))
 abbrev pub size-with : List ℕ → PartPlace → List ℕ → ℕ
 size-with t place s = place .target + 4 + length s + (length t - place .end)
 
-abbrev pub Room : List ℕ → PartPlace → List ℕ → List ℕ → Type 0
-Room t place s out = Standing t place × (size-with t place s ≤ length out)
+abbrev pub RoomSet : List ℕ → PartPlace → List ℕ → List ℕ → Type 0
+RoomSet t place s out = Standing t place × (size-with t place s ≤ length out)
 
-abbrev pub Wrote : List ℕ → PartPlace → ℕ → ℕ → List ℕ → List ℕ → ℕ → List ℕ → Type 0
-Wrote t place q st s out n last =
+abbrev pub WroteSet : List ℕ → PartPlace → ℕ → ℕ → List ℕ → List ℕ → ℕ → List ℕ → Type 0
+WroteSet t place q st s out n last =
     (b : List Part) (p : Part) (a : List Part) → PartStands t b p a place → (xs : Content) → content-bytes xs ≡ s
     → Written (encode (unit-with (unit t) st q xs b p a)) out n last

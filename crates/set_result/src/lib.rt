@@ -1,10 +1,12 @@
 // The table that a setting of a target results in, and its limits.
+use limits::MOST_BYTES;
+use limits::MOST_RECORDS;
 use part_at::PartPlace;
 ghost use Prim.Native.Nat.{_≤_};
 ghost use lib.ListN.{length};
 ghost use Rattle.cut.specs.Halves.{Some};
 ghost use Rattle.part_at.specs.Stands.{Checked};
-ghost use Rattle.set_result.specs.SetUnit.{Room, Wrote};
+ghost use Rattle.set_result.specs.SetUnit.{RoomSet, WroteSet};
 ghost use Rattle.set_result.specs.Counts.{RecordsAre, OldRecordsAre, TooLargeIs};
 
 // The table with this state of the part at `place`, and a target of this order and content.
@@ -16,8 +18,8 @@ pub fn put_set(
     state: u8,
     content: &[u8],
 ) -> usize
-    requires { ⌜ Room (now t) place (now content) (now out) ⌝ }
-    ensures { λ r. ⌜ Wrote (now (t .entry)) place order state (now (content .entry)) (now (out .entry)) r (now (out .exit)) ⌝ }
+    requires { ⌜ RoomSet (now t) place (now content) (now out) ⌝ }
+    ensures { λ r. ⌜ WroteSet (now (t .entry)) place order state (now (content .entry)) (now (out .entry)) r (now (out .exit)) ⌝ }
 {
     let e = place.end;
     let n = removed_target::put_to_source(out, t, place, state);
@@ -59,11 +61,11 @@ pub fn is_too_large(t: &[u8], place: PartPlace, content: &[u8], room: usize) -> 
     requires { ⌜ Checked (now t) place × Some (now content) ⌝ }
     ensures { λ r. ⌜ TooLargeIs (now (t .entry)) place (now (content .entry)) room r ⌝ }
 {
-    if 8192 < content.len() {
+    if MOST_BYTES < content.len() {
         return true;
     }
     let old = old_records(t, place);
-    let records = record_count::count_records(t) + 1 + count_records(content) - old;
+    let records = part_at::count_records(t) + 1 + count_records(content) - old;
     let bytes = place.target + marks::TARGET_WIDTH + content.len() + (t.len() - place.end);
-    (room < bytes) | ((8192 < bytes) | (1024 < records))
+    (room < bytes) | ((MOST_BYTES < bytes) | (MOST_RECORDS < records))
 }

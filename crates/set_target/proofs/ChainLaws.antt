@@ -18,7 +18,7 @@ use Rattle.outcomes.proofs.OutcomeLaws.{on-passed, applied, passed, then-assoc}
 use Rattle.result_rules.specs.Broken.{judged}
 use Rattle.set_result.specs.SetUnit.{unit-with}
 use Rattle.set_result.proofs.PieceLaws.{set-unit-is}
-use Rattle.set_target.specs.Ending.{ending}
+use Rattle.set_target.specs.Ending.{setting-ending}
 
 module _ (t : List ℕ) (n st : ℕ) (s : List ℕ) (room : ℕ) (e : table-refusal t ≡ none) where
   abbrev v : XliffUnit
@@ -89,8 +89,8 @@ module _ (t : List ℕ) (n st : ℕ) (s : List ℕ) (room : ℕ) (e : table-refu
           pub refused-19 : moved ≡ true → set-target t n st s room ≡ refuse (record { number = 19; place = 0 })
           refused-19 x = after-18 ∙ applied 19 moved _ (encode v) x
 
-          pub ends : moved ≡ false → (q : ℕ) → q ≡ new-order (unit t .parts) n (p .target) → set-target t n st s room ≡ ending room (unit-with (unit t) st q (content s) b p a)
+          pub ends : moved ≡ false → (q : ℕ) → q ≡ new-order (unit t .parts) n (p .target) → set-target t n st s room ≡ setting-ending room (unit-with (unit t) st q (content s) b p a)
           unfolding judged
           ends x q o =
               after-18 ∙ ap (λ (r : Option Refusal). unless r (encode v)) (passed 19 moved rest x)
-              ∙ ap (ending room) (set-unit-is (unit t) n st q (content s) b p a h o)
+              ∙ ap (setting-ending room) (set-unit-is (unit t) n st q (content s) b p a h o)

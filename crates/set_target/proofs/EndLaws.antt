@@ -9,14 +9,14 @@ use lib.ListN.{length, getD, take}
 use mir.Val.{Fits}
 use mir.Syntax.{w8}
 use Rattle.xliff.specs.Unit.{Part, XliffUnit}
-use Rattle.xliff.specs.Parse.{unit, content, content-fault}
+use Rattle.xliff.specs.Parse.{unit, content, content-fault, most-bytes}
 use Rattle.xliff.specs.Check.{table-refusal, too-large}
 use Rattle.xliff.specs.SetTarget.{state-fits}
 use Rattle.outcomes.proofs.OutcomeLaws.{fits}
 use Rattle.part_at.specs.declared.PartPlace.{PartPlace}
 use Rattle.part_at.specs.Stands.{PartStands}
 use Rattle.result_rules.proofs.WorkLaws.{Work, work-written}
-use Rattle.set_result.specs.SetUnit.{unit-with, size-with, Wrote}
+use Rattle.set_result.specs.SetUnit.{unit-with, size-with, WroteSet}
 use Rattle.set_result.specs.Counts.{TooLargeIs}
 use Rattle.set_target.proofs.GoodLaws.{content-holds, content-is, set-good, work-room}
 
@@ -31,10 +31,10 @@ module _ (t : List ℕ) (h : (i : ℕ) → Fits w8 (getD t i 0)) (w : table-refu
   size-is x e = sym (large b p a s (content c) (content-holds c k cf) st q) ∙ e
 
   module _ (e : r ≡ false) (f : state-fits (p .head) st ≡ true) where
-    pub scratch-room : size-with t place c ≤ 8192
+    pub scratch-room : size-with t place c ≤ most-bytes
     scratch-room = work-room t h w place b p a s c k cf st q f room (size-is false e)
 
-    pub set-work : (o l : List ℕ) (n : ℕ) → Wrote t place q st c o n l → Work v n l
+    pub set-work : (o l : List ℕ) (n : ℕ) → WroteSet t place q st c o n l → Work v n l
     set-work o l n wrote =
         work-written v o l n (set-good t h w place b p a s c k cf st q f room (size-is false e)) (wrote b p a s (content c) (content-is c k cf))
 

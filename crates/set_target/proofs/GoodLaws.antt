@@ -10,7 +10,7 @@ use mir.Val.{Fits}
 use mir.Syntax.{w8}
 use Rattle.xliff.specs.Unit.{Part}
 use Rattle.xliff.specs.Encode.{content-bytes}
-use Rattle.xliff.specs.Parse.{unit, content, content-fault}
+use Rattle.xliff.specs.Parse.{unit, content, content-fault, most-bytes}
 use Rattle.xliff.specs.Check.{Valid, table-refusal, too-large}
 use Rattle.xliff.specs.Focus.{with-parts}
 use Rattle.xliff.specs.SetTarget.{state-fits}
@@ -59,5 +59,5 @@ module _ (t : List ℕ) (h : (i : ℕ) → Fits w8 (getD t i 0)) (w : table-refu
       record { letter = before .letter; first = x; others = xs; parts = shown; good = good-parts; size = l .size; few = l .records; few-parts = l .parts }
 
   -- the scratch array has room for it
-  pub work-room : size-with t place c ≤ 8192
+  pub work-room : size-with t place c ≤ most-bytes
   work-room = omega (arith, set-long t b p a place s st q (content c) c (content-is c k cf), set-good .size)

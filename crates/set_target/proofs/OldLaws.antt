@@ -19,8 +19,9 @@ use Rattle.walk.specs.Kept.{Holds}
 use Rattle.heads.specs.Heads.{is-segment}
 use Rattle.part_at.specs.declared.PartPlace.{PartPlace}
 use Rattle.part_at.specs.Stands.{PartStands, TargetStands}
-use Rattle.part_contents.proofs.HoldLaws.{source-of, target-there, TargetThere, holds-source}
+use Rattle.part_at.proofs.HoldLaws.{source-of, target-there, TargetThere, holds-source}
 use Rattle.xliff.proofs.unit.Result.{small-table}
+use Rattle.xliff.specs.Parse.{most-bytes}
 use Rattle.removed_target.proofs.RemovedLaws.{in-order}
 use Rattle.set_target.specs.Stages.{old-from, old-to}
 use Rattle.table.proofs.WidthLaws.{bytes-known}
@@ -37,7 +38,7 @@ old-by t place b p a s o no-target (f, k, e) u = rw f (record { ordered = s .sou
 old-by t place b p a s o (target q xs) (f, k, hs, ts) u = rw f (record { ordered = u f .ordered; within = u f .within; holds = u f .holds })
 
 module _ (t : List ℕ) (h : (i : ℕ) → Fits w8 (getD t i 0)) (w : table-refusal t ≡ none) (place : PartPlace) (b : List Part) (p : Part) (a : List Part) (s : PartStands t b p a place) where
-  pub target-small : place .target ≤ 8192
+  pub target-small : place .target ≤ most-bytes
   target-small = let z = in-order t b p a place s in omega (arith, small-table t w)
 
   pub old-there : (from to : ℕ) → from ≡ old-from place → to ≡ old-to place → OldThere t from to (old-content (p .source) (p .target))

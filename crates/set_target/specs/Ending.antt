@@ -19,8 +19,8 @@ use Rattle.part_at.specs.Stands.{PartStands}
 use Rattle.set_result.specs.SetUnit.{unit-with}
 
 -- what "15. Then 6 to 10" leaves of a result
-abbrev pub ending : ℕ → XliffUnit → Outcome
-ending room v = judged room v (fault-6-to-10 (v .parts))
+abbrev pub setting-ending : ℕ → XliffUnit → Outcome
+setting-ending room v = judged room v (fault-6-to-10 (v .parts))
 
 -- the check passes the table, at the place stands a part that the state fits, and the bytes s are a content
 abbrev pub SetAt : List ℕ → PartPlace → ℕ → List ℕ → Type 0
@@ -30,4 +30,4 @@ SetAt t place st s =
 abbrev pub Ended : List ℕ → PartPlace → ℕ → ℕ → List ℕ → Answer → List ℕ → List ℕ → Type 0
 Ended t place q st s r out last =
     (b : List Part) (p : Part) (a : List Part) → PartStands t b p a place → state-fits (p .head) st ≡ true
-    → Answers (ending (length out) (unit-with (unit t) st q (content s) b p a)) r out last
+    → Answers (setting-ending (length out) (unit-with (unit t) st q (content s) b p a)) r out last

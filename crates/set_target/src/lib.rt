@@ -1,5 +1,6 @@
 // Set target: document 01, "Set target (part, state, content)".
 use answers::Answer;
+use limits::MOST_BYTES;
 use part_at::FoundPart;
 use part_at::PartPlace;
 ghost use mathlib.Core.Path.{_≡_};
@@ -7,13 +8,13 @@ ghost use mathlib.Core.Option.{none};
 ghost use Prim.Native.Nat.{_≤_};
 ghost use lib.ListN.{length};
 ghost use Rattle.xliff.specs.Answer.{unless, answer};
-ghost use Rattle.xliff.specs.Parse.{unit, content-fault};
+ghost use Rattle.xliff.specs.Parse.{unit, content-fault, most-bytes};
 ghost use Rattle.xliff.specs.Check.{table-refusal, check};
 ghost use Rattle.xliff.specs.Focus.{focus};
 ghost use Rattle.xliff.specs.SetTarget.{set-target};
 ghost use Rattle.answers.specs.Answers.{answer-meaning};
 ghost use Rattle.outcomes.specs.Outcomes.{Answers};
-ghost use Rattle.part_at.specs.Stands.{PartFound, Placed};
+ghost use Rattle.part_at.specs.Stands.{PartFound, CheckedPart};
 ghost use Rattle.set_target.specs.Ending.{SetAt, Ended};
 ghost use Rattle.set_target.specs.Stages.{old-from, old-to, StateFits, Fitting};
 
@@ -32,7 +33,7 @@ fn set_ended(
     if set_result::is_too_large(table, place, content, out.len()) {
         return Answer::Refused(15, 0);
     }
-    let mut work = [0u8; 8192];
+    let mut work = [0u8; MOST_BYTES];
     let n = set_result::put_set(&mut work, table, place, order, state, content);
     let k = result_rules::rules_6_to_10(&work[..n]);
     if k == 0 {
@@ -43,7 +44,7 @@ fn set_ended(
 
 // Where the old content begins: the target's, without target the source's.
 fn old_from(place: PartPlace) -> usize
-    requires { ⌜ place .target ≤ 8192 ⌝ }
+    requires { ⌜ place .target ≤ most-bytes ⌝ }
     ensures { λ r. ⌜ r ≡ old-from place ⌝ }
 {
     if place.has_target {
@@ -125,7 +126,7 @@ fn set_there(
     content: &[u8],
     out: &mut [u8],
 ) -> Answer
-    requires { ⌜ Placed (now table) n place ⌝ }
+    requires { ⌜ CheckedPart (now table) n place ⌝ }
     ensures { λ r. ⌜ Answers (set-target (now (table .entry)) n state (now (content .entry)) (length (now (out .entry)))) r (now (out .entry)) (now (out .exit)) ⌝ }
 {
     if !state_fits(place, state) {

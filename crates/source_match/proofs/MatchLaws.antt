@@ -69,17 +69,17 @@ module _ (id : ℕ) (x : View) (y : spec.Item) where
 
 -- the first items, and what a search among them may pass over
 module _ (p : spec.Item → Bool) (t : List ℕ) where
-  pub items-last : (os : List ℕ) (i : ℕ) → i < length os → any p (itemsAt t (take (suc i) os)) ≡ p (item-at t (getD os i 0)) || any p (itemsAt t (take i os))
+  pub items-last : (markers : List ℕ) (i : ℕ) → i < length markers → any p (itemsAt t (take (suc i) markers)) ≡ p (item-at t (getD markers i 0)) || any p (itemsAt t (take i markers))
   unfolding any itemsAt
   items-last [] i h = absurd (omega arith)
-  items-last (o ∷ os) zero h = refl
-  items-last (o ∷ os) (suc i) h = ap (λ (b : Bool). p (item-at t o) || b) (items-last os i (omega arith)) ∙ or-swap (p (item-at t o)) (p (item-at t (getD os i 0))) (any p (itemsAt t (take i os)))
+  items-last (o ∷ markers) zero h = refl
+  items-last (o ∷ markers) (suc i) h = ap (λ (b : Bool). p (item-at t o) || b) (items-last markers i (omega arith)) ∙ or-swap (p (item-at t o)) (p (item-at t (getD markers i 0))) (any p (itemsAt t (take i markers)))
 
-  any-at : (os : List ℕ) → any p (itemsAt t os) ≡ any (λ (o : ℕ). p (item-at t o)) os
+  any-at : (markers : List ℕ) → any p (itemsAt t markers) ≡ any (λ (o : ℕ). p (item-at t o)) markers
   unfolding any itemsAt
   any-at [] = refl
-  any-at (o ∷ os) = ap (λ (b : Bool). p (item-at t o) || b) (any-at os)
+  any-at (o ∷ markers) = ap (λ (b : Bool). p (item-at t o) || b) (any-at markers)
 
-  pub items-past : (os : List ℕ) (q : ℕ → Bool) → ((k : ℕ) → k < length os → q k ≡ false → p (item-at t (getD os k 0)) ≡ false)
-      → (i : ℕ) → i ≤ length os → any p (itemsAt t (take i os)) ≡ any p (itemsAt t (take (previous q i) os))
-  items-past os q wider i h = any-at (take i os) ∙ any-past (λ (o : ℕ). p (item-at t o)) q os wider i h ∙ sym (any-at (take (previous q i) os))
+  pub items-past : (markers : List ℕ) (q : ℕ → Bool) → ((k : ℕ) → k < length markers → q k ≡ false → p (item-at t (getD markers k 0)) ≡ false)
+      → (i : ℕ) → i ≤ length markers → any p (itemsAt t (take i markers)) ≡ any p (itemsAt t (take (previous q i) markers))
+  items-past markers q wider i h = any-at (take i markers) ∙ any-past (λ (o : ℕ). p (item-at t o)) q markers wider i h ∙ sym (any-at (take (previous q i) markers))

@@ -19,13 +19,13 @@ use Rattle.sequences.specs.Marks.{offsets}
 use Rattle.views.specs.Views.{itemsAt}
 use Rattle.views.proofs.ViewLaws.{items-at}
 
-pub rule-10-is : (t src tgt : List ℕ) (p q : Place) → Passes t → src ≡ offsets true 0 t → tgt ≡ target-offsets t 0 (length (unit t .parts))
-    → refusal-at 10 p ≡ first-of 10 (blamed bad-10-source [] (placed-at t src)) → refusal-at 10 q ≡ toward 10 p (blamed (bad-10-target (itemsAt t src)) [] (placed-at t tgt))
+pub rule-10-is : (t source-markers target-markers : List ℕ) (p q : Place) → Passes t → source-markers ≡ offsets true 0 t → target-markers ≡ target-offsets t 0 (length (unit t .parts))
+    → refusal-at 10 p ≡ first-of 10 (blamed bad-10-source [] (placed-at t source-markers)) → refusal-at 10 q ≡ toward 10 p (blamed (bad-10-target (itemsAt t source-markers)) [] (placed-at t target-markers))
     → refusal-at 10 q ≡ fault-10 (unit t .parts)
 unfolding offsets
-rule-10-is t src tgt p q s e f g h =
+rule-10-is t source-markers target-markers p q s e f g h =
     h
-    ∙ sym (first-two 10 p (blamed bad-10-source [] (placed-at t src)) (blamed (bad-10-target (itemsAt t src)) [] (placed-at t tgt)) g)
+    ∙ sym (first-two 10 p (blamed bad-10-source [] (placed-at t source-markers)) (blamed (bad-10-target (itemsAt t source-markers)) [] (placed-at t target-markers)) g)
     ∙ ap₂ (λ (a b : List ℕ). first-of 10
     (blamed bad-10-source [] (placed-at t a)
     ++ blamed (bad-10-target (itemsAt t a)) [] (placed-at t b)))

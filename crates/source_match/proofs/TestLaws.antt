@@ -61,13 +61,13 @@ module _ (x : spec.Item) where
       rw (any-each _ _ class-same source, any-each _ _ starts-same source, any-each _ _ agrees-same source, any-each _ _ copies-same source, code-same x, of-same)
 
 -- the code's tests of the marker at an index
-module _ (t os : List ℕ) (i : ℕ) (v : View) (b : Bool) (e : v ≡ viewOf (marker-at t os i)) where
-  pub ten-source-bad : b ≡ badTenSource v → b ≡ bad-10-source (earlier (marker-at t os) i) (marker-at t os i) (items (placed-at t (drop (suc i) os)))
+module _ (t markers : List ℕ) (i : ℕ) (v : View) (b : Bool) (e : v ≡ viewOf (marker-at t markers i)) where
+  pub ten-source-bad : b ≡ badTenSource v → b ≡ bad-10-source (earlier (marker-at t markers) i) (marker-at t markers i) (items (placed-at t (drop (suc i) markers)))
   ten-source-bad f =
-      f ∙ ap badTenSource e ∙ ten-source-is (earlier (marker-at t os) i) (marker-at t os i) (items (placed-at t (drop (suc i) os)))
+      f ∙ ap badTenSource e ∙ ten-source-is (earlier (marker-at t markers) i) (marker-at t markers i) (items (placed-at t (drop (suc i) markers)))
 
   pub ten-target-bad : (source : Content) → b ≡ badTenTarget source v
-      → b ≡ bad-10-target source (earlier (marker-at t os) i) (marker-at t os i) (items (placed-at t (drop (suc i) os)))
+      → b ≡ bad-10-target source (earlier (marker-at t markers) i) (marker-at t markers i) (items (placed-at t (drop (suc i) markers)))
   ten-target-bad source f =
       f ∙ ap (badTenTarget source) e
-      ∙ ten-target-is (marker-at t os i) source (earlier (marker-at t os) i) (items (placed-at t (drop (suc i) os)))
+      ∙ ten-target-is (marker-at t markers i) source (earlier (marker-at t markers) i) (items (placed-at t (drop (suc i) markers)))

@@ -73,4 +73,4 @@ badTenTarget source x =
 
 -- the items at some offsets: their keys, linked by the groups of their ids
 abbrev pub LinkedItems : List ℕ → List ℕ → List ℕ → List ℕ → List ℕ → Type 0
-LinkedItems t os keys links heads = (keys ≡ keysAt t os) × Linked keys links × Headed keys heads × (length os ≤ length links) × (length heads ≡ 256)
+LinkedItems t markers keys links heads = (keys ≡ keysAt t markers) × Linked keys links × Headed keys heads × (length markers ≤ length links) × (length heads ≡ 256)

@@ -1,7 +1,8 @@
 // Rule 10: codes of targets match those of the source.
-// Throughout, `t` is the table, `src` and `tgt` the offsets of the markers of the source and the target sequence,
-// `skeys` and `tkeys` their keys. `links` and `heads` link keys by the groups of their ids (`id_links`).
+// Throughout, `t` is the table, `source_markers` and `target_markers` the offsets of the markers of the source and the target sequence,
+// `source_keys` and `target_keys` their keys. `links` and `heads` link keys by the groups of their ids (`id_links`).
 use answers::Place;
+use limits::MOST_RECORDS;
 use views::View;
 ghost use mathlib.Core.Path.{_≡_};
 ghost use mathlib.Core.List.{[]};
@@ -69,19 +70,19 @@ fn one_more(t: &[u8], at: usize, k: u32, id: u16, x: View, found: Matches) -> Ma
     }
 }
 
-// The tests of all items whose id is `id`; `os` and `keys` are the items' offsets and keys.
+// The tests of all items whose id is `id`; `markers` and `keys` are the items' offsets and keys.
 // Linear in the items of the group of `id`, from the last on along the links.
 fn matches_by(
     t: &[u8],
-    os: &[u16],
+    markers: &[u16],
     keys: &[u32],
     links: &[u16],
     heads: &[u16],
     id: u16,
     x: View,
 ) -> Matches
-    requires { ⌜ LinkedItems (now t) (now os) (now keys) (now links) (now heads) ⌝ }
-    ensures { λ r. ⌜ r ≡ matchesIn id x (itemsAt (now (t .entry)) (now (os .entry))) ⌝ }
+    requires { ⌜ LinkedItems (now t) (now markers) (now keys) (now links) (now heads) ⌝ }
+    ensures { λ r. ⌜ r ≡ matchesIn id x (itemsAt (now (t .entry)) (now (markers .entry))) ⌝ }
 {
     let mut found = Matches {
         starts: false,
@@ -93,7 +94,7 @@ fn matches_by(
     let mut j = marks::wide(heads[g]);
     while 0 < j {
         let i = j - 1;
-        found = one_more(t, marks::wide(os[i]), keys[i], id, x, found);
+        found = one_more(t, marks::wide(markers[i]), keys[i], id, x, found);
         j = marks::wide(links[i]);
     }
     found
@@ -107,37 +108,51 @@ fn bad_copy_in_source(x: View) -> bool
 }
 
 // Whether a target item names an id that it is a copy of, and no item of the source is one that it may copy.
-fn copies_none(t: &[u8], os: &[u16], keys: &[u32], links: &[u16], heads: &[u16], x: View) -> bool
-    requires { ⌜ LinkedItems (now t) (now os) (now keys) (now links) (now heads) ⌝ }
-    ensures { λ r. ⌜ r ≡ copiesNone (itemsAt (now (t .entry)) (now (os .entry))) x ⌝ }
+fn copies_none(
+    t: &[u8],
+    markers: &[u16],
+    keys: &[u32],
+    links: &[u16],
+    heads: &[u16],
+    x: View,
+) -> bool
+    requires { ⌜ LinkedItems (now t) (now markers) (now keys) (now links) (now heads) ⌝ }
+    ensures { λ r. ⌜ r ≡ copiesNone (itemsAt (now (t .entry)) (now (markers .entry))) x ⌝ }
 {
     if x.of == 0 {
         return false;
     }
-    let m = matches_by(t, os, keys, links, heads, x.of, x);
+    let m = matches_by(t, markers, keys, links, heads, x.of, x);
     !m.copies
 }
 
 // Rule 10 of a target item.
-fn bad_in_target(t: &[u8], os: &[u16], keys: &[u32], links: &[u16], heads: &[u16], x: View) -> bool
-    requires { ⌜ LinkedItems (now t) (now os) (now keys) (now links) (now heads) ⌝ }
-    ensures { λ r. ⌜ r ≡ badTenTarget (itemsAt (now (t .entry)) (now (os .entry))) x ⌝ }
+fn bad_in_target(
+    t: &[u8],
+    markers: &[u16],
+    keys: &[u32],
+    links: &[u16],
+    heads: &[u16],
+    x: View,
+) -> bool
+    requires { ⌜ LinkedItems (now t) (now markers) (now keys) (now links) (now heads) ⌝ }
+    ensures { λ r. ⌜ r ≡ badTenTarget (itemsAt (now (t .entry)) (now (markers .entry))) x ⌝ }
 {
-    let m = matches_by(t, os, keys, links, heads, x.id, x);
+    let m = matches_by(t, markers, keys, links, heads, x.id, x);
     let code = views::is_code(x);
     (m.differs | ((code & m.starts) & (!m.agrees | !(x.of == 0))))
-        | (code & copies_none(t, os, keys, links, heads, x))
+        | (code & copies_none(t, markers, keys, links, heads, x))
 }
 
 // Rule 10 over the markers of the source sequence.
-fn ten_source(t: &[u8], os: &[u16], keys: &[u32]) -> Place
-    requires { ⌜ now keys ≡ keysAt (now t) (now os) ⌝ }
-    ensures { λ r. ⌜ refusal-at 10 r ≡ first-of 10 (blamed bad-10-source [] (placed-at (now (t .entry)) (now (os .entry)))) ⌝ }
+fn ten_source(t: &[u8], markers: &[u16], keys: &[u32]) -> Place
+    requires { ⌜ now keys ≡ keysAt (now t) (now markers) ⌝ }
+    ensures { λ r. ⌜ refusal-at 10 r ≡ first-of 10 (blamed bad-10-source [] (placed-at (now (t .entry)) (now (markers .entry)))) ⌝ }
 {
     let mut best = Place::Nowhere;
     let mut i = 0;
-    while i < os.len() {
-        let at = marks::wide(os[i]);
+    while i < markers.len() {
+        let at = marks::wide(markers[i]);
         best = answers::lower_if(bad_copy_in_source(keys::view_at(t, at, keys[i])), best, at);
         i += 1;
     }
@@ -149,23 +164,30 @@ fn ten_source(t: &[u8], os: &[u16], keys: &[u32]) -> Place
 // group.
 fn ten_target(
     t: &[u8],
-    src: &[u16],
-    skeys: &[u32],
+    source_markers: &[u16],
+    source_keys: &[u32],
     links: &[u16],
     heads: &[u16],
-    os: &[u16],
+    markers: &[u16],
     keys: &[u32],
     start: Place,
 ) -> Place
-    requires { ⌜ LinkedItems (now t) (now src) (now skeys) (now links) (now heads) × (now keys ≡ keysAt (now t) (now os)) ⌝ }
-    ensures { λ r. ⌜ refusal-at 10 r ≡ toward 10 start (blamed (bad-10-target (itemsAt (now (t .entry)) (now (src .entry)))) [] (placed-at (now (t .entry)) (now (os .entry)))) ⌝ }
+    requires { ⌜ LinkedItems (now t) (now «source_markers») (now «source_keys») (now links) (now heads) × (now keys ≡ keysAt (now t) (now markers)) ⌝ }
+    ensures { λ r. ⌜ refusal-at 10 r ≡ toward 10 start (blamed (bad-10-target (itemsAt (now (t .entry)) (now («source_markers» .entry)))) [] (placed-at (now (t .entry)) (now (markers .entry)))) ⌝ }
 {
     let mut best = start;
     let mut i = 0;
-    while i < os.len() {
-        let at = marks::wide(os[i]);
+    while i < markers.len() {
+        let at = marks::wide(markers[i]);
         best = answers::lower_if(
-            bad_in_target(t, src, skeys, links, heads, keys::view_at(t, at, keys[i])),
+            bad_in_target(
+                t,
+                source_markers,
+                source_keys,
+                links,
+                heads,
+                keys::view_at(t, at, keys[i]),
+            ),
             best,
             at,
         );
@@ -175,21 +197,27 @@ fn ten_target(
 }
 
 // Rule 10, by the offsets and the keys of the markers of both sequences.
-pub fn rule_10(t: &[u8], src: &[u16], skeys: &[u32], tgt: &[u16], tkeys: &[u32]) -> Place
-    requires { ⌜ Markers (now t) (now src) (now skeys) (now tgt) (now tkeys) ⌝ }
+pub fn rule_10(
+    t: &[u8],
+    source_markers: &[u16],
+    source_keys: &[u32],
+    target_markers: &[u16],
+    target_keys: &[u32],
+) -> Place
+    requires { ⌜ Markers (now t) (now «source_markers») (now «source_keys») (now «target_markers») (now «target_keys») ⌝ }
     ensures { λ r. ⌜ refusal-at 10 r ≡ fault-10 (unit (now (t .entry)) .parts) ⌝ }
 {
-    let mut links = [0u16; 1024];
+    let mut links = [0u16; MOST_RECORDS];
     let mut heads = [0u16; 256];
-    id_links::link_before(skeys, &mut links, &mut heads);
+    id_links::link_before(source_keys, &mut links, &mut heads);
     ten_target(
         t,
-        src,
-        skeys,
+        source_markers,
+        source_keys,
         &links,
         &heads,
-        tgt,
-        tkeys,
-        ten_source(t, src, skeys),
+        target_markers,
+        target_keys,
+        ten_source(t, source_markers, source_keys),
     )
 }

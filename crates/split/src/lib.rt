@@ -10,7 +10,7 @@ ghost use Rattle.xliff.specs.Focus.{focus};
 ghost use Rattle.xliff.specs.Parse.{unit};
 ghost use Rattle.xliff.specs.Split.{split};
 ghost use Rattle.answers.specs.Answers.{answer-meaning};
-ghost use Rattle.part_at.specs.Stands.{PartFound, Placed};
+ghost use Rattle.part_at.specs.Stands.{PartFound, CheckedPart};
 ghost use Rattle.outcomes.specs.Outcomes.{Answers};
 
 // 12, 13, 14, 15, then the bytes: every refusal is decided before the first store.
@@ -18,44 +18,44 @@ fn split_there(
     table: &[u8],
     n: usize,
     place: PartPlace,
-    cut: usize,
-    tcut: usize,
+    source_cut: usize,
+    target_cut: usize,
     id: u16,
     out: &mut [u8],
 ) -> Answer
-    requires { ⌜ Placed (now table) n place ⌝ }
-    ensures { λ r. ⌜ Answers (split (now (table .entry)) n cut tcut id (length (now (out .entry)))) r (now (out .entry)) (now (out .exit)) ⌝ }
+    requires { ⌜ CheckedPart (now table) n place ⌝ }
+    ensures { λ r. ⌜ Answers (split (now (table .entry)) n «source_cut» «target_cut» id (length (now (out .entry)))) r (now (out .entry)) (now (out .exit)) ⌝ }
 {
     if part_refusals::is_closed(table, place) {
         return Answer::Refused(12, 0);
     }
-    if split_limits::is_bad_cut(table, place, cut, tcut) {
+    if split_limits::is_bad_cut(table, place, source_cut, target_cut) {
         return Answer::Refused(13, 0);
     }
     if part_refusals::is_taken(table, id) {
         return Answer::Refused(14, 0);
     }
     let room = out.len();
-    if split_limits::is_too_large(table, n, place, cut, tcut, id, room) {
+    if split_limits::is_too_large(table, n, place, source_cut, target_cut, id, room) {
         return Answer::Refused(15, 0);
     }
-    Answer::Accepted(split_result::put_split(out, table, place, cut, tcut, id))
+    Answer::Accepted(split_result::put_split(out, table, place, source_cut, target_cut, id))
 }
 
 fn split_found(
     table: &[u8],
     n: usize,
     found: FoundPart,
-    cut: usize,
-    tcut: usize,
+    source_cut: usize,
+    target_cut: usize,
     id: u16,
     out: &mut [u8],
 ) -> Answer
     requires { ⌜ (table-refusal (now table) ≡ none) × PartFound (now table) (focus (unit (now table) .parts) n) found ⌝ }
-    ensures { λ r. ⌜ Answers (split (now (table .entry)) n cut tcut id (length (now (out .entry)))) r (now (out .entry)) (now (out .exit)) ⌝ }
+    ensures { λ r. ⌜ Answers (split (now (table .entry)) n «source_cut» «target_cut» id (length (now (out .entry)))) r (now (out .entry)) (now (out .exit)) ⌝ }
 {
     match found {
-        FoundPart::At(place) => split_there(table, n, place, cut, tcut, id, out),
+        FoundPart::At(place) => split_there(table, n, place, source_cut, target_cut, id, out),
         FoundPart::Missing => Answer::Refused(11, 0),
     }
 }
@@ -64,21 +64,21 @@ fn split_checked(
     table: &[u8],
     a: Answer,
     n: usize,
-    cut: usize,
-    tcut: usize,
+    source_cut: usize,
+    target_cut: usize,
     id: u16,
     out: &mut [u8],
 ) -> Answer
     requires { ⌜ answer-meaning a ≡ check (now table) ⌝ }
-    ensures { λ r. ⌜ Answers (split (now (table .entry)) n cut tcut id (length (now (out .entry)))) r (now (out .entry)) (now (out .exit)) ⌝ }
+    ensures { λ r. ⌜ Answers (split (now (table .entry)) n «source_cut» «target_cut» id (length (now (out .entry)))) r (now (out .entry)) (now (out .exit)) ⌝ }
 {
     match a {
         Answer::Accepted(_) => split_found(
             table,
             n,
             part_at::part_at(table, n),
-            cut,
-            tcut,
+            source_cut,
+            target_cut,
             id,
             out,
         ),

@@ -23,7 +23,7 @@ not-most k n = by (leb k n) refl
     by true e = sym (le-ltb n k (leb-true k n e))
     by false e = sym (lt-ltb n k (leb-false k n e))
 
-pub bad-cut-is : (p : Part) (cut tcut : ℕ) (x y : Bool) → x ≡ leb (length (p .source)) cut → y ≡ ltb (length (target-items (p .target))) tcut
-    → eqb cut 0 || (x || y) ≡ bad-cut p cut tcut
+pub bad-cut-is : (p : Part) (source-cut target-cut : ℕ) (x y : Bool) → x ≡ leb (length (p .source)) source-cut → y ≡ ltb (length (target-items (p .target))) target-cut
+    → eqb source-cut 0 || (x || y) ≡ bad-cut p source-cut target-cut
 unfolding bad-cut
-bad-cut-is p cut tcut x y e f = ap₂ (λ (u w : Bool). eqb cut 0 || (u || w)) e f
+bad-cut-is p source-cut target-cut x y e f = ap₂ (λ (u w : Bool). eqb source-cut 0 || (u || w)) e f

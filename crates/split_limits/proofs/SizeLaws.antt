@@ -11,7 +11,7 @@ use mir.Syntax.{w8}
 use Rattle.xliff.specs.Bytes.{gather}
 use Rattle.xliff.specs.Unit.{Target, no-target, target, Part, XliffUnit}
 use Rattle.xliff.specs.Encode.{head-bytes, spell, content-records, target-records, part-records, unit-records, encode}
-use Rattle.xliff.specs.Parse.{unit}
+use Rattle.xliff.specs.Parse.{unit, most-bytes, most-records}
 use Rattle.xliff.specs.Check.{too-large}
 use Rattle.xliff.specs.Focus.{here, focus, order-target, order-part, order-parts, with-parts}
 use Rattle.xliff.specs.Split.{first-half, second-half, split-order, split-focus, split-unit}
@@ -26,11 +26,11 @@ use Rattle.halves_of_part.specs.Parts.{halves}
 use Rattle.split_result.proofs.ResultLaws.{order-or, pieces-long}
 use Rattle.split_result.proofs.UnitLaws.{result-long}
 use Rattle.part_at.specs.declared.PartPlace.{PartPlace}
-use Rattle.part_at.specs.Stands.{PartStands, Placed}
+use Rattle.part_at.specs.Stands.{PartStands, CheckedPart}
 use Rattle.split_limits.specs.Added.{PartAdded, AddedIs}
 use Rattle.table.proofs.WidthLaws.{bytes-known}
 use Rattle.parts.proofs.CheckLaws.{table-of}
-use Rattle.record_count.proofs.CountLaws.{count, count-append, count-cons, unit-count}
+use Rattle.part_at.proofs.CountLaws.{count, count-append, count-cons, unit-count}
 
 -- new orders keep their number
 target-same : (f : ℕ → ℕ) (g : Target) → length (target-records (order-target f g)) ≡ length (target-records g)
@@ -129,16 +129,16 @@ head-long t place b p a s = sym (slice-long t (place .head) (place .source) (s .
 
 -- the test
 too-large-is : (room bytes records parts : ℕ) (u : XliffUnit) → bytes ≡ length (encode u) → records ≡ length (unit-records u) → parts ≡ length (u .parts)
-    → ltb room bytes || (ltb 8192 bytes || (ltb 1024 records || ltb 64 parts)) ≡ too-large room u
+    → ltb room bytes || (ltb most-bytes bytes || (ltb most-records records || ltb 64 parts)) ≡ too-large room u
 unfolding too-large
 too-large-is room bytes records parts u x y z = rw (x, y, z)
 
-module _ (t : List ℕ) (h : (i : ℕ) → Fits w8 (getD t i 0)) (n : ℕ) (place : PartPlace) (pl : Placed t n place) (k j m : ℕ) (ad : AddedIs t place k j m) where
+module _ (t : List ℕ) (h : (i : ℕ) → Fits w8 (getD t i 0)) (n : ℕ) (place : PartPlace) (pl : CheckedPart t n place) (k j m : ℕ) (ad : AddedIs t place k j m) where
   pub few-added : m ≤ 3
   few-added = let (v, st) = pl in let (b, p, a, e, s) = st in ad b p a s .few
 
   pub too-large-at : (id room records parts : ℕ) → records ≡ length (unit-records (unit t)) → parts ≡ length (unit t .parts)
-      → ltb room (length t + (place .source - place .head) + 4 * m) || (ltb 8192 (length t + (place .source - place .head) + 4 * m) || (ltb 1024 (records + 1 + m) || ltb 64 (parts + 1)))
+      → ltb room (length t + (place .source - place .head) + 4 * m) || (ltb most-bytes (length t + (place .source - place .head) + 4 * m) || (ltb most-records (records + 1 + m) || ltb 64 (parts + 1)))
       ≡ too-large room (split-unit (unit t) n k j id)
   too-large-at id room records parts x y =
       let (v, st) = pl in

@@ -27,4 +27,4 @@ abbrev pub TargetShort : List ℕ → PartPlace → ℕ → Bool → Type 0
 TargetShort t place k r = (b : List Part) (p : Part) (a : List Part) → PartStands t b p a place → r ≡ ltb (length (target-items (p .target))) k
 
 abbrev pub BadCutIs : List ℕ → PartPlace → ℕ → ℕ → Bool → Type 0
-BadCutIs t place cut tcut r = (b : List Part) (p : Part) (a : List Part) → PartStands t b p a place → r ≡ bad-cut p cut tcut
+BadCutIs t place source-cut target-cut r = (b : List Part) (p : Part) (a : List Part) → PartStands t b p a place → r ≡ bad-cut p source-cut target-cut

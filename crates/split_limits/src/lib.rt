@@ -1,4 +1,7 @@
 // What split refuses of its cuts and of its result: 13 and 15.
+use limits::MOST_BYTES;
+use limits::MOST_PARTS;
+use limits::MOST_RECORDS;
 use part_at::PartPlace;
 ghost use mathlib.Core.Path.{_≡_};
 ghost use Prim.Native.Nat.{_+_, _-_, _*_, _<_};
@@ -7,7 +10,7 @@ ghost use Rattle.xliff.specs.Parse.{unit};
 ghost use Rattle.xliff.specs.Check.{too-large};
 ghost use Rattle.xliff.specs.Split.{split-unit};
 ghost use Rattle.cut.specs.Halves.{Some};
-ghost use Rattle.part_at.specs.Stands.{Checked, Placed};
+ghost use Rattle.part_at.specs.Stands.{Checked, CheckedPart};
 ghost use Rattle.split_limits.specs.Cuts.{MoreIs, EnoughIs, SourceShort, TargetShort, BadCutIs};
 ghost use Rattle.split_limits.specs.Added.{AddedIn, SourceAddedIs, TargetAddedIs, AddedIs};
 
@@ -54,13 +57,13 @@ fn target_short(t: &[u8], place: PartPlace, cut: usize) -> bool
 }
 
 // 13: whether the source is not cut between two items, or the target beyond its end.
-pub fn is_bad_cut(t: &[u8], place: PartPlace, cut: usize, tcut: usize) -> bool
+pub fn is_bad_cut(t: &[u8], place: PartPlace, source_cut: usize, target_cut: usize) -> bool
     requires { ⌜ Checked (now t) place ⌝ }
-    ensures { λ r. ⌜ BadCutIs (now (t .entry)) place cut tcut r ⌝ }
+    ensures { λ r. ⌜ BadCutIs (now (t .entry)) place «source_cut» «target_cut» r ⌝ }
 {
-    let source = source_short(t, place, cut);
-    let target = target_short(t, place, tcut);
-    (cut == 0) | (source | target)
+    let source = source_short(t, place, source_cut);
+    let target = target_short(t, place, target_cut);
+    (source_cut == 0) | (source | target)
 }
 
 // The records that a cut adds to a content: one inside a text.
@@ -98,12 +101,12 @@ fn target_added(t: &[u8], place: PartPlace, cut: usize) -> usize
 }
 
 // The records that a split adds to a part, besides the second head.
-fn added(t: &[u8], place: PartPlace, cut: usize, tcut: usize) -> usize
+fn added(t: &[u8], place: PartPlace, source_cut: usize, target_cut: usize) -> usize
     requires { ⌜ Checked (now t) place ⌝ }
-    ensures { λ r. ⌜ AddedIs (now (t .entry)) place cut tcut r ⌝ }
+    ensures { λ r. ⌜ AddedIs (now (t .entry)) place «source_cut» «target_cut» r ⌝ }
 {
-    let source = source_added(t, place, cut);
-    let target = target_added(t, place, tcut);
+    let source = source_added(t, place, source_cut);
+    let target = target_added(t, place, target_cut);
     source + target
 }
 
@@ -112,17 +115,17 @@ pub fn is_too_large(
     t: &[u8],
     n: usize,
     place: PartPlace,
-    cut: usize,
-    tcut: usize,
+    source_cut: usize,
+    target_cut: usize,
     id: u16,
     room: usize,
 ) -> bool
-    requires { ⌜ Placed (now t) n place ⌝ }
-    ensures { λ r. ⌜ r ≡ too-large room (split-unit (unit (now (t .entry))) n cut tcut id) ⌝ }
+    requires { ⌜ CheckedPart (now t) n place ⌝ }
+    ensures { λ r. ⌜ r ≡ too-large room (split-unit (unit (now (t .entry))) n «source_cut» «target_cut» id) ⌝ }
 {
-    let more = added(t, place, cut, tcut);
-    let records = record_count::count_records(t) + 1 + more;
+    let more = added(t, place, source_cut, target_cut);
+    let records = part_at::count_records(t) + 1 + more;
     let parts = orders::count_parts(t) + 1;
     let bytes = t.len() + (place.source - place.head) + marks::TEXT_WIDTH * more;
-    (room < bytes) | ((8192 < bytes) | ((1024 < records) | (64 < parts)))
+    (room < bytes) | ((MOST_BYTES < bytes) | ((MOST_RECORDS < records) | (MOST_PARTS < parts)))
 }

@@ -11,8 +11,8 @@ use Rattle.xliff.specs.Check.{table-refusal}
 use Rattle.table.proofs.WidthLaws.{bytes-known}
 use Rattle.parts.specs.Parts.{GoodTarget}
 use Rattle.parts.proofs.PlaceLaws.{good-there}
-use Rattle.part_contents.proofs.HoldLaws.{holds-source}
-use Rattle.part_contents.proofs.TargetLaws.{target-slice}
+use Rattle.part_at.proofs.HoldLaws.{holds-source}
+use Rattle.part_at.proofs.TargetLaws.{target-slice}
 use Rattle.halves_of_part.specs.Parts.{PartIs, Rises}
 use Rattle.part_at.specs.declared.PartPlace.{PartPlace}
 use Rattle.part_at.specs.Stands.{PartStands}

@@ -15,7 +15,7 @@ use Rattle.xliff.specs.Split.{split-order, first-half, second-half, split-unit}
 use Rattle.writer.specs.Pieces.{Written}
 use Rattle.halves_of_part.specs.Parts.{halves}
 use Rattle.part_at.specs.declared.PartPlace.{PartPlace}
-use Rattle.part_at.specs.Stands.{PartStands, Placed}
+use Rattle.part_at.specs.Stands.{PartStands, CheckedPart}
 
 -- the order of the part's target; without one 65535, above which no order is
 abbrev pub rises-above : PartPlace → ℕ
@@ -27,28 +27,28 @@ split-parts k j id b p a =
     spell (gather part-records (order-parts (split-order (p .target)) b ++ (first-half k j p ∷ second-half k j id p ∷ order-parts (split-order (p .target)) a)))
 
 -- a valid table in which a part stands at a place, and room for its halves; they are written
-abbrev pub RoomPart : ℕ → ℕ → ℕ → List ℕ → PartPlace → List ℕ → Type 0
-RoomPart k j id t place out =
+abbrev pub RoomSplitPart : ℕ → ℕ → ℕ → List ℕ → PartPlace → List ℕ → Type 0
+RoomSplitPart k j id t place out =
     (table-refusal t ≡ none) × (b : List Part) × (p : Part) × (a : List Part) × PartStands t b p a place × (length (halves k j id p) ≤ length out)
 
-abbrev pub WrotePart : ℕ → ℕ → ℕ → List ℕ → PartPlace → List ℕ → ℕ → List ℕ → Type 0
-WrotePart k j id t place out n l =
+abbrev pub WroteSplitPart : ℕ → ℕ → ℕ → List ℕ → PartPlace → List ℕ → ℕ → List ℕ → Type 0
+WroteSplitPart k j id t place out n l =
     (b : List Part) (p : Part) (a : List Part) → PartStands t b p a place → Written (halves k j id p) out n l
 
 -- the same for all parts
-abbrev pub RoomParts : ℕ → ℕ → ℕ → List ℕ → PartPlace → List ℕ → Type 0
-RoomParts k j id t place out =
+abbrev pub RoomSplitParts : ℕ → ℕ → ℕ → List ℕ → PartPlace → List ℕ → Type 0
+RoomSplitParts k j id t place out =
     (table-refusal t ≡ none) × (b : List Part) × (p : Part) × (a : List Part) × PartStands t b p a place × (length (split-parts k j id b p a) ≤ length out)
 
-abbrev pub WroteParts : ℕ → ℕ → ℕ → List ℕ → PartPlace → List ℕ → ℕ → List ℕ → Type 0
-WroteParts k j id t place out n l =
+abbrev pub WroteSplitParts : ℕ → ℕ → ℕ → List ℕ → PartPlace → List ℕ → ℕ → List ℕ → Type 0
+WroteSplitParts k j id t place out n l =
     (b : List Part) (p : Part) (a : List Part) → PartStands t b p a place
     → Written (split-parts k j id b p a) out n l
 
 -- and for the table; the part at the place has the number n
-abbrev pub Room : ℕ → ℕ → ℕ → List ℕ → PartPlace → List ℕ → Type 0
-Room k j id t place out = (n : ℕ) × Placed t n place × (length (encode (split-unit (unit t) n k j id)) ≤ length out)
+abbrev pub RoomSplit : ℕ → ℕ → ℕ → List ℕ → PartPlace → List ℕ → Type 0
+RoomSplit k j id t place out = (n : ℕ) × CheckedPart t n place × (length (encode (split-unit (unit t) n k j id)) ≤ length out)
 
-abbrev pub Wrote : ℕ → ℕ → ℕ → List ℕ → PartPlace → List ℕ → ℕ → List ℕ → Type 0
-Wrote k j id t place out m l =
-    (n : ℕ) → Placed t n place → Written (encode (split-unit (unit t) n k j id)) out m l
+abbrev pub WroteSplit : ℕ → ℕ → ℕ → List ℕ → PartPlace → List ℕ → ℕ → List ℕ → Type 0
+WroteSplit k j id t place out m l =
+    (n : ℕ) → CheckedPart t n place → Written (encode (split-unit (unit t) n k j id)) out m l

@@ -14,7 +14,7 @@ use Rattle.xliff.specs.Text.{utf8, utf8s}
 use Rattle.xliff.specs.Answer.{Refusal, refusal, unless, answer, accepted, refused}
 use Rattle.xliff.specs.Encode as encode
 use Rattle.xliff.specs.Encode.{text-run, inline, record-bytes}
-use Rattle.xliff.specs.Parse.{on, fault, read, Entry, is-broken, walk, bad-item, bad-text, inline-step, unit-step, part-step, outer-step, step, is-part, may-end, first-bad, entries}
+use Rattle.xliff.specs.Parse.{on, fault, read, Entry, is-broken, walk, bad-item, bad-text, inline-step, unit-step, part-step, outer-step, step, is-part, may-end, first-bad, entries, most-records}
 use Rattle.xliff.proofs.records.Parse.{good-length}
 use Rattle.xliff.proofs.lists.Tests.{or-left}
 use Rattle.xliff.proofs.records.Read.{read-sound}
@@ -293,7 +293,7 @@ pub scan-end : (t : List ℕ) (s : State) (at : ℕ) → length t ≤ at → Res
 unfolding first-bad walk
 scan-end t s at h = rw (drop-of-length-le t h, end-same (s .stage))
 
-pub scan-start : (t : List ℕ) (st : Stage) → fault-from st t ≡ Rest t (record { stage = st; left = 1024; parts = 64 }) 0
+pub scan-start : (t : List ℕ) (st : Stage) → fault-from st t ≡ Rest t (record { stage = st; left = most-records; parts = 64 }) 0
 unfolding entries
 scan-start t st = refl
 

@@ -45,14 +45,14 @@ accepted-none t n (some r) e = clash e
 
 -- 1 to 4 are met: what the rules rely on, and the check is that of the rules
 pub rules-left : (t : List ℕ) (n : ℕ) → Bytes t → spec.accepted n ≡ answer (unless (applies 1 (ltb most-bytes (length t)) then table-fault t) t)
-    → Passes t × (length t ≤ 8192) × (n ≡ length t) × (table-refusal t ≡ (fault-5 (unit t .parts) then fault-6-to-10 (unit t .parts)))
+    → Passes t × (length t ≤ most-bytes) × (n ≡ length t) × (table-refusal t ≡ (fault-5 (unit t .parts) then fault-6-to-10 (unit t .parts)))
 unfolding table-refusal _then_ applies
 rules-left t n h e =
     let a = accepted-none t n _ e in
     let l = then-left _ _ (a .0) in
     let r = then-right (applies 1 (ltb most-bytes (length t))) _ (a .0) in
     let b = applies-none 1 _ l in
-    (passes t h r, omega (arith, ltb-false 8192 (length t) b), a .1, rw (b, r) refl)
+    (passes t h r, omega (arith, ltb-false most-bytes (length t) b), a .1, rw (b, r) refl)
 
 pub rules-answer : (t : List ℕ) (a : spec.Answer) → table-refusal t ≡ (fault-5 (unit t .parts) then fault-6-to-10 (unit t .parts))
     → a ≡ answer (unless (fault-5 (unit t .parts) then fault-6-to-10 (unit t .parts)) t) → a ≡ check t

@@ -1,8 +1,9 @@
 // The check of a table: the numbers 1 to 10. A rule is tried only where all before it are met.
-// Throughout, `t` is the table, `src` and `tgt` the offsets of the markers of the source and the target sequence,
-// `skeys` and `tkeys` their keys.
+// Throughout, `t` is the table, `source_markers` and `target_markers` the offsets of the markers of the source and the target sequence,
+// `source_keys` and `target_keys` their keys.
 use answers::Answer;
 use answers::Place;
+use limits::MOST_RECORDS;
 ghost use mathlib.Core.Path.{_≡_};
 ghost use Prim.Native.Nat.{_≤_};
 ghost use lib.ListN.{length};
@@ -18,20 +19,20 @@ ghost use Rattle.sequences.specs.Markers.{Markers};
 fn from_9(
     t: &[u8],
     len: usize,
-    src: &[u16],
-    skeys: &[u32],
-    tgt: &[u16],
-    tkeys: &[u32],
+    source_markers: &[u16],
+    source_keys: &[u32],
+    target_markers: &[u16],
+    target_keys: &[u32],
     nine: Place,
 ) -> Answer
-    requires { ⌜ Markers (now t) (now src) (now skeys) (now tgt) (now tkeys) × (len ≡ length (now t)) × (refusal-at 9 nine ≡ fault-9 (unit (now t) .parts)) ⌝ }
+    requires { ⌜ Markers (now t) (now «source_markers») (now «source_keys») (now «target_markers») (now «target_keys») × (len ≡ length (now t)) × (refusal-at 9 nine ≡ fault-9 (unit (now t) .parts)) ⌝ }
     ensures { λ r. ⌜ answer-meaning r ≡ answer (unless (fault-9 (unit (now (t .entry)) .parts) then fault-10 (unit (now (t .entry)) .parts)) (now (t .entry))) ⌝ }
 {
     match nine {
         Place::At(at) => Answer::Refused(9, at),
         Place::Nowhere => answers::refused_by(
             10,
-            source_match::rule_10(t, src, skeys, tgt, tkeys),
+            source_match::rule_10(t, source_markers, source_keys, target_markers, target_keys),
             Answer::Accepted(len),
         ),
     }
@@ -40,13 +41,13 @@ fn from_9(
 fn from_8(
     t: &[u8],
     len: usize,
-    src: &[u16],
-    skeys: &[u32],
-    tgt: &[u16],
-    tkeys: &[u32],
+    source_markers: &[u16],
+    source_keys: &[u32],
+    target_markers: &[u16],
+    target_keys: &[u32],
     eight: Place,
 ) -> Answer
-    requires { ⌜ Markers (now t) (now src) (now skeys) (now tgt) (now tkeys) × (len ≡ length (now t)) × (refusal-at 8 eight ≡ fault-8 (unit (now t) .parts)) ⌝ }
+    requires { ⌜ Markers (now t) (now «source_markers») (now «source_keys») (now «target_markers») (now «target_keys») × (len ≡ length (now t)) × (refusal-at 8 eight ≡ fault-8 (unit (now t) .parts)) ⌝ }
     ensures { λ r. ⌜ answer-meaning r ≡ answer (unless (fault-8 (unit (now (t .entry)) .parts)
         then fault-9 (unit (now (t .entry)) .parts) then fault-10 (unit (now (t .entry)) .parts)) (now (t .entry))) ⌝ }
 {
@@ -55,11 +56,11 @@ fn from_8(
         Place::Nowhere => from_9(
             t,
             len,
-            src,
-            skeys,
-            tgt,
-            tkeys,
-            overlap::rule_9(t, src, skeys, tgt, tkeys),
+            source_markers,
+            source_keys,
+            target_markers,
+            target_keys,
+            overlap::rule_9(t, source_markers, source_keys, target_markers, target_keys),
         ),
     }
 }
@@ -67,13 +68,13 @@ fn from_8(
 fn from_7(
     t: &[u8],
     len: usize,
-    src: &[u16],
-    skeys: &[u32],
-    tgt: &[u16],
-    tkeys: &[u32],
+    source_markers: &[u16],
+    source_keys: &[u32],
+    target_markers: &[u16],
+    target_keys: &[u32],
     seven: Place,
 ) -> Answer
-    requires { ⌜ Markers (now t) (now src) (now skeys) (now tgt) (now tkeys) × (len ≡ length (now t)) × (refusal-at 7 seven ≡ fault-7 (unit (now t) .parts)) ⌝ }
+    requires { ⌜ Markers (now t) (now «source_markers») (now «source_keys») (now «target_markers») (now «target_keys») × (len ≡ length (now t)) × (refusal-at 7 seven ≡ fault-7 (unit (now t) .parts)) ⌝ }
     ensures { λ r. ⌜ answer-meaning r ≡ answer (unless (fault-7 (unit (now (t .entry)) .parts) then fault-8 (unit (now (t .entry)) .parts)
         then fault-9 (unit (now (t .entry)) .parts) then fault-10 (unit (now (t .entry)) .parts)) (now (t .entry))) ⌝ }
 {
@@ -82,11 +83,11 @@ fn from_7(
         Place::Nowhere => from_8(
             t,
             len,
-            src,
-            skeys,
-            tgt,
-            tkeys,
-            letters::rule_8(t, src, skeys, tgt, tkeys),
+            source_markers,
+            source_keys,
+            target_markers,
+            target_keys,
+            letters::rule_8(t, source_markers, source_keys, target_markers, target_keys),
         ),
     }
 }
@@ -94,44 +95,58 @@ fn from_7(
 fn by_markers(
     t: &[u8],
     len: usize,
-    src: &[u16],
-    skeys: &[u32],
-    tgt: &[u16],
-    tkeys: &[u32],
+    source_markers: &[u16],
+    source_keys: &[u32],
+    target_markers: &[u16],
+    target_keys: &[u32],
 ) -> Answer
-    requires { ⌜ Markers (now t) (now src) (now skeys) (now tgt) (now tkeys) × (len ≡ length (now t)) ⌝ }
+    requires { ⌜ Markers (now t) (now «source_markers») (now «source_keys») (now «target_markers») (now «target_keys») × (len ≡ length (now t)) ⌝ }
     ensures { λ r. ⌜ answer-meaning r ≡ answer (unless (fault-7 (unit (now (t .entry)) .parts) then fault-8 (unit (now (t .entry)) .parts)
         then fault-9 (unit (now (t .entry)) .parts) then fault-10 (unit (now (t .entry)) .parts)) (now (t .entry))) ⌝ }
 {
     from_7(
         t,
         len,
-        src,
-        skeys,
-        tgt,
-        tkeys,
-        partners::rule_7(t, src, skeys, tgt, tkeys),
+        source_markers,
+        source_keys,
+        target_markers,
+        target_keys,
+        partners::rule_7(t, source_markers, source_keys, target_markers, target_keys),
     )
 }
 
 // Rules 7 to 10, with the markers of both sequences.
 fn by_sequences(t: &[u8], parts: usize, len: usize) -> Answer
-    requires { ⌜ Passes (now t) × (length (now t) ≤ 8192) × (parts ≡ length (unit (now t) .parts)) × (len ≡ length (now t)) ⌝ }
+    requires { ⌜ Passes (now t) × (length (now t) ≤ most-bytes) × (parts ≡ length (unit (now t) .parts)) × (len ≡ length (now t)) ⌝ }
     ensures { λ r. ⌜ answer-meaning r ≡ answer (unless (fault-7 (unit (now (t .entry)) .parts) then fault-8 (unit (now (t .entry)) .parts)
         then fault-9 (unit (now (t .entry)) .parts) then fault-10 (unit (now (t .entry)) .parts)) (now (t .entry))) ⌝ }
 {
-    let mut src = [0u16; 1024];
-    let mut tgt = [0u16; 1024];
-    let mut skeys = [0u32; 1024];
-    let mut tkeys = [0u32; 1024];
-    let counts = sequences::markers(t, parts, &mut src, &mut skeys, &mut tgt, &mut tkeys);
+    let mut source_markers = [0u16; MOST_RECORDS];
+    let mut target_markers = [0u16; MOST_RECORDS];
+    let mut source_keys = [0u32; MOST_RECORDS];
+    let mut target_keys = [0u32; MOST_RECORDS];
+    let counts = sequences::markers(
+        t,
+        parts,
+        &mut source_markers,
+        &mut source_keys,
+        &mut target_markers,
+        &mut target_keys,
+    );
     let k = counts.source;
     let m = counts.target;
-    by_markers(t, len, &src[..k], &skeys[..k], &tgt[..m], &tkeys[..m])
+    by_markers(
+        t,
+        len,
+        &source_markers[..k],
+        &source_keys[..k],
+        &target_markers[..m],
+        &target_keys[..m],
+    )
 }
 
 fn from_6(t: &[u8], parts: usize, len: usize, six: Place) -> Answer
-    requires { ⌜ Passes (now t) × (length (now t) ≤ 8192) × (parts ≡ length (unit (now t) .parts)) × (len ≡ length (now t))
+    requires { ⌜ Passes (now t) × (length (now t) ≤ most-bytes) × (parts ≡ length (unit (now t) .parts)) × (len ≡ length (now t))
         × (refusal-at 6 six ≡ fault-6 (unit (now t) .parts)) ⌝ }
     ensures { λ r. ⌜ answer-meaning r ≡ answer (unless (fault-6-to-10 (unit (now (t .entry)) .parts)) (now (t .entry))) ⌝ }
 {
@@ -143,14 +158,14 @@ fn from_6(t: &[u8], parts: usize, len: usize, six: Place) -> Answer
 
 // Rules 6 to 10 alone, on a table that passes 1 to 4. Accepted: with its length.
 pub fn rules_6_to_10(t: &[u8]) -> Answer
-    requires { ⌜ Passes (now t) × (length (now t) ≤ 8192) ⌝ }
+    requires { ⌜ Passes (now t) × (length (now t) ≤ most-bytes) ⌝ }
     ensures { λ r. ⌜ answer-meaning r ≡ answer (unless (fault-6-to-10 (unit (now (t .entry)) .parts)) (now (t .entry))) ⌝ }
 {
     from_6(t, orders::count_parts(t), t.len(), ids::rule_6(t))
 }
 
 fn from_5(t: &[u8], parts: usize, len: usize, five: Place) -> Answer
-    requires { ⌜ Passes (now t) × (length (now t) ≤ 8192) × (parts ≡ length (unit (now t) .parts)) × (len ≡ length (now t))
+    requires { ⌜ Passes (now t) × (length (now t) ≤ most-bytes) × (parts ≡ length (unit (now t) .parts)) × (len ≡ length (now t))
         × (refusal-at 5 five ≡ fault-5 (unit (now t) .parts)) ⌝ }
     ensures { λ r. ⌜ answer-meaning r ≡ answer (unless (fault-5 (unit (now (t .entry)) .parts) then fault-6-to-10 (unit (now (t .entry)) .parts)) (now (t .entry))) ⌝ }
 {
@@ -161,7 +176,7 @@ fn from_5(t: &[u8], parts: usize, len: usize, five: Place) -> Answer
 }
 
 fn by_rules(t: &[u8], len: usize) -> Answer
-    requires { ⌜ Passes (now t) × (length (now t) ≤ 8192) × (len ≡ length (now t)) ⌝ }
+    requires { ⌜ Passes (now t) × (length (now t) ≤ most-bytes) × (len ≡ length (now t)) ⌝ }
     ensures { λ r. ⌜ answer-meaning r ≡ answer (unless (fault-5 (unit (now (t .entry)) .parts) then fault-6-to-10 (unit (now (t .entry)) .parts)) (now (t .entry))) ⌝ }
 {
     let parts = orders::count_parts(t);

@@ -3,14 +3,14 @@ use part_at::PartPlace;
 ghost use mathlib.Core.Path.{_≡_};
 ghost use Prim.Native.Nat.{_≤_};
 ghost use Rattle.xliff.specs.Unit.{orders};
-ghost use Rattle.xliff.specs.Parse.{unit};
+ghost use Rattle.xliff.specs.Parse.{unit, most-parts};
 ghost use Rattle.xliff.specs.SetTarget.{lowest-unused};
 ghost use Rattle.places.specs.Passes.{Passes};
 ghost use Rattle.target_order.specs.Order.{NewOrderIs};
 
 // The lowest of 1 to `n` that no target has for its order, else the next.
 fn lowest_unused(t: &[u8], n: u16) -> u16
-    requires { ⌜ Passes (now t) × (n ≤ 64) ⌝ }
+    requires { ⌜ Passes (now t) × (n ≤ most-parts) ⌝ }
     ensures { λ r. ⌜ r ≡ lowest-unused 1 n (orders (unit (now (t .entry)) .parts)) ⌝ }
 {
     let mut q = 1;

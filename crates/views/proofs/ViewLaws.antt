@@ -62,10 +62,10 @@ view-known t at r (same-record p q) = read-view (body (drop at t)) r ∙ ap (λ 
 view-known t at _ (some-text {w} e) = read-view [] (Good Text w) ∙ ap viewOf texts-alike ∙ ap (λ x. viewOf (item-in x)) (sym e)
 
 -- the items at some offsets
-pub items-at : (t os : List ℕ) → items (placed-at t os) ≡ itemsAt t os
+pub items-at : (t markers : List ℕ) → items (placed-at t markers) ≡ itemsAt t markers
 unfolding items placed-at itemsAt
 items-at t [] = refl
-items-at t (o ∷ os) = ap {B = Content} (λ l. item-at t o ∷ l) (items-at t os)
+items-at t (o ∷ markers) = ap {B = Content} (λ l. item-at t o ∷ l) (items-at t markers)
 
 -- "a code or half of a pair"
 pub code-same : (x : spec.Item) → isCode (viewOf x) ≡ is-code x

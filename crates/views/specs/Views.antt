@@ -35,7 +35,7 @@ viewOf x =
     }
 
 unfoldable pub itemsAt : List ℕ → List ℕ → List spec.Item
-itemsAt t os = map (item-at t) os
+itemsAt t markers = map (item-at t) markers
 
 -- The code's cases; ViewLaws has that they are viewOf
 abbrev pub nothing : View

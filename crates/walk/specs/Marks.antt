@@ -61,5 +61,5 @@ unfoldable pub has-other : ℕ → ℕ → Content → Bool
 has-other k i ys = any (is-other k i) ys
 
 -- the answer r for bytes c, whatever content they are of
-abbrev pub Answers : List ℕ → ℕ → ℕ → Bool → Type 0
-Answers c k i r = (rs : List Record) → Of c rs → r ≡ has-other k i (items rs)
+abbrev pub FoundOther : List ℕ → ℕ → ℕ → Bool → Type 0
+FoundOther c k i r = (rs : List Record) → Of c rs → r ≡ has-other k i (items rs)

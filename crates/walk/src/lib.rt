@@ -7,7 +7,7 @@ ghost use lib.ListN.{length, drop};
 ghost use lib.Dec.{eqb};
 ghost use Rattle.walk.specs.Kept.{Fair};
 ghost use Rattle.marks.specs.Marks.{meaning};
-ghost use Rattle.walk.specs.Marks.{number, kindOf, kindAt, opposite, Answers};
+ghost use Rattle.walk.specs.Marks.{number, kindOf, kindAt, opposite, FoundOther};
 ghost use Rattle.walk.specs.Points.{lead, leads, further, sought};
 ghost use Rattle.walk.specs.Place.{PassedOver, passText, One, PassedOne, PlaceOf};
 
@@ -48,7 +48,7 @@ fn other_at(c: &[u8], at: usize, kind: u8, id: u16) -> bool
 // Whether a content has the other half of a record of that kind and id.
 pub fn has_other(c: &[u8], kind: u8, id: u16) -> bool
     requires { ⌜ Fair (now c) ⌝ }
-    ensures { λ r. ⌜ Answers (now (c .entry)) kind id r ⌝ }
+    ensures { λ r. ⌜ FoundOther (now (c .entry)) kind id r ⌝ }
 {
     let mut at: usize = 0;
     while at < c.len() {

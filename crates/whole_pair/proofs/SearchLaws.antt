@@ -74,46 +74,46 @@ module _ (i : ℕ) (x : ℕ → Item) where
       by false k ih = ih (omega (arith, k))
 
 -- the same on the keys of the markers
-module _ (t os : List ℕ) (id e : ℕ) (h : e ≡ next (startsAt (keysAt t os) id) 0 (length (keysAt t os))) where
-  all-items : itemsAt t os ≡ run (marker-at t os) 0 (length os)
-  all-items = sym (items-at t os) ∙ items-run t os (length os) 0 (omega arith)
+module _ (t markers : List ℕ) (id e : ℕ) (h : e ≡ next (startsAt (keysAt t markers) id) 0 (length (keysAt t markers))) where
+  all-items : itemsAt t markers ≡ run (marker-at t markers) 0 (length markers)
+  all-items = sym (items-at t markers) ∙ items-run t markers (length markers) 0 (omega arith)
 
-  by-items : next (λ k. starts id (marker-at t os k)) 0 (length os) ≡ e
+  by-items : next (λ k. starts id (marker-at t markers k)) 0 (length markers) ≡ e
   by-items =
       sym
-      (h ∙ ap (next (startsAt (keysAt t os) id) 0) (length-keys t os)
-      ∙ next-same (startsAt (keysAt t os) id) (λ k. starts id (marker-at t os k)) 0 (length os)
-      (λ k g l. ap (λ (m : ℕ). eqb (halfKey m) 1 && eqb (idKey m) id) (key-at t os k (omega (arith, l)))
-      ∙ ap₂ (λ (a b : ℕ). eqb a 1 && eqb b id) (half-key (marker-at t os k)) (id-key (marker-at t os k))))
+      (h ∙ ap (next (startsAt (keysAt t markers) id) 0) (length-keys t markers)
+      ∙ next-same (startsAt (keysAt t markers) id) (λ k. starts id (marker-at t markers k)) 0 (length markers)
+      (λ k g l. ap (λ (m : ℕ). eqb (halfKey m) 1 && eqb (idKey m) id) (key-at t markers k (omega (arith, l)))
+      ∙ ap₂ (λ (a b : ℕ). eqb a 1 && eqb b id) (half-key (marker-at t markers k)) (id-key (marker-at t markers k))))
 
-  pub none-started : length (keysAt t os) ≤ e → Missing ≡ pairOf (find-whole id (itemsAt t os))
+  pub none-started : length (keysAt t markers) ≤ e → Missing ≡ pairOf (find-whole id (itemsAt t markers))
   unfolding pairOf
   none-started l =
-      ap pairOf (sym (ap (find-whole id) all-items ∙ no-start id (marker-at t os) (length os) 0 (omega (arith, l, length-keys t os, by-items))))
+      ap pairOf (sym (ap (find-whole id) all-items ∙ no-start id (marker-at t markers) (length markers) 0 (omega (arith, l, length-keys t markers, by-items))))
 
-  module _ (l : e < length (keysAt t os)) (j : ℕ) (g : j ≡ half-after (keysAt t os) e) where
-    here : e < length os
-    here = omega (arith, l, length-keys t os)
+  module _ (l : e < length (keysAt t markers)) (j : ℕ) (g : j ≡ half-after (keysAt t markers) e) where
+    here : e < length markers
+    here = omega (arith, l, length-keys t markers)
 
-    the-start : find-whole id (itemsAt t os) ≡ ended-by (marker-at t os e) (nearest (other-half (marker-at t os e)) (run (marker-at t os) (suc e) (length os - suc e)))
+    the-start : find-whole id (itemsAt t markers) ≡ ended-by (marker-at t markers e) (nearest (other-half (marker-at t markers e)) (run (marker-at t markers) (suc e) (length markers - suc e)))
     the-start =
-        ap (find-whole id) all-items ∙ whole-from id (marker-at t os) (length os) 0 e by-items (omega (arith, here))
-        ∙ ap (λ (m : ℕ). ended-by (marker-at t os e) (nearest (other-half (marker-at t os e)) (run (marker-at t os) (suc e) m))) (let z : 0 + length os - suc e ≡ length os - suc e = omega arith in z)
+        ap (find-whole id) all-items ∙ whole-from id (marker-at t markers) (length markers) 0 e by-items (omega (arith, here))
+        ∙ ap (λ (m : ℕ). ended-by (marker-at t markers e) (nearest (other-half (marker-at t markers e)) (run (marker-at t markers) (suc e) m))) (let z : 0 + length markers - suc e ≡ length markers - suc e = omega arith in z)
 
-    the-next : next (λ k. other-half (marker-at t os e) (marker-at t os k)) (suc e) (length os - suc e) ≡ j
-    the-next = sym (g ∙ after-is t os e here)
+    the-next : next (λ k. other-half (marker-at t markers e) (marker-at t markers k)) (suc e) (length markers - suc e) ≡ j
+    the-next = sym (g ∙ after-is t markers e here)
 
-    pub none-ended : length (keysAt t os) ≤ j → Missing ≡ pairOf (find-whole id (itemsAt t os))
+    pub none-ended : length (keysAt t markers) ≤ j → Missing ≡ pairOf (find-whole id (itemsAt t markers))
     unfolding pairOf ended-by
     none-ended k =
         ap pairOf
         (sym
         (the-start
-        ∙ ap (ended-by (marker-at t os e))
-        (nearest-none (other-half (marker-at t os e)) (marker-at t os) (length os - suc e) (suc e) (omega (arith, k, here, length-keys t os, the-next)))))
+        ∙ ap (ended-by (marker-at t markers e))
+        (nearest-none (other-half (marker-at t markers e)) (marker-at t markers) (length markers - suc e) (suc e) (omega (arith, k, here, length-keys t markers, the-next)))))
 
-    pub complete : j < length (keysAt t os) → (v w : View) → v ≡ viewOf (marker-at t os e) → w ≡ viewOf (marker-at t os j) → (b : Bool) → b ≡ not (eqb (w .reorder) (end-letter (v .reorder)))
-        → Complete (v .pform) b ≡ pairOf (find-whole id (itemsAt t os))
+    pub complete : j < length (keysAt t markers) → (v w : View) → v ≡ viewOf (marker-at t markers e) → w ≡ viewOf (marker-at t markers j) → (b : Bool) → b ≡ not (eqb (w .reorder) (end-letter (v .reorder)))
+        → Complete (v .pform) b ≡ pairOf (find-whole id (itemsAt t markers))
     unfolding pairOf ended-by unfit-letter viewOf
     complete k v w a c b d =
         ap₂ Complete (ap (λ (z : View). z .pform) a)
@@ -121,5 +121,5 @@ module _ (t os : List ℕ) (id e : ℕ) (h : e ≡ next (startsAt (keysAt t os) 
         ∙ ap pairOf
         (sym
         (the-start
-        ∙ ap (ended-by (marker-at t os e))
-        (nearest-some (other-half (marker-at t os e)) (marker-at t os) (length os - suc e) (suc e) j the-next (omega (arith, k, here, length-keys t os)))))
+        ∙ ap (ended-by (marker-at t markers e))
+        (nearest-some (other-half (marker-at t markers e)) (marker-at t markers) (length markers - suc e) (suc e) j the-next (omega (arith, k, here, length-keys t markers)))))

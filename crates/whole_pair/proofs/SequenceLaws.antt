@@ -17,7 +17,7 @@ use Rattle.xliff.specs.Rewrite.{ended-by, find-whole, side-sequence}
 use Rattle.xliff.proofs.rules.Sequences.{items-target}
 use Rattle.places.specs.Passes.{Passes}
 use Rattle.places.specs.Found.{markers}
-use Rattle.places.specs.Markers.{is-marked, marked, placed-at, target-offsets}
+use Rattle.places.specs.Markers.{is-marked, only-markers, placed-at, target-offsets}
 use Rattle.places.proofs.Tests.{targets-back, source-items, length-located, marked-items}
 use Rattle.views.specs.Views.{itemsAt}
 use Rattle.views.proofs.ViewLaws.{items-at}
@@ -35,8 +35,8 @@ no-start-half (pair h w f) e = absurd (true≢false e)
 no-start-half (annotation-start w i l) e = absurd (true≢false e)
 no-start-half (annotation-end w i) e = absurd (true≢false e)
 
-whole-marked : (i : ℕ) (xs : Content) → find-whole i xs ≡ find-whole i (marked xs)
-unfolding find-whole marked keep
+whole-marked : (i : ℕ) (xs : Content) → find-whole i xs ≡ find-whole i (only-markers xs)
+unfolding find-whole only-markers keep
 whole-marked i [] = refl
 whole-marked i (x ∷ xs) = by (is-marked x) refl (whole-marked i xs)
   where
@@ -51,10 +51,10 @@ module _ (t : List ℕ) (p : Passes t) (i : ℕ) where
   unfolding offsets
   source-whole = ap (find-whole i) (sym (items-at t (offsets true 0 t)) ∙ sym (source-items t p)) ∙ sym (whole-marked i (source-sequence (unit t .parts)))
 
-  target-items-are : marked (target-sequence (unit t .parts)) ≡ itemsAt t (target-offsets t 0 (length (unit t .parts)))
+  target-items-are : only-markers (target-sequence (unit t .parts)) ≡ itemsAt t (target-offsets t 0 (length (unit t .parts)))
   unfolding located placed-target-sequence
   target-items-are =
-      ap marked (sym (items-target 3 (unit t .parts)))
+      ap only-markers (sym (items-target 3 (unit t .parts)))
       ∙ sym (marked-items (placed-target-sequence (located (unit t .parts))))
       ∙ ap items (sym (targets-back t p 0 (length (located (unit t .parts)))))
       ∙ ap (λ (n : ℕ). items (placed-at t (target-offsets t 0 n))) (length-located (unit t .parts))

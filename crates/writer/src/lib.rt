@@ -5,14 +5,14 @@ ghost use Prim.Native.Nat.{_+_, _<_, _≤_};
 ghost use lib.ListN.{length};
 ghost use Rattle.writer.specs.Pieces.{lead, overlay, numberBytes, markBytes};
 
-// All of `src` at the head of `out`.
-pub fn put(out: &mut [u8], src: &[u8]) -> usize
-    requires { ⌜ length (now src) ≤ length (now out) ⌝ }
-    ensures { λ r. ⌜ (r ≡ length (now (src .entry))) × (now (out .exit) ≡ lead (now (src .entry)) (now (out .entry))) ⌝ }
+// All of `bytes` at the head of `out`.
+pub fn put(out: &mut [u8], bytes: &[u8]) -> usize
+    requires { ⌜ length (now bytes) ≤ length (now out) ⌝ }
+    ensures { λ r. ⌜ (r ≡ length (now (bytes .entry))) × (now (out .exit) ≡ lead (now (bytes .entry)) (now (out .entry))) ⌝ }
 {
     let mut i: usize = 0;
-    while i < src.len() {
-        out[i] = src[i];
+    while i < bytes.len() {
+        out[i] = bytes[i];
         i += 1;
     }
     i

@@ -12,13 +12,13 @@ use Rattle.contents.proofs.bar_keys.Statement.{statement}
 use Rattle.contents.proofs.bar_keys.Tie as tie
 
 abbrev Inv-loop : tie.InvT-loop
-Inv-loop t os out₀ i₀ out i =
-    (i ≤ length os)
+Inv-loop t markers out₀ i₀ out i =
+    (i ≤ length markers)
     × (length out ≡ length out₀)
-    × (take i out ≡ map (λ (o : ℕ). bar-key (read (drop o t))) (take i os))
+    × (take i out ≡ map (λ (o : ℕ). bar-key (read (drop o t))) (take i markers))
 
 abbrev μ-loop : tie.MeasureT-loop
-μ-loop t os out₀ i₀ out i = length os - i
+μ-loop t markers out₀ i₀ out i = length markers - i
 
 -- no key yet
 loop-holds : tie.Need-loop-holds Inv-loop μ-loop
@@ -35,7 +35,7 @@ loop-again c =
       simp length-set (loop .inv .1),
       ap (λ (k : ℕ). take (i + 1) (set (loop .out) i k))
           (c .bar-key .ensures ∙ ap (λ (o : ℕ). bar-key (read (drop o t))) (c .before .wide .ensures .0))
-          ∙ filled-next (λ (o : ℕ). bar-key (read (drop o t))) (args .os .now) (loop .out) i (omega arith)
+          ∙ filled-next (λ (o : ℕ). bar-key (read (drop o t))) (args .markers .now) (loop .out) i (omega arith)
           (omega arith) (loop .inv .2),
     )
 
@@ -45,7 +45,7 @@ returns c =
     let args = c .before .before .before .before .before .args in
     let loop = c .before .loop in
     let inv = loop .inv in (
-      keys-filled (args .t .now) (args .os .now) (loop .out) (loop .i) (inv .0) (c .loop-test .left) (inv .2),
+      keys-filled (args .t .now) (args .markers .now) (loop .out) (loop .i) (inv .0) (c .loop-test .left) (inv .2),
       inv .1,
     )
 

@@ -1,5 +1,5 @@
 use Rattle.halves_of_part.proofs.PartLaws.{no-first, target-first}
-use Rattle.part_contents.proofs.TargetLaws.{present, some-target}
+use Rattle.part_at.proofs.TargetLaws.{present, some-target}
 use Rattle.writer.proofs.RunLaws.{first-room, second-start, second-room, two-fit, both-wrote}
 use native.Mathlib.Omega.{arith}
 use mathlib.Core.Path.{refl}

@@ -5,6 +5,7 @@ use native.Mathlib.Omega.{arith}
 use Rattle.lines.proofs.LineLaws.{table-line-length}
 use Rattle.job.proofs.StepLaws.{back-length}
 use Rattle.xliff.proofs.lists.Slices.{tail-is}
+use Rattle.xliff.specs.Parse.{most-bytes}
 use Prim.Native.Nat.{_-_, _*_, _≤_}
 use mathlib.Core.Path.{_≡_}
 use lib.ListN.{length}
@@ -15,7 +16,7 @@ use Rattle.job.proofs.put_requests.Tie as tie
 
 abbrev Inv-loop : tie.InvT-loop
 Inv-loop job n table₀ out₀ at₀ m₀ k₀ table out at m k =
-    (at ≤ length job) × (m ≤ 8192) × (k ≤ 12 * at) × (length table ≡ 8192) × (length out ≡ 1048576) × Printed job table₀ n out₀ out table at m k
+    (at ≤ length job) × (m ≤ most-bytes) × (k ≤ 12 * at) × (length table ≡ most-bytes) × (length out ≡ 1048576) × Printed job table₀ n out₀ out table at m k
 
 abbrev μ-loop : tie.MeasureT-loop
 μ-loop job n table₀ out₀ at₀ m₀ k₀ table out at m k = length job - at

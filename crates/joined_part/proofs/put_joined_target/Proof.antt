@@ -1,6 +1,6 @@
 use Rattle.joined_part.proofs.TargetLaws.{neither-wrote, first-alone, second-alone, both-pieces, contents-room, alone-room, alone-wrote}
 use Rattle.joined_part.specs.Joined.{target-bytes}
-use Rattle.part_contents.proofs.TargetLaws.{present}
+use Rattle.part_at.proofs.TargetLaws.{present}
 use Rattle.writer.specs.Pieces.{rest}
 use Rattle.writer.proofs.RunLaws.{first-room, second-start, second-room, two-fit, both-wrote}
 use native.Mathlib.Omega.{arith}

@@ -11,10 +11,10 @@ use Rattle.keys.proofs.keys_at.Statement.{statement}
 use Rattle.keys.proofs.keys_at.Tie as tie
 
 abbrev Inv-loop : tie.InvT-loop
-Inv-loop t os out₀ i₀ out i = Filling (λ (o : ℕ). key (item-at t o)) os out₀ out i
+Inv-loop t markers out₀ i₀ out i = Filling (λ (o : ℕ). key (item-at t o)) markers out₀ out i
 
 abbrev μ-loop : tie.MeasureT-loop
-μ-loop t os out₀ i₀ out i = length os - i
+μ-loop t markers out₀ i₀ out i = length markers - i
 
 -- no key yet
 loop-holds : tie.Need-loop-holds Inv-loop μ-loop
@@ -33,7 +33,7 @@ returns : tie.Need-returns Inv-loop μ-loop
 returns c =
     let args = c .before .before .before .before .before .args in
     let inv = c .before .loop .inv in
-    (omega (arith, inv .within), filling-all inv (c .loop-test .left) ∙ keys-each (args .t .now) (args .os .now), inv .sized)
+    (omega (arith, inv .within), filling-all inv (c .loop-test .left) ∙ keys-each (args .t .now) (args .markers .now), inv .sized)
 
 pub keys-at-spec : {M : Type 1} → statement M
 keys-at-spec =

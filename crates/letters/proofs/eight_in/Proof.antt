@@ -20,14 +20,14 @@ use Rattle.letters.proofs.eight_in.Statement.{statement}
 use Rattle.letters.proofs.eight_in.Tie as tie
 
 abbrev Inv-loop : tie.InvT-loop
-Inv-loop t source os keys best₀ led₀ i₀ best led i =
-    (i ≤ length os)
-    × (led ≡ any is-F (earlier (marker-at t os) i))
-    × (toward 8 best₀ (blamed (bad-8 source) [] (placed-at t os))
-    ≡ toward 8 best (blamed (bad-8 source) (earlier (marker-at t os) i) (placed-at t (drop i os))))
+Inv-loop t source markers keys best₀ led₀ i₀ best led i =
+    (i ≤ length markers)
+    × (led ≡ any is-F (earlier (marker-at t markers) i))
+    × (toward 8 best₀ (blamed (bad-8 source) [] (placed-at t markers))
+    ≡ toward 8 best (blamed (bad-8 source) (earlier (marker-at t markers) i) (placed-at t (drop i markers))))
 
 abbrev μ-loop : tie.MeasureT-loop
-μ-loop t source os keys best₀ led₀ i₀ best led i = length os - i
+μ-loop t source markers keys best₀ led₀ i₀ best led i = length markers - i
 
 -- the loop's start
 loop-holds : tie.Need-loop-holds Inv-loop μ-loop
@@ -40,7 +40,7 @@ unfolding earlier any
 shared-slice-read-view-at c =
     let start = c .before .before .before .before .before .before .before .before in
     let loop-test = c .before .before .before .loop-test in
-    omega (arith, keys-long (start .args .t .now) (start .args .os .now) _ (start .pre), loop-test .taken)
+    omega (arith, keys-long (start .args .t .now) (start .args .markers .now) _ (start .pre), loop-test .taken)
 
 -- keys::view_at(t, at, keys[i])
 view-at-requires : tie.Need-view-at-requires Inv-loop μ-loop
@@ -50,7 +50,7 @@ view-at-requires c κs =
     let args = start .args in
     let i = c .before .before .before .before .loop .i in
     let wide = c .before .wide in
-    key-there (args .t .now) (args .os .now) _ (start .pre) i (wide .result) (c .before .before .before .loop-test .taken)
+    key-there (args .t .now) (args .markers .now) _ (start .pre) i (wide .result) (c .before .before .before .loop-test .taken)
     (wide .ensures .0)
 
 -- ill_ended(t, os, keys, i, x)
@@ -62,7 +62,7 @@ ill-ended-requires c κs =
     let wide = c .before .before .wide in (
       start .pre,
       loop-test .taken,
-      view-there (start .args .t .now) (start .args .os .now) _ (wide .result) (c .view-at .result) (wide .ensures .0)
+      view-there (start .args .t .now) (start .args .markers .now) _ (wide .result) (c .view-at .result) (wide .ensures .0)
           (c .view-at .ensures),
     )
 
@@ -73,7 +73,7 @@ loop-again c =
     let after-wide = c .before .before .before .before .before .before in
     let args = after-wide .before .before .before .before .before .before .before .args in
     let t = args .t .now in
-    let os = args .os .now in
+    let markers = args .markers .now in
     let source = args .source in
     let loop = after-wide .before .before .before .loop in
     let led = loop .led in
@@ -85,13 +85,13 @@ loop-again c =
     let ill-ended = c .before .before .before .ill-ended in
     let bad-alone = c .before .before .bad-alone in
     let lower-if = c .before .lower-if in
-    let seen = view-there t os i (wide .result) (view-at .result) (wide .ensures .0) (view-at .ensures) in (
+    let seen = view-there t markers i (wide .result) (view-at .result) (wide .ensures .0) (view-at .ensures) in (
       search needs,
-      ap (λ (b : Bool). b || led) (c .is-leading .ensures) ∙ led-on t os i (view-at .result) led seen (inv .1),
+      ap (λ (b : Bool). b || led) (c .is-leading .ensures) ∙ led-on t markers i (view-at .result) led seen (inv .1),
       inv .2
-          ∙ blamed-step 8 (bad-8 source) t os i (loop .best) (ill-ended .result || bad-alone .result) (wide .result)
+          ∙ blamed-step 8 (bad-8 source) t markers i (loop .best) (ill-ended .result || bad-alone .result) (wide .result)
           (lower-if .result) (loop-test .taken) (wide .ensures .0)
-          (eight-bad source t os i (view-at .result) led (ill-ended .result) (bad-alone .result) seen (inv .1)
+          (eight-bad source t markers i (view-at .result) led (ill-ended .result) (bad-alone .result) seen (inv .1)
           (ill-ended .ensures) (bad-alone .ensures)) (lower-if .ensures),
     )
 
@@ -101,10 +101,10 @@ unfolding earlier any
 returns c =
     let args = c .before .before .before .before .before .args in
     let t = args .t .now in
-    let os = args .os .now in
+    let markers = args .markers .now in
     let loop = c .before .loop in
     sym (loop .inv .2
-    ∙ blamed-end (bad-8 (args .source)) t os (earlier (marker-at t os) (loop .i)) (loop .i) (loop .best) 8
+    ∙ blamed-end (bad-8 (args .source)) t markers (earlier (marker-at t markers) (loop .i)) (loop .i) (loop .best) 8
     (c .loop-test .left))
 
 pub eight-in-spec : {M : Type 1} → statement M

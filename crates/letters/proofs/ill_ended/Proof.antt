@@ -15,14 +15,14 @@ returns : tie.Need-returns
 returns c =
     let start = c .before .before .before .before .before .before in
     let args = start .args in
-    no-end (args .t .now) (args .os .now) (args .i) (args .x) (start .pre .2) (not-true _ (c .if1 .taken))
+    no-end (args .t .now) (args .markers .now) (args .i) (args .x) (start .pre .2) (not-true _ (c .if1 .taken))
 
 -- halves::half_before(keys, i)
 half-before-requires : tie.Need-half-before-requires
 half-before-requires c κs =
     let start = c .before .before .before .before .before .before in
     let pre = start .pre in
-    omega (arith, pre .1, keys-long (start .args .t .now) (start .args .os .now) _ (pre .0))
+    omega (arith, pre .1, keys-long (start .args .t .now) (start .args .markers .now) _ (pre .0))
 
 -- return false
 returns-2 : tie.Need-returns-2
@@ -32,7 +32,7 @@ returns-2 c =
     let i = args .i in
     let pre = start .pre in
     let half-before-call = c .before .half-before in
-    no-start (args .t .now) (args .os .now) i (args .x) (pre .2) (pre .1) (half-before-call .result)
+    no-start (args .t .now) (args .markers .now) i (args .x) (pre .2) (pre .1) (half-before-call .result)
     (half-before-call .ensures .0 ∙ ap (λ (k : List ℕ). half-before k i) (pre .0)) (c .if2 .taken)
 
 -- keys[start - 1]
@@ -44,7 +44,7 @@ shared-slice-read-view-at c =
     let if2 = c .before .before .before .if2 in
     omega (
       arith,
-      keys-long (start .args .t .now) (start .args .os .now) _ (pre .0),
+      keys-long (start .args .t .now) (start .args .markers .now) _ (pre .0),
       half-before-call .ensures .1,
       pre .1,
       if2 .left,
@@ -60,7 +60,7 @@ view-at-requires c κs =
     let half-before-call = c .before .before .before .before .half-before in
     let if2 = c .before .before .before .if2 in
     let wide = c .before .wide in
-    key-there t (args .os .now) _ (pre .0) (half-before-call .result - 1) (wide .result)
+    key-there t (args .markers .now) _ (pre .0) (half-before-call .result - 1) (wide .result)
     (omega (arith, half-before-call .ensures .1, pre .1, if2 .left)) (wide .ensures .0)
 
 -- ill_matched(keys::view_at(t, views::wide(os[start - 1]), keys[start - 1]), x)
@@ -78,8 +78,8 @@ returns-3 c =
     let if2 = after-if2 .if2 in
     let wide = c .before .before .before .wide in
     let view-at = c .before .view-at in
-    let seen = view-there t (args .os .now) _ (wide .result) (view-at .result) (wide .ensures .0) (view-at .ensures) in
-    with-start t (args .os .now) i x (pre .2) (pre .1) (half-before-call .result)
+    let seen = view-there t (args .markers .now) _ (wide .result) (view-at .result) (wide .ensures .0) (view-at .ensures) in
+    with-start t (args .markers .now) i x (pre .2) (pre .1) (half-before-call .result)
     (half-before-call .ensures .0 ∙ ap (λ (k : List ℕ). half-before k i) (pre .0)) (omega (arith, if2 .left))
     (not-false _ (if1 .left)) (view-at .result) (c .ill-matched .result) seen (c .ill-matched .ensures)
 

@@ -14,8 +14,8 @@ returns c =
     let args = start .args in
     let pre = start .pre in
     let eight-in = c .before .eight-in in
-    two-sequences 8 bad-8-source bad-8-target on-8-source on-8-target (args .t .now) (args .src .now)
-    (args .tgt .now) (eight-in .result) (c .eight-in2 .result) (pre .0) (pre .1) (pre .3) (eight-in .ensures)
+    two-sequences 8 bad-8-source bad-8-target on-8-source on-8-target (args .t .now) (args .source-markers .now)
+    (args .target-markers .now) (eight-in .result) (c .eight-in2 .result) (pre .0) (pre .1) (pre .3) (eight-in .ensures)
     (c .eight-in2 .ensures)
 
 pub rule-8-spec : {M : Type 1} → statement M

@@ -3,7 +3,7 @@ use Rattle.answers.specs.declared.Place.{Place}
 use Rattle.answers.specs.Answers.{toward}
 use Rattle.xliff.specs.Rules.{lone-P}
 use Rattle.xliff.specs.Sequences.{located, placed-contents, blamed, first-of}
-use Rattle.xliff.specs.Parse.{unit}
+use Rattle.xliff.specs.Parse.{unit, most-records}
 use Rattle.xliff.specs.Bytes.{gather}
 use mathlib.Core.Path.{_≡_, refl, sym, _∙_, ap}
 use mathlib.Core.List.{[]}
@@ -15,21 +15,21 @@ use Rattle.nesting.proofs.first_lone.Statement.{statement}
 use Rattle.nesting.proofs.first_lone.Tie as tie
 
 abbrev Inv-loop : tie.InvT-loop
-Inv-loop t os keys stack₀ best₀ i₀ stack best i =
-    (i ≤ length os)
-    × (length stack ≡ 1024)
+Inv-loop t markers keys stack₀ best₀ i₀ stack best i =
+    (i ≤ length markers)
+    × (length stack ≡ most-records)
     × (first-of 7 (gather (blamed lone-P []) (placed-contents (located (unit t .parts))))
-    ≡ toward 7 best (lone-left t os i))
+    ≡ toward 7 best (lone-left t markers i))
 
 abbrev μ-loop : tie.MeasureT-loop
-μ-loop t os keys stack₀ best₀ i₀ stack best i = length os - i
+μ-loop t markers keys stack₀ best₀ i₀ stack best i = length markers - i
 
 -- src/lib.rt:113:5
 loop-holds : tie.Need-loop-holds Inv-loop μ-loop
 loop-holds c =
     let start = c .before .before .before in
     let pre = start .pre in
-    (omega arith, refl, lone-start (start .args .t .now) (start .args .os .now) (pre .0) (pre .1))
+    (omega arith, refl, lone-start (start .args .t .now) (start .args .markers .now) (pre .0) (pre .1))
 
 -- src/lib.rt:114:37
 slice-aggregate-is-lone : tie.Need-slice-aggregate-is-lone Inv-loop μ-loop
@@ -41,11 +41,11 @@ is-lone-requires c κs =
     let start = c .before .before .before .before .before .before in
     let args = start .args in
     let t = args .t .now in
-    let os = args .os .now in
+    let markers = args .markers .now in
     let keys = args .keys .now in
     let pre = start .pre in (
-      omega (arith, c .before .loop-test .taken, as-many t os keys (pre .2)),
-      omega (arith, as-many t os keys (pre .2), pre .3),
+      omega (arith, c .before .loop-test .taken, as-many t markers keys (pre .2)),
+      omega (arith, as-many t markers keys (pre .2), pre .3),
       c .before .before .loop .inv .1,
     )
 
@@ -56,7 +56,7 @@ loop-again c =
     let start = after-loop-test .before .before .before .before .before in
     let args = start .args in
     let t = args .t .now in
-    let os = args .os .now in
+    let markers = args .markers .now in
     let loop = after-loop-test .before .loop in
     let loop-test = after-loop-test .loop-test in
     let is-lone = c .before .before .before .before .is-lone in
@@ -64,9 +64,9 @@ loop-again c =
       omega (arith, loop-test .taken),
       is-lone .ensures .1,
       loop .inv .2
-          ∙ lone-on t os (args .keys .now) (start .pre .2) (loop .i) (loop .best) (is-lone .result) (wide .result)
+          ∙ lone-on t markers (args .keys .now) (start .pre .2) (loop .i) (loop .best) (is-lone .result) (wide .result)
           (loop-test .taken) (is-lone .ensures .0) (wide .ensures .0)
-          ∙ ap (λ (p : Place). toward 7 p (lone-left t os (loop .i + 1))) (sym (c .lower-if .ensures)),
+          ∙ ap (λ (p : Place). toward 7 p (lone-left t markers (loop .i + 1))) (sym (c .lower-if .ensures)),
     )
 
 -- src/lib.rt:106:1
@@ -75,7 +75,7 @@ returns c =
     let start = c .before .before .before .before .before in
     let args = start .args in
     let loop = c .before .loop in
-    lone-end (args .t .now) (args .os .now) (args .keys .now) (start .pre .2) (loop .i) (loop .best)
+    lone-end (args .t .now) (args .markers .now) (args .keys .now) (start .pre .2) (loop .i) (loop .best)
     (c .loop-test .left) (loop .inv .2)
 
 pub first-lone-spec : {M : Type 1} → statement M

@@ -2,6 +2,7 @@ use native.Mathlib.Omega.{arith}
 use lib.ListN.{length}
 use mathlib.Core.Path.{_≡_, _∙_}
 use Rattle.xliff.specs.Calls.{outcome}
+use Rattle.xliff.specs.Parse.{most-bytes}
 use borrow.Author.Needs.{needs}
 use Rattle.operations.proofs.perform.Statement.{statement}
 use Rattle.operations.proofs.perform.Tie as tie
@@ -20,7 +21,7 @@ unfolding outcome
 returns c =
     let out = c .before .before .before .before .before .before .before .args .out .now in
     let r = c .before .before .before .r in
-    let l : length out ≡ 8192 = search needs in
+    let l : length out ≡ most-bytes = search needs in
     (rw (r .given .1) (rw l at (c .split .ensures)), c .split .kept .1 .1 .1 .1 .1 .0 ∙ l)
 
 -- Request::Join(part) => join::join(table, part, out)
@@ -29,7 +30,7 @@ unfolding outcome
 returns-2 c =
     let out = c .before .before .before .before .before .before .before .args .out .now in
     let r2 = c .before .before .before .r2 in
-    let l : length out ≡ 8192 = search needs in
+    let l : length out ≡ most-bytes = search needs in
     (rw (r2 .given .1) (rw l at (c .join .ensures)), c .join .kept .1 .1 .0 ∙ l)
 
 -- Request::SetTarget(part, state, n) => set_content(table, part, state, s, n, out)
@@ -38,7 +39,7 @@ unfolding outcome
 returns-3 c =
     let out = c .before .before .before .before .before .before .before .args .out .now in
     let r3 = c .before .before .before .r3 in
-    let l : length out ≡ 8192 = search needs in
+    let l : length out ≡ most-bytes = search needs in
     (rw (r3 .given .1) (rw l at (c .set-content .ensures)), c .set-content .kept .1 .1 .1 .1 .1 .0 ∙ l)
 
 -- Request::RemoveTarget(part) => remove_target::remove_target(table, part, out)
@@ -47,7 +48,7 @@ unfolding outcome
 returns-4 c =
     let out = c .before .before .before .before .before .before .before .args .out .now in
     let r4 = c .before .before .before .r4 in
-    let l : length out ≡ 8192 = search needs in
+    let l : length out ≡ most-bytes = search needs in
     (rw (r4 .given .1) (rw l at (c .remove-target .ensures)), c .remove-target .kept .1 .1 .0 ∙ l)
 
 -- Request::Rewrite(side, id, form) => rewrite::rewrite(table, side, id, form, out)
@@ -56,7 +57,7 @@ unfolding outcome
 returns-5 c =
     let out = c .before .before .before .before .before .before .before .args .out .now in
     let r5 = c .before .before .before .r5 in
-    let l : length out ≡ 8192 = search needs in
+    let l : length out ≡ most-bytes = search needs in
     (rw (r5 .given .1) (rw l at (c .rewrite .ensures)), c .rewrite .kept .1 .1 .1 .1 .0 ∙ l)
 
 pub perform-spec : {M : Type 1} → statement M

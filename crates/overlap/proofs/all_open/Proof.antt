@@ -17,14 +17,14 @@ use Rattle.overlap.proofs.all_open.Statement.{statement}
 use Rattle.overlap.proofs.all_open.Tie as tie
 
 abbrev Inv-loop : tie.InvT-loop
-Inv-loop t os keys i₀ i =
-    (i ≤ length os)
+Inv-loop t markers keys i₀ i =
+    (i ≤ length markers)
     × ((p : Place)
-    → toward 9 p (blamed bad-9 [] (placed-at t os))
-    ≡ toward 9 p (blamed bad-9 (earlier (marker-at t os) i) (placed-at t (drop i os))))
+    → toward 9 p (blamed bad-9 [] (placed-at t markers))
+    ≡ toward 9 p (blamed bad-9 (earlier (marker-at t markers) i) (placed-at t (drop i markers))))
 
 abbrev μ-loop : tie.MeasureT-loop
-μ-loop t os keys i₀ i = length os - i
+μ-loop t markers keys i₀ i = length markers - i
 
 -- the loop's start
 loop-holds : tie.Need-loop-holds Inv-loop μ-loop
@@ -49,14 +49,14 @@ unfolding earlier
 loop-again c =
     let args = c .before .before .before .before .before .before .before .args in
     let t = args .t .now in
-    let os = args .os .now in
+    let markers = args .markers .now in
     let loop = c .before .before .before .loop in
     let i = loop .i in (
       omega arith,
       λ p.
           loop .inv .1 p
-          ∙ blamed-step 9 bad-9 t os i p false (getD os i 0) p (c .before .before .loop-test .taken) refl
-          (c .before .is-closed .ensures (earlier (marker-at t os) i) (c .if1 .left)) refl,
+          ∙ blamed-step 9 bad-9 t markers i p false (getD markers i 0) p (c .before .before .loop-test .taken) refl
+          (c .before .is-closed .ensures (earlier (marker-at t markers) i) (c .if1 .left)) refl,
     )
 
 -- true
@@ -65,11 +65,11 @@ unfolding earlier
 returns-2 c =
     let args = c .before .before .before .before .before .args in
     let t = args .t .now in
-    let os = args .os .now in
+    let markers = args .markers .now in
     let loop = c .before .loop in
     λ p e.
     sym
-    (loop .inv .1 p ∙ blamed-end bad-9 t os (earlier (marker-at t os) (loop .i)) (loop .i) p 9 (c .loop-test .left))
+    (loop .inv .1 p ∙ blamed-end bad-9 t markers (earlier (marker-at t markers) (loop .i)) (loop .i) p 9 (c .loop-test .left))
 
 pub all-open-spec : {M : Type 1} → statement M
 unfolding earlier

@@ -18,7 +18,7 @@ shared-slice-read-is-pair-start : tie.Need-shared-slice-read-is-pair-start
 shared-slice-read-is-pair-start c =
     let start = c .before .before .before .before .before .before in
     let pre = start .pre in
-    omega (arith, pre .5, keys-long (start .args .t .now) (start .args .os .now) _ (pre .0))
+    omega (arith, pre .5, keys-long (start .args .t .now) (start .args .markers .now) _ (pre .0))
 
 -- return false
 returns : tie.Need-returns
@@ -26,10 +26,10 @@ returns c =
     let start = c .before .before .before .before .before .before .before .before in
     let args = start .args in
     let t = args .t .now in
-    let os = args .os .now in
+    let markers = args .markers .now in
     let i = args .i in
     let pre = start .pre in
-    not-start t os i (pre .5) (earlier (marker-at t os) i)
+    not-start t markers i (pre .5) (earlier (marker-at t markers) i)
     (ap (λ (k : List ℕ). pairStart (getD k i 0)) (sym (pre .0))
     ∙ sym (c .before .is-pair-start .ensures)
     ∙ not-true _ (c .if1 .taken))
@@ -39,7 +39,7 @@ shared-slice-read-view-at : tie.Need-shared-slice-read-view-at
 shared-slice-read-view-at c =
     let start = c .before .before .before .before .before .before .before .before .before .before .before in
     let pre = start .pre in
-    omega (arith, keys-long (start .args .t .now) (start .args .os .now) _ (pre .0), pre .5)
+    omega (arith, keys-long (start .args .t .now) (start .args .markers .now) _ (pre .0), pre .5)
 
 -- keys::view_at(t, views::wide(os[i]), keys[i])
 view-at-requires : tie.Need-view-at-requires
@@ -50,7 +50,7 @@ view-at-requires c κs =
     let t = args .t .now in
     let pre = start .pre in
     let wide = c .before .wide in
-    key-there t (args .os .now) _ (pre .0) i (wide .result) (pre .5) (wide .ensures .0)
+    key-there t (args .markers .now) _ (pre .0) i (wide .result) (pre .5) (wide .ensures .0)
 
 -- return false
 returns-2 : tie.Need-returns-2
@@ -59,12 +59,12 @@ returns-2 c =
     .before .before in
     let args = start .args in
     let t = args .t .now in
-    let os = args .os .now in
+    let markers = args .markers .now in
     let i = args .i in
     let wide = c .before .before .before .before .wide in
     let view-at = c .before .before .view-at in
-    not-closed t os i (start .pre .5) (earlier (marker-at t os) i) (view-at .result)
-    (view-there t os i (wide .result) (view-at .result) (wide .ensures .0) (view-at .ensures))
+    not-closed t markers i (start .pre .5) (earlier (marker-at t markers) i) (view-at .result)
+    (view-there t markers i (wide .result) (view-at .result) (wide .ensures .0) (view-at .ensures))
     (sym (c .before .is-closed-start .ensures) ∙ not-true _ (c .if2 .taken))
 
 -- return false
@@ -75,18 +75,18 @@ returns-3 c =
     .before .before in
     let args = start .args in
     let t = args .t .now in
-    let os = args .os .now in
+    let markers = args .markers .now in
     let i = args .i in
     let pre = start .pre in
     let wide = after-view-at .before .before .wide in
     let view-at = after-view-at .view-at in
     let wide2 = c .before .wide2 in
-    no-end t os i (pre .5) (earlier (marker-at t os) i) (view-at .result)
-    (view-there t os i (wide .result) (view-at .result) (wide .ensures .0) (view-at .ensures))
+    no-end t markers i (pre .5) (earlier (marker-at t markers) i) (view-at .result)
+    (view-there t markers i (wide .result) (view-at .result) (wide .ensures .0) (view-at .ensures))
     (omega (
       arith,
       c .if3 .taken,
-      end-there t os _ (args .starts .now) (args .ends .now) (pre .0) (pre .2) i (wide2 .result) (pre .5) (wide2 .ensures .0),
+      end-there t markers _ (args .starts .now) (args .ends .now) (pre .0) (pre .2) i (wide2 .result) (pre .5) (wide2 .ensures .0),
     ))
 
 -- first_stray(keys, starts, ends, i + 1, end)
@@ -96,13 +96,13 @@ first-stray-requires c κs =
     .before .before .before .before .before in
     let args = start .args in
     let t = args .t .now in
-    let os = args .os .now in
+    let markers = args .markers .now in
     let pre = start .pre in (
       pre .2,
       pre .3,
       pre .4,
-      omega (arith, c .if3 .left, keys-long t os _ (pre .0)),
-      omega (arith, pre .1, keys-long t os _ (pre .0)),
+      omega (arith, c .if3 .left, keys-long t markers _ (pre .0)),
+      omega (arith, pre .1, keys-long t markers _ (pre .0)),
     )
 
 -- first_stray(keys, starts, ends, i + 1, end) < end
@@ -113,7 +113,7 @@ returns-4 c =
     .before .before .before .before in
     let args = start .args in
     let t = args .t .now in
-    let os = args .os .now in
+    let markers = args .markers .now in
     let i = args .i in
     let pre = start .pre in
     let wide = after-is-closed-start .before .before .before .wide in
@@ -121,10 +121,10 @@ returns-4 c =
     let is-closed-start = after-is-closed-start .is-closed-start in
     let if2 = c .before .before .before .before .if2 in
     let wide2 = c .before .before .wide2 in
-    with-end t os i (pre .5) (earlier (marker-at t os) i) (view-at .result)
-    (view-there t os i (wide .result) (view-at .result) (wide .ensures .0) (view-at .ensures))
+    with-end t markers i (pre .5) (earlier (marker-at t markers) i) (view-at .result)
+    (view-there t markers i (wide .result) (view-at .result) (wide .ensures .0) (view-at .ensures))
     (sym (is-closed-start .ensures) ∙ not-false _ (if2 .left)) (wide2 .result) (c .first-stray .result)
-    (end-there t os _ (args .starts .now) (args .ends .now) (pre .0) (pre .2) i (wide2 .result) (pre .5) (wide2 .ensures .0))
+    (end-there t markers _ (args .starts .now) (args .ends .now) (pre .0) (pre .2) i (wide2 .result) (pre .5) (wide2 .ensures .0))
     (c .before .if3 .left)
     (c .first-stray .ensures
     ∙ ap (λ (k : List ℕ). next (strayAt k (i + 1) (wide2 .result)) (i + 1) (wide2 .result - (i + 1))) (pre .0))

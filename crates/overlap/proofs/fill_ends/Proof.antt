@@ -8,9 +8,10 @@ use Prim.Native.Nat.{_≤_, _-_}
 use borrow.Author.Needs.{needs}
 use Rattle.overlap.proofs.fill_ends.Statement.{statement}
 use Rattle.overlap.proofs.fill_ends.Tie as tie
+use Rattle.xliff.specs.Parse.{most-records}
 
 abbrev Inv-loop : tie.InvT-loop
-Inv-loop keys links ends₀ i₀ ends i = (i ≤ length keys) × (length ends ≡ 1024) × Filled (half-after keys) i ends
+Inv-loop keys links ends₀ i₀ ends i = (i ≤ length keys) × (length ends ≡ most-records) × Filled (half-after keys) i ends
 
 abbrev μ-loop : tie.MeasureT-loop
 μ-loop keys links ends₀ i₀ ends i = length keys - i

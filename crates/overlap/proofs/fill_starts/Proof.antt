@@ -8,10 +8,11 @@ use Prim.Native.Nat.{_≤_, _-_}
 use borrow.Author.Needs.{needs}
 use Rattle.overlap.proofs.fill_starts.Statement.{statement}
 use Rattle.overlap.proofs.fill_starts.Tie as tie
+use Rattle.xliff.specs.Parse.{most-records}
 
 abbrev Inv-loop : tie.InvT-loop
 Inv-loop keys links starts₀ i₀ starts i =
-    (i ≤ length keys) × (length starts ≡ 1024) × Filled (half-before keys) i starts
+    (i ≤ length keys) × (length starts ≡ most-records) × Filled (half-before keys) i starts
 
 abbrev μ-loop : tie.MeasureT-loop
 μ-loop keys links starts₀ i₀ starts i = length keys - i

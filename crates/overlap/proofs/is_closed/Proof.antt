@@ -16,7 +16,7 @@ shared-slice-read-is-pair-start : tie.Need-shared-slice-read-is-pair-start
 shared-slice-read-is-pair-start c =
     let start = c .before .before .before .before in
     let pre = start .pre in
-    omega (arith, keys-long (start .args .t .now) (start .args .os .now) _ (pre .0), pre .1)
+    omega (arith, keys-long (start .args .t .now) (start .args .markers .now) _ (pre .0), pre .1)
 
 -- return false
 returns : tie.Need-returns
@@ -26,7 +26,7 @@ returns c =
     let i = args .i in
     let pre = start .pre in
     λ before e.
-    not-start (args .t .now) (args .os .now) i (pre .1) before
+    not-start (args .t .now) (args .markers .now) i (pre .1) before
     (ap (λ (k : List ℕ). pairStart (getD k i 0)) (sym (pre .0))
     ∙ sym (c .before .is-pair-start .ensures)
     ∙ not-true _ (c .if1 .taken))
@@ -36,7 +36,7 @@ shared-slice-read-view-at : tie.Need-shared-slice-read-view-at
 shared-slice-read-view-at c =
     let start = c .before .before .before .before .before .before .before .before .before in
     let pre = start .pre in
-    omega (arith, keys-long (start .args .t .now) (start .args .os .now) _ (pre .0), pre .1)
+    omega (arith, keys-long (start .args .t .now) (start .args .markers .now) _ (pre .0), pre .1)
 
 -- keys::view_at(t, views::wide(os[i]), keys[i])
 view-at-requires : tie.Need-view-at-requires
@@ -47,7 +47,7 @@ view-at-requires c κs =
     let t = args .t .now in
     let pre = start .pre in
     let wide = c .before .wide in
-    key-there t (args .os .now) _ (pre .0) i (wide .result) (pre .1) (wide .ensures .0)
+    key-there t (args .markers .now) _ (pre .0) i (wide .result) (pre .1) (wide .ensures .0)
 
 -- is_closed_start(keys::view_at(t, views::wide(os[i]), keys[i]))
 returns-2 : tie.Need-returns-2
@@ -58,8 +58,8 @@ returns-2 c =
     let wide = c .before .before .before .wide in
     let view-at = c .before .view-at in
     λ before e.
-    not-closed t (args .os .now) (args .i) (start .pre .1) before (view-at .result)
-    (view-there t (args .os .now) (args .i) (wide .result) (view-at .result) (wide .ensures .0) (view-at .ensures))
+    not-closed t (args .markers .now) (args .i) (start .pre .1) before (view-at .result)
+    (view-there t (args .markers .now) (args .i) (wide .result) (view-at .result) (wide .ensures .0) (view-at .ensures))
     (sym (c .is-closed-start .ensures) ∙ e)
 
 pub is-closed-spec : {M : Type 1} → statement M

@@ -9,7 +9,7 @@ fill-requires : tie.Need-fill-requires
 fill-requires c κs =
     let start = c .before .before .before .before .before in
     let pre = start .pre in (
-      omega (arith, pre .1, keys-long (start .args .t .now) (start .args .os .now) _ (pre .0)),
+      omega (arith, pre .1, keys-long (start .args .t .now) (start .args .markers .now) _ (pre .0)),
       search needs,
       search needs,
     )

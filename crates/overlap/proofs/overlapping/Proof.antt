@@ -14,13 +14,13 @@ use Rattle.overlap.proofs.overlapping.Statement.{statement}
 use Rattle.overlap.proofs.overlapping.Tie as tie
 
 abbrev Inv-loop : tie.InvT-loop
-Inv-loop t os keys starts ends best₀ i₀ best i =
-    (i ≤ length os)
-    × (toward 9 best₀ (blamed bad-9 [] (placed-at t os))
-    ≡ toward 9 best (blamed bad-9 (earlier (marker-at t os) i) (placed-at t (drop i os))))
+Inv-loop t markers keys starts ends best₀ i₀ best i =
+    (i ≤ length markers)
+    × (toward 9 best₀ (blamed bad-9 [] (placed-at t markers))
+    ≡ toward 9 best (blamed bad-9 (earlier (marker-at t markers) i) (placed-at t (drop i markers))))
 
 abbrev μ-loop : tie.MeasureT-loop
-μ-loop t os keys starts ends best₀ i₀ best i = length os - i
+μ-loop t markers keys starts ends best₀ i₀ best i = length markers - i
 
 -- encloses_stray(t, os, keys, starts, ends, i)
 encloses-stray-requires : tie.Need-encloses-stray-requires Inv-loop μ-loop
@@ -41,7 +41,7 @@ loop-again c =
     let wide = c .before .wide in (
       search needs,
       loop .inv .1
-          ∙ blamed-step 9 bad-9 (args .t .now) (args .os .now) (loop .i) (loop .best) (encloses-stray .result)
+          ∙ blamed-step 9 bad-9 (args .t .now) (args .markers .now) (loop .i) (loop .best) (encloses-stray .result)
           (wide .result) (c .lower-if .result) (loop-test .taken) (wide .ensures .0) (encloses-stray .ensures)
           (c .lower-if .ensures),
     )
@@ -52,10 +52,10 @@ unfolding earlier
 returns c =
     let args = c .before .before .before .before .before .before .before .args in
     let t = args .t .now in
-    let os = args .os .now in
+    let markers = args .markers .now in
     let loop = c .before .loop in
     sym (loop .inv .1
-    ∙ blamed-end bad-9 t os (earlier (marker-at t os) (loop .i)) (loop .i) (loop .best) 9 (c .loop-test .left))
+    ∙ blamed-end bad-9 t markers (earlier (marker-at t markers) (loop .i)) (loop .i) (loop .best) 9 (c .loop-test .left))
 
 pub overlapping-spec : {M : Type 1} → statement M
 unfolding earlier

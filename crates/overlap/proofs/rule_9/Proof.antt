@@ -14,7 +14,7 @@ returns c =
     let args = start .args in
     let pre = start .pre in
     let nine-in = c .before .nine-in in
-    two-sequences 9 bad-9 bad-9 on-9 on-9 (args .t .now) (args .src .now) (args .tgt .now) (nine-in .result)
+    two-sequences 9 bad-9 bad-9 on-9 on-9 (args .t .now) (args .source-markers .now) (args .target-markers .now) (nine-in .result)
     (c .nine-in2 .result) (pre .0) (pre .1) (pre .3) (nine-in .ensures) (c .nine-in2 .ensures)
 
 pub rule-9-spec : {M : Type 1} → statement M

@@ -9,10 +9,10 @@ use Rattle.partners.proofs.any_half.Statement.{statement}
 use Rattle.partners.proofs.any_half.Tie as tie
 
 abbrev Inv-loop : tie.InvT-loop
-Inv-loop ks id i₀ i = (i ≤ length ks) × (any (halfOfId id) ks ≡ any (halfOfId id) (drop i ks))
+Inv-loop keys id i₀ i = (i ≤ length keys) × (any (halfOfId id) keys ≡ any (halfOfId id) (drop i keys))
 
 abbrev μ-loop : tie.MeasureT-loop
-μ-loop ks id i₀ i = length ks - i
+μ-loop keys id i₀ i = length keys - i
 
 -- src/lib.rt:74:13
 returns : tie.Need-returns Inv-loop μ-loop
@@ -22,7 +22,7 @@ returns c =
     let loop = c .before .before .before .before .loop in
     let loop-test = c .before .before .before .loop-test in
     sym (loop .inv .1
-    ∙ any-on (halfOfId (args .id)) (args .ks .now) (loop .i) (loop-test .taken)
+    ∙ any-on (halfOfId (args .id)) (args .keys .now) (loop .i) (loop-test .taken)
     (rw (c .before .half-of .ensures) at (c .if1 .taken)))
 
 -- src/lib.rt:71:5
@@ -34,7 +34,7 @@ loop-again c =
     let loop-test = c .before .before .before .loop-test in (
       search needs,
       loop .inv .1
-          ∙ any-off (halfOfId (args .id)) (args .ks .now) (loop .i) (loop-test .taken)
+          ∙ any-off (halfOfId (args .id)) (args .keys .now) (loop .i) (loop-test .taken)
           (rw (c .before .half-of .ensures) at (c .if1 .left)),
     )
 
@@ -44,7 +44,7 @@ unfolding halfOfId
 returns-2 c =
     let args = c .before .before .before .args in
     let loop = c .before .loop in
-    sym (loop .inv .1 ∙ any-end (halfOfId (args .id)) (args .ks .now) (loop .i) (c .loop-test .left))
+    sym (loop .inv .1 ∙ any-end (halfOfId (args .id)) (args .keys .now) (loop .i) (c .loop-test .left))
 
 pub any-half-spec : {M : Type 1} → statement M
 unfolding halfOfId

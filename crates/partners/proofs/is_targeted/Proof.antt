@@ -9,38 +9,38 @@ use Rattle.partners.proofs.is_targeted.Statement.{statement}
 use Rattle.partners.proofs.is_targeted.Tie as tie
 
 abbrev Inv-loop : tie.InvT-loop
-Inv-loop ks i₀ i = (i ≤ length ks) × (targeted ks ≡ targeted (drop i ks))
+Inv-loop keys i₀ i = (i ≤ length keys) × (targeted keys ≡ targeted (drop i keys))
 
 abbrev μ-loop : tie.MeasureT-loop
-μ-loop ks i₀ i = length ks - i
+μ-loop keys i₀ i = length keys - i
 
 -- src/lib.rt:98:13
 returns : tie.Need-returns Inv-loop μ-loop
 returns c =
-    let ks = c .before .before .before .before .before .before .args .ks .now in
+    let keys = c .before .before .before .before .before .before .args .keys .now in
     let loop = c .before .before .before .before .loop in
     let loop-test = c .before .before .before .loop-test in
     sym (loop .inv .1
-    ∙ targeted-on ks (loop .i) (loop-test .taken) (eq-eqb _ _ (sym (c .before .class-of .ensures) ∙ c .if1 .taken)))
+    ∙ targeted-on keys (loop .i) (loop-test .taken) (eq-eqb _ _ (sym (c .before .class-of .ensures) ∙ c .if1 .taken)))
 
 -- src/lib.rt:95:5
 loop-again : tie.Need-loop-again Inv-loop μ-loop
 loop-again c =
-    let ks = c .before .before .before .before .before .before .args .ks .now in
+    let keys = c .before .before .before .before .before .before .args .keys .now in
     let loop = c .before .before .before .before .loop in
     let loop-test = c .before .before .before .loop-test in (
       search needs,
       loop .inv .1
-          ∙ targeted-off ks (loop .i) (loop-test .taken)
+          ∙ targeted-off keys (loop .i) (loop-test .taken)
           (rw (c .before .class-of .ensures) at (ne-eqb _ _ (c .if1 .left))),
     )
 
 -- src/lib.rt:91:1
 returns-2 : tie.Need-returns-2 Inv-loop μ-loop
 returns-2 c =
-    let ks = c .before .before .before .args .ks .now in
+    let keys = c .before .before .before .args .keys .now in
     let loop = c .before .loop in
-    sym (loop .inv .1 ∙ targeted-end ks (loop .i) (c .loop-test .left))
+    sym (loop .inv .1 ∙ targeted-end keys (loop .i) (c .loop-test .left))
 
 pub is-targeted-spec : {M : Type 1} → statement M
 is-targeted-spec =

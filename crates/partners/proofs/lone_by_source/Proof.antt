@@ -46,7 +46,7 @@ returns c =
     let contents = after-contents .contents in
     let bar-keys = c .before .before .before .bar-keys in
     c .lone-in-target .ensures
-    ∙ ap (λ (l : List ℕ). toward 7 (args .start) (blamedKeys (loneInTarget l) [] (args .os .now) (args .ks .now)))
+    ∙ ap (λ (l : List ℕ). toward 7 (args .start) (blamedKeys (loneInTarget l) [] (args .markers .now) (args .keys .now)))
     (front-keys (contents .result) (contents .last .1 .1 .0) (contents .ensures .1) (contents .ensures .2) t
     (bar-keys .last .1 .1 .0) (bar-keys .ensures .0)
     ∙ ap (barKeys t) (contents .ensures .0))

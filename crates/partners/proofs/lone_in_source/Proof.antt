@@ -10,13 +10,13 @@ use Rattle.partners.proofs.lone_in_source.Statement.{statement}
 use Rattle.partners.proofs.lone_in_source.Tie as tie
 
 abbrev Inv-loop : tie.InvT-loop
-Inv-loop os ks best₀ i₀ best i =
-    (i ≤ length os)
-    × (toward 7 best₀ (blamedKeys loneSKey [] os ks)
-    ≡ toward 7 best (blamedKeys loneSKey (reverse (take i ks)) (drop i os) (drop i ks)))
+Inv-loop markers keys best₀ i₀ best i =
+    (i ≤ length markers)
+    × (toward 7 best₀ (blamedKeys loneSKey [] markers keys)
+    ≡ toward 7 best (blamedKeys loneSKey (reverse (take i keys)) (drop i markers) (drop i keys)))
 
 abbrev μ-loop : tie.MeasureT-loop
-μ-loop os ks best₀ i₀ best i = length os - i
+μ-loop markers keys best₀ i₀ best i = length markers - i
 
 -- src/lib.rt:112:5
 loop-again : tie.Need-loop-again Inv-loop μ-loop
@@ -29,7 +29,7 @@ loop-again c =
     let wide = c .before .wide in (
       search needs,
       loop .inv .1
-          ∙ blamed-on loneSKey (start .args .os .now) (start .args .ks .now) (start .pre) 7 (loop .best) (loop .i)
+          ∙ blamed-on loneSKey (start .args .markers .now) (start .args .keys .now) (start .pre) 7 (loop .best) (loop .i)
           (lone-s .result) (wide .result) (c .lower-if .result) (loop-test .taken) (lone-s .ensures)
           (wide .ensures .0) (c .lower-if .ensures),
     )
@@ -40,7 +40,7 @@ returns c =
     let start = c .before .before .before .before in
     let loop = c .before .loop in
     sym (loop .inv .1
-    ∙ blamed-end loneSKey (start .args .os .now) (start .args .ks .now) (start .pre) 7 (loop .best) (loop .i)
+    ∙ blamed-end loneSKey (start .args .markers .now) (start .args .keys .now) (start .pre) 7 (loop .best) (loop .i)
     (c .loop-test .left))
 
 pub lone-in-source-spec : {M : Type 1} → statement M

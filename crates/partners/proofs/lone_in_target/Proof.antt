@@ -8,16 +8,17 @@ use Prim.Native.Nat.{_≤_, _-_}
 use borrow.Author.Needs.{needs}
 use Rattle.partners.proofs.lone_in_target.Statement.{statement}
 use Rattle.partners.proofs.lone_in_target.Tie as tie
+use Rattle.xliff.specs.Parse.{most-records}
 
 abbrev Inv-loop : tie.InvT-loop
-Inv-loop os ks bars stack₀ best₀ i₀ stack best i =
-    (i ≤ length os)
-    × (length stack ≡ 1024)
-    × (toward 7 best₀ (blamedKeys (loneInTarget bars) [] os ks)
-    ≡ toward 7 best (blamedKeys (loneInTarget bars) (reverse (take i ks)) (drop i os) (drop i ks)))
+Inv-loop markers keys bars stack₀ best₀ i₀ stack best i =
+    (i ≤ length markers)
+    × (length stack ≡ most-records)
+    × (toward 7 best₀ (blamedKeys (loneInTarget bars) [] markers keys)
+    ≡ toward 7 best (blamedKeys (loneInTarget bars) (reverse (take i keys)) (drop i markers) (drop i keys)))
 
 abbrev μ-loop : tie.MeasureT-loop
-μ-loop os ks bars stack₀ best₀ i₀ stack best i = length os - i
+μ-loop markers keys bars stack₀ best₀ i₀ stack best i = length markers - i
 
 -- src/lib.rt:173:5
 loop-holds : tie.Need-loop-holds Inv-loop μ-loop
@@ -36,7 +37,7 @@ loop-again c =
       search needs,
       search needs,
       loop .inv .2
-          ∙ blamed-on (loneInTarget (args .bars .now)) (args .os .now) (args .ks .now) (start .pre .0) 7
+          ∙ blamed-on (loneInTarget (args .bars .now)) (args .markers .now) (args .keys .now) (start .pre .0) 7
           (loop .best) (loop .i) (stays-lone .result) (wide .result) (c .lower-if .result) (loop-test .taken)
           (stays-lone .ensures .0) (wide .ensures .0) (c .lower-if .ensures),
     )
@@ -48,7 +49,7 @@ returns c =
     let args = start .args in
     let loop = c .before .loop in
     sym (loop .inv .2
-    ∙ blamed-end (loneInTarget (args .bars .now)) (args .os .now) (args .ks .now) (start .pre .0) 7 (loop .best)
+    ∙ blamed-end (loneInTarget (args .bars .now)) (args .markers .now) (args .keys .now) (start .pre .0) 7 (loop .best)
     (loop .i) (c .loop-test .left))
 
 pub lone-in-target-spec : {M : Type 1} → statement M

@@ -14,7 +14,7 @@ returns-2 c =
     let args = c .before .before .before .before .before .args in
     let start = args .start in
     let t = args .t .now in
-    sym (ap (toward 7 start) (none-blamed (barKeys t (barred false t)) [] (args .os .now) (args .ks .now)
+    sym (ap (toward 7 start) (none-blamed (barKeys t (barred false t)) [] (args .markers .now) (args .keys .now)
     (sym (c .before .any-lone .ensures) ∙ c .if1 .left))
     ∙ none-lower 7 start)
 

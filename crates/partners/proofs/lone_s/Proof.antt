@@ -23,12 +23,12 @@ returns-2 c =
     let after-is-form-p = c .before .before .before .before .before in
     let args = after-is-form-p .before .before .before .before .args in
     let i = args .i in
-    let ks = args .ks .now in
+    let keys = args .keys .now in
     let half-of = after-is-form-p .before .half-of in
     let is-form-p = after-is-form-p .is-form-p in
     let if1 = c .before .before .before .before .if1 in
     let half-of2 = c .before .before .before .half-of2 in
-    sym (lone-start (reverse (take i ks)) (getD ks i 0) (drop (i + 1) ks)
+    sym (lone-start (reverse (take i keys)) (getD keys i 0) (drop (i + 1) keys)
     (rw (half-of .ensures, is-form-p .ensures) at (if1 .left))
     (rw (half-of2 .ensures) at (eq-eqb _ _ (c .before .before .if2 .taken)))
     ∙ ap not (sym (simp tail-is at (c .partner-after .ensures))))
@@ -37,7 +37,7 @@ returns-2 c =
 slice-aggregate-partner-before : tie.Need-slice-aggregate-partner-before
 slice-aggregate-partner-before c =
     let args = c .before .before .before .before .before .before .before .before .args in
-    omega (arith, length-take (args .i) (args .ks .now))
+    omega (arith, length-take (args .i) (args .keys .now))
 
 -- src/lib.rt:52:1
 returns-3 : tie.Need-returns-3
@@ -45,12 +45,12 @@ returns-3 c =
     let after-is-form-p = c .before .before .before .before .before in
     let args = after-is-form-p .before .before .before .before .args in
     let i = args .i in
-    let ks = args .ks .now in
+    let keys = args .keys .now in
     let half-of = after-is-form-p .before .half-of in
     let is-form-p = after-is-form-p .is-form-p in
     let if1 = c .before .before .before .before .if1 in
     let half-of2 = c .before .before .before .half-of2 in
-    sym (lone-end (reverse (take i ks)) (getD ks i 0) (drop (i + 1) ks)
+    sym (lone-end (reverse (take i keys)) (getD keys i 0) (drop (i + 1) keys)
     (rw (half-of .ensures, is-form-p .ensures) at (if1 .left))
     (rw (half-of2 .ensures) at (ne-eqb _ _ (c .before .before .if2 .left)))
     ∙ ap not (sym (c .partner-before .ensures)))

@@ -12,7 +12,7 @@ slice-aggregate-any-half : tie.Need-slice-aggregate-any-half
 unfolding onlyHalf
 slice-aggregate-any-half c =
     let args = c .before .before .before .args in
-    omega (arith, length-take (args .i) (args .ks .now))
+    omega (arith, length-take (args .i) (args .keys .now))
 
 -- src/lib.rt:82:1
 returns : tie.Need-returns

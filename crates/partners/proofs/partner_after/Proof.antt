@@ -8,10 +8,10 @@ use Rattle.partners.proofs.partner_after.Statement.{statement}
 use Rattle.partners.proofs.partner_after.Tie as tie
 
 abbrev Inv-loop : tie.InvT-loop
-Inv-loop ks k i₀ i = (i ≤ length ks) × (partnerSKey k ks ≡ partnerSKey k (drop i ks))
+Inv-loop keys k i₀ i = (i ≤ length keys) × (partnerSKey k keys ≡ partnerSKey k (drop i keys))
 
 abbrev μ-loop : tie.MeasureT-loop
-μ-loop ks k i₀ i = length ks - i
+μ-loop keys k i₀ i = length keys - i
 
 -- src/lib.rt:29:13
 returns : tie.Need-returns Inv-loop μ-loop
@@ -23,7 +23,7 @@ returns c =
     let alike = c .before .before .before .alike in
     c .is-other .ensures
     ∙ sym (loop .inv .1
-    ∙ after-met (args .k) (args .ks .now) (loop .i) (loop-test .taken)
+    ∙ after-met (args .k) (args .keys .now) (loop .i) (loop-test .taken)
     (rw (alike .ensures, c .before .before .is-form-p .ensures) at (c .before .if1 .taken)))
 
 -- src/lib.rt:26:5
@@ -35,7 +35,7 @@ loop-again c =
     let loop-test = c .before .before .before .before .loop-test in (
       search needs,
       loop .inv .1
-          ∙ after-passed (args .k) (args .ks .now) (loop .i) (loop-test .taken)
+          ∙ after-passed (args .k) (args .keys .now) (loop .i) (loop-test .taken)
           (rw (c .before .before .alike .ensures, c .before .is-form-p .ensures) at (c .if1 .left)),
     )
 
@@ -44,7 +44,7 @@ returns-2 : tie.Need-returns-2 Inv-loop μ-loop
 returns-2 c =
     let args = c .before .before .before .args in
     let loop = c .before .loop in
-    sym (loop .inv .1 ∙ after-none (args .k) (args .ks .now) (loop .i) (c .loop-test .left))
+    sym (loop .inv .1 ∙ after-none (args .k) (args .keys .now) (loop .i) (c .loop-test .left))
 
 pub partner-after-spec : {M : Type 1} → statement M
 partner-after-spec =

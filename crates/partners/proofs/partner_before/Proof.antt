@@ -11,18 +11,18 @@ use Rattle.partners.proofs.partner_before.Statement.{statement}
 use Rattle.partners.proofs.partner_before.Tie as tie
 
 abbrev Inv-loop : tie.InvT-loop
-Inv-loop ks k i₀ i = (i ≤ length ks) × (partnerSKey k (reverse ks) ≡ partnerSKey k (reverse (take i ks)))
+Inv-loop keys k i₀ i = (i ≤ length keys) × (partnerSKey k (reverse keys) ≡ partnerSKey k (reverse (take i keys)))
 
 abbrev μ-loop : tie.MeasureT-loop
-μ-loop ks k i₀ i = i
+μ-loop keys k i₀ i = i
 
 -- src/lib.rt:41:5
 loop-holds : tie.Need-loop-holds Inv-loop μ-loop
 loop-holds c =
     let args = c .before .args in
-    let ks = args .ks .now in (
+    let keys = args .keys .now in (
       search needs,
-      ap (λ (l : List ℕ). partnerSKey (args .k) (reverse l)) (sym (take-all (length ks) ks (omega arith))),
+      ap (λ (l : List ℕ). partnerSKey (args .k) (reverse l)) (sym (take-all (length keys) keys (omega arith))),
     )
 
 -- src/lib.rt:45:13
@@ -35,7 +35,7 @@ returns c =
     let alike = c .before .before .before .alike in
     c .is-other .ensures
     ∙ sym (loop .inv .1
-    ∙ before-met (args .k) (args .ks .now) (loop .i) (loop-test .taken) (loop .inv .0)
+    ∙ before-met (args .k) (args .keys .now) (loop .i) (loop-test .taken) (loop .inv .0)
     (rw (alike .ensures, c .before .before .is-form-p .ensures) at (c .before .if1 .taken)))
 
 -- src/lib.rt:41:5
@@ -47,7 +47,7 @@ loop-again c =
     let loop-test = c .before .before .before .before .loop-test in (
       search needs,
       loop .inv .1
-          ∙ before-passed (args .k) (args .ks .now) (loop .i) (loop-test .taken) (loop .inv .0)
+          ∙ before-passed (args .k) (args .keys .now) (loop .i) (loop-test .taken) (loop .inv .0)
           (rw (c .before .before .alike .ensures, c .before .is-form-p .ensures) at (c .if1 .left)),
     )
 
@@ -56,7 +56,7 @@ returns-2 : tie.Need-returns-2 Inv-loop μ-loop
 returns-2 c =
     let args = c .before .before .before .args in
     let loop = c .before .loop in
-    sym (loop .inv .1 ∙ before-none (args .k) (args .ks .now) (loop .i) (c .loop-test .left))
+    sym (loop .inv .1 ∙ before-none (args .k) (args .keys .now) (loop .i) (c .loop-test .left))
 
 pub partner-before-spec : {M : Type 1} → statement M
 partner-before-spec =

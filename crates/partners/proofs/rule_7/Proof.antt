@@ -9,14 +9,14 @@ use Rattle.partners.proofs.rule_7.Tie as tie
 lone-in-source-requires : tie.Need-lone-in-source-requires
 lone-in-source-requires c κs =
     let start = c .before .before .before .before .before .before in
-    ap length (start .pre .2) ∙ keys-length (start .args .t .now) (start .args .src .now)
+    ap length (start .pre .2) ∙ keys-length (start .args .t .now) (start .args .source-markers .now)
 
 -- src/lib.rt:238:5
 lone-in-targets-requires : tie.Need-lone-in-targets-requires
 lone-in-targets-requires c κs =
     let start = c .before .before .before .before .before .before .before in
     let pre = start .pre in
-    (pre .0, pre .7, ap length (pre .4) ∙ keys-length (start .args .t .now) (start .args .tgt .now))
+    (pre .0, pre .7, ap length (pre .4) ∙ keys-length (start .args .t .now) (start .args .target-markers .now))
 
 -- src/lib.rt:234:1
 returns : tie.Need-returns
@@ -26,7 +26,7 @@ returns c =
     let pre = start .pre in
     let lone-in-contents = c .before .before .lone-in-contents in
     let lone-in-source = c .before .lone-in-source in
-    rule-7-is (args .t .now) (pre .0) (args .src .now) (args .skeys .now) (args .tgt .now) (args .tkeys .now)
+    rule-7-is (args .t .now) (pre .0) (args .source-markers .now) (args .source-keys .now) (args .target-markers .now) (args .target-keys .now)
     (lone-in-contents .result) (lone-in-source .result) (c .lone-in-targets .result) (pre .1) (pre .2) (pre .3)
     (pre .4) (lone-in-contents .ensures) (lone-in-source .ensures) (c .lone-in-targets .ensures)
 

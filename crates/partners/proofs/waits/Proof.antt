@@ -1,5 +1,5 @@
 use Rattle.xliff.proofs.lists.Slices.{tail-is}
-use Rattle.partners.specs.Partners.{waits}
+use Rattle.partners.specs.Partners.{waitsKey}
 use Rattle.xliff.proofs.lists.Tests.{and-false}
 use borrow.Author.Tests.{not-true, not-false}
 use mathlib.Core.Path.{sym, _∙_}
@@ -9,19 +9,19 @@ use Rattle.partners.proofs.waits.Tie as tie
 
 -- src/lib.rt:126:9
 returns : tie.Need-returns
-unfolding waits
+unfolding waitsKey
 returns c = (simp (sym (c .before .is-other .ensures) ∙ not-true _ (c .if1 .taken)), search needs)
 
 -- src/lib.rt:129:9
 returns-2 : tie.Need-returns-2
-unfolding waits
+unfolding waitsKey
 returns-2 c =
     let is-lone = c .before .before .before .is-lone in
     (simp (sym (is-lone .ensures .0) ∙ c .if2 .taken, and-false), search needs)
 
 -- src/lib.rt:121:1
 returns-3 : tie.Need-returns-3
-unfolding waits
+unfolding waitsKey
 returns-3 c =
     let after-is-lone = c .before .before .before .before .before .before in
     let is-other = after-is-lone .before .before .before .is-other in
@@ -39,7 +39,7 @@ returns-3 c =
     )
 
 pub waits-spec : {M : Type 1} → statement M
-unfolding waits
+unfolding waitsKey
 waits-spec =
     tie.close
     (tie.spec

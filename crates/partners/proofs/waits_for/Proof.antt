@@ -1,5 +1,5 @@
 use Rattle.partners.proofs.ScanLaws.{some-on, some-off, some-end}
-use Rattle.partners.specs.Partners.{waits, waitsFor}
+use Rattle.partners.specs.Partners.{waitsKey, waitsForKey}
 use lib.ListN.{take, drop, length}
 use mathlib.Core.List.{[], reverse}
 use mathlib.Core.Path.{_≡_, sym, _∙_, refl}
@@ -7,12 +7,13 @@ use Prim.Native.Nat.{_≤_, _-_}
 use borrow.Author.Needs.{needs}
 use Rattle.partners.proofs.waits_for.Statement.{statement}
 use Rattle.partners.proofs.waits_for.Tie as tie
+use Rattle.xliff.specs.Parse.{most-records}
 
 abbrev Inv-loop : tie.InvT-loop
 Inv-loop x bars stack₀ i₀ stack i =
     (i ≤ length bars)
-    × (length stack ≡ 1024)
-    × (waitsFor x [] bars ≡ waitsFor x (reverse (take i bars)) (drop i bars))
+    × (length stack ≡ most-records)
+    × (waitsForKey x [] bars ≡ waitsForKey x (reverse (take i bars)) (drop i bars))
 
 abbrev μ-loop : tie.MeasureT-loop
 μ-loop x bars stack₀ i₀ stack i = length bars - i
@@ -30,7 +31,7 @@ returns c =
     let loop-test = after-loop-test .loop-test in
     let waits-call = c .before .before .before .waits in (
       sym (loop .inv .2
-          ∙ some-on (waits (args .x)) (args .bars .now) (loop .i) (loop-test .taken)
+          ∙ some-on (waitsKey (args .x)) (args .bars .now) (loop .i) (loop-test .taken)
           (sym (waits-call .ensures .0) ∙ c .if1 .taken)),
       search needs,
     )
@@ -46,7 +47,7 @@ loop-again c =
       search needs,
       search needs,
       loop .inv .2
-          ∙ some-off (waits (args .x)) (args .bars .now) (loop .i) (loop-test .taken)
+          ∙ some-off (waitsKey (args .x)) (args .bars .now) (loop .i) (loop-test .taken)
           (sym (waits-call .ensures .0) ∙ c .if1 .left),
     )
 
@@ -55,7 +56,7 @@ returns-2 : tie.Need-returns-2 Inv-loop μ-loop
 returns-2 c =
     let args = c .before .before .before .before .args in
     let loop = c .before .loop in
-    (sym (loop .inv .2 ∙ some-end (waits (args .x)) (args .bars .now) (loop .i) (c .loop-test .left)), search needs)
+    (sym (loop .inv .2 ∙ some-end (waitsKey (args .x)) (args .bars .now) (loop .i) (c .loop-test .left)), search needs)
 
 pub waits-for-spec : {M : Type 1} → statement M
 waits-for-spec =

@@ -6,7 +6,7 @@ use Rattle.orders.proofs.WalkLaws.{walked}
 use Rattle.places.specs.Offsets.{At}
 use Rattle.places.proofs.Places.{at-start}
 use Rattle.xliff.specs.Encode.{Record, unit-records}
-use Rattle.xliff.specs.Parse.{unit}
+use Rattle.xliff.specs.Parse.{unit, most-records}
 use lib.ListN.{length}
 use native.Mathlib.Omega.{arith}
 use mathlib.Core.Path.{refl, sym, _∙_, ap}
@@ -21,7 +21,7 @@ abbrev Inv-loop : tie.InvT-loop
 Inv-loop t out₀ at₀ inside₀ m₀ out at inside m =
     (rs : List Record)
     × At t at rs
-    × Filled out m (source-marks inside at rs) (offsets true 0 t) (length (offsets true 0 t)) 1024
+    × Filled out m (source-marks inside at rs) (offsets true 0 t) (length (offsets true 0 t)) most-records
 
 abbrev μ-loop : tie.MeasureT-loop
 μ-loop t out₀ at₀ inside₀ m₀ out at inside m = length t - at

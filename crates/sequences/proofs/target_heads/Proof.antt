@@ -6,7 +6,7 @@ use Rattle.orders.proofs.WalkLaws.{walked}
 use Rattle.places.specs.Offsets.{At}
 use Rattle.places.proofs.Places.{at-start}
 use Rattle.xliff.specs.Encode.{Record, unit-records}
-use Rattle.xliff.specs.Parse.{unit}
+use Rattle.xliff.specs.Parse.{unit, most-parts}
 use lib.Dec.{eqb}
 use lib.ListN.{length}
 use native.Mathlib.Omega.{arith}
@@ -22,7 +22,7 @@ abbrev Inv-loop : tie.InvT-loop
 Inv-loop t heads₀ at₀ m₀ heads at m =
     (rs : List Record)
     × At t at rs
-    × Filled heads m (head-places at rs) (head-offsets t) (length (head-offsets t)) 64
+    × Filled heads m (head-places at rs) (head-offsets t) (length (head-offsets t)) most-parts
 
 abbrev μ-loop : tie.MeasureT-loop
 μ-loop t heads₀ at₀ m₀ heads at m = length t - at

@@ -13,12 +13,13 @@ use Prim.Native.Nat.{ℕ, _≤_, _-_, _+_}
 use borrow.Author.Needs.{needs}
 use Rattle.sequences.proofs.targets.Statement.{statement}
 use Rattle.sequences.proofs.targets.Tie as tie
+use Rattle.xliff.specs.Parse.{most-records}
 
 abbrev Inv-loop : tie.InvT-loop
 Inv-loop t parts out₀ heads orders k q₀ n₀ out q n =
     (q ≤ parts)
     × Filled out n (target-offsets t q (parts - q)) (target-offsets t 0 parts) (length (target-offsets t 0 parts))
-    1024
+    most-records
 
 abbrev μ-loop : tie.MeasureT-loop
 μ-loop t parts out₀ heads orders k q₀ n₀ out q n = parts - q

@@ -7,7 +7,7 @@ use native.Mathlib.Omega.{arith}
 use borrow.Author.Needs.{needs}
 use Rattle.set_result.proofs.is_too_large.Statement.{statement}
 use Rattle.set_result.proofs.is_too_large.Tie as tie
-use Rattle.record_count.proofs.count_records.Reads as count-records-reads′
+use Rattle.part_at.proofs.count_records.Reads as count-records-reads′
 
 -- src/lib.rt:75:9
 returns : tie.Need-returns

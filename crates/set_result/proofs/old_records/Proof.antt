@@ -1,5 +1,5 @@
 use Rattle.set_result.proofs.CountLaws.{old-there, no-old}
-use Rattle.part_contents.proofs.HoldLaws.{target-there}
+use Rattle.part_at.proofs.HoldLaws.{target-there}
 use Rattle.xliff.specs.Unit.{target-items}
 use Rattle.table.proofs.WidthLaws.{bytes-known}
 use native.Mathlib.Omega.{arith}

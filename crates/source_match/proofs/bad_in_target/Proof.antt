@@ -11,7 +11,7 @@ returns c =
     let args = after-is-code .before .before .before .before .before .before .before .args in
     let matches-by = after-is-code .before .matches-by in
     let is-code = after-is-code .is-code in
-    bad-target-is (args .x) (itemsAt (args .t .now) (args .os .now)) (matches-by .result) (is-code .result)
+    bad-target-is (args .x) (itemsAt (args .t .now) (args .markers .now)) (matches-by .result) (is-code .result)
     (c .copies-none .result) (matches-by .ensures) (is-code .ensures) (c .copies-none .ensures)
 
 pub bad-in-target-spec : {M : Type 1} → statement M

@@ -14,7 +14,7 @@ returns-2 : tie.Need-returns-2
 returns-2 c =
     let args = c .before .before .before .before .before .before .before .before .before .args in
     let matches-by = c .before .matches-by in
-    copies-none-is (args .x) (itemsAt (args .t .now) (args .os .now)) (matches-by .result)
+    copies-none-is (args .x) (itemsAt (args .t .now) (args .markers .now)) (matches-by .result)
     (c .before .before .if1 .left) (matches-by .ensures)
 
 pub copies-none-spec : {M : Type 1} → statement M

@@ -12,10 +12,10 @@ use Rattle.source_match.proofs.matches_by.Statement.{statement}
 use Rattle.source_match.proofs.matches_by.Tie as tie
 
 abbrev Inv-loop : tie.InvT-loop
-Inv-loop t os keys links heads id x found₀ g j₀ found j = Following t os keys id x found j
+Inv-loop t markers keys links heads id x found₀ g j₀ found j = Following t markers keys id x found j
 
 abbrev μ-loop : tie.MeasureT-loop
-μ-loop t os keys links heads id x found₀ g j₀ found j = j
+μ-loop t markers keys links heads id x found₀ g j₀ found j = j
 
 -- the loop's start
 loop-holds : tie.Need-loop-holds Inv-loop μ-loop
@@ -23,7 +23,7 @@ loop-holds c =
     let start = c .before .before .before .before .before .before .before .before in
     let args = start .args in
     let heads = args .heads .now in
-    follow-start (args .t .now) (args .os .now) (args .keys .now) (args .links .now) heads (args .id) (args .x)
+    follow-start (args .t .now) (args .markers .now) (args .keys .now) (args .links .now) heads (args .id) (args .x)
     (start .pre) (c .wide2 .result)
     (c .wide2 .ensures .0 ∙ ap (λ (n : ℕ). getD heads (n % 256) 0) (c .before .before .wide .ensures .0))
 
@@ -37,7 +37,7 @@ shared-slice-read-one-more c =
     let loop-test = c .before .before .before .loop-test in
     omega (
       arith,
-      so-many (args .t .now) (args .os .now) (args .keys .now) (args .links .now) (args .heads .now) (args .id)
+      so-many (args .t .now) (args .markers .now) (args .keys .now) (args .links .now) (args .heads .now) (args .id)
           (args .x) (start .pre),
       loop .inv .0,
       loop-test .taken,
@@ -53,7 +53,7 @@ one-more-requires c κs =
     let loop = c .before .before .before .before .loop in
     let loop-test = c .before .before .before .loop-test in
     ap (λ (l : List ℕ). getD l (loop .j - 1) 0) (start .pre .0)
-    ∙ key-at t (args .os .now) (loop .j - 1) (omega (arith, loop .inv .0, loop-test .taken))
+    ∙ key-at t (args .markers .now) (loop .j - 1) (omega (arith, loop .inv .0, loop-test .taken))
     ∙ ap (λ (k : ℕ). key (item-at t k)) (sym (c .before .wide3 .ensures .0))
 
 -- links[i]
@@ -77,7 +77,7 @@ loop-less c =
     omega (
       arith,
       c .wide4 .ensures .0,
-      follow-less (args .t .now) (args .os .now) (args .keys .now) (args .links .now) (args .heads .now) (args .id)
+      follow-less (args .t .now) (args .markers .now) (args .keys .now) (args .links .now) (args .heads .now) (args .id)
           (args .x) (start .pre) (loop .found) (loop .j) (loop-test .taken) (loop .inv),
     )
 
@@ -91,7 +91,7 @@ loop-again c =
     let loop-test = after-loop-test .loop-test in
     let wide3 = c .before .before .before .before .wide3 in
     let one-more = c .before .before .one-more in
-    follow-next (args .t .now) (args .os .now) (args .keys .now) (args .links .now) (args .heads .now) (args .id)
+    follow-next (args .t .now) (args .markers .now) (args .keys .now) (args .links .now) (args .heads .now) (args .id)
     (args .x) (start .pre) (loop .found) (one-more .result) (loop .j) (wide3 .result) (c .wide4 .result)
     (loop-test .taken) (loop .inv) (wide3 .ensures .0) (one-more .ensures) (c .wide4 .ensures .0)
 
@@ -101,7 +101,7 @@ returns c =
     let start = c .before .before .before .before .before .before .before .before .before .before in
     let args = start .args in
     let loop = c .before .loop in
-    follow-end (args .t .now) (args .os .now) (args .keys .now) (args .links .now) (args .heads .now) (args .id)
+    follow-end (args .t .now) (args .markers .now) (args .keys .now) (args .links .now) (args .heads .now) (args .id)
     (args .x) (start .pre) (loop .found) (loop .j) (c .loop-test .left) (loop .inv)
 
 pub matches-by-spec : {M : Type 1} → statement M

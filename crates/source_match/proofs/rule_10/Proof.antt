@@ -13,7 +13,7 @@ link-before-requires : tie.Need-link-before-requires
 link-before-requires c κs =
     let start = c .before .before .before .before .before .before .before in
     let pre = start .pre in (
-      omega (arith, keys-long (start .args .t .now) (start .args .src .now) _ (pre .2), pre .5),
+      omega (arith, keys-long (start .args .t .now) (start .args .source-markers .now) _ (pre .2), pre .5),
       search needs,
       search needs,
       λ g l. getD-replicate 256 g 0 0 l ∙ sym (previous-none _),
@@ -41,7 +41,7 @@ returns c =
     let args = start .args in
     let pre = start .pre in
     let ten-source = c .before .ten-source in
-    rule-10-is (args .t .now) (args .src .now) (args .tgt .now) (ten-source .result) (c .ten-target .result)
+    rule-10-is (args .t .now) (args .source-markers .now) (args .target-markers .now) (ten-source .result) (c .ten-target .result)
     (pre .0) (pre .1) (pre .3) (ten-source .ensures) (c .ten-target .ensures)
 
 pub rule-10-spec : {M : Type 1} → statement M

@@ -17,13 +17,13 @@ use Rattle.source_match.proofs.ten_source.Statement.{statement}
 use Rattle.source_match.proofs.ten_source.Tie as tie
 
 abbrev Inv-loop : tie.InvT-loop
-Inv-loop t os keys best₀ i₀ best i =
-    (i ≤ length os)
-    × (first-of 10 (blamed bad-10-source [] (placed-at t os))
-    ≡ toward 10 best (blamed bad-10-source (earlier (marker-at t os) i) (placed-at t (drop i os))))
+Inv-loop t markers keys best₀ i₀ best i =
+    (i ≤ length markers)
+    × (first-of 10 (blamed bad-10-source [] (placed-at t markers))
+    ≡ toward 10 best (blamed bad-10-source (earlier (marker-at t markers) i) (placed-at t (drop i markers))))
 
 abbrev μ-loop : tie.MeasureT-loop
-μ-loop t os keys best₀ i₀ best i = length os - i
+μ-loop t markers keys best₀ i₀ best i = length markers - i
 
 -- the loop's start
 loop-holds : tie.Need-loop-holds Inv-loop μ-loop
@@ -36,7 +36,7 @@ unfolding earlier
 shared-slice-read-view-at c =
     let start = c .before .before .before .before .before .before .before .before in
     let loop-test = c .before .before .before .loop-test in
-    omega (arith, keys-long (start .args .t .now) (start .args .os .now) _ (start .pre), loop-test .taken)
+    omega (arith, keys-long (start .args .t .now) (start .args .markers .now) _ (start .pre), loop-test .taken)
 
 -- keys::view_at(t, at, keys[i])
 view-at-requires : tie.Need-view-at-requires Inv-loop μ-loop
@@ -46,7 +46,7 @@ view-at-requires c κs =
     let args = start .args in
     let i = c .before .before .before .before .loop .i in
     let wide = c .before .wide in
-    key-there (args .t .now) (args .os .now) _ (start .pre) i (wide .result) (c .before .before .before .loop-test .taken)
+    key-there (args .t .now) (args .markers .now) _ (start .pre) i (wide .result) (c .before .before .before .loop-test .taken)
     (wide .ensures .0)
 
 -- the loop's step
@@ -56,19 +56,19 @@ loop-again c =
     let after-loop-test = c .before .before .before .before .before .before in
     let args = after-loop-test .before .before .before .before .before .args in
     let t = args .t .now in
-    let os = args .os .now in
+    let markers = args .markers .now in
     let loop = after-loop-test .before .loop in
     let i = loop .i in
     let loop-test = after-loop-test .loop-test in
     let wide = c .before .before .before .before .wide in
     let bad-copy-in-source = c .before .bad-copy-in-source in
     let view-at = c .before .before .view-at in
-    let seen = view-there t os i (wide .result) (view-at .result) (wide .ensures .0) (view-at .ensures) in (
+    let seen = view-there t markers i (wide .result) (view-at .result) (wide .ensures .0) (view-at .ensures) in (
       search needs,
       loop .inv .1
-          ∙ blamed-step 10 bad-10-source t os i (loop .best) (bad-copy-in-source .result) (wide .result)
+          ∙ blamed-step 10 bad-10-source t markers i (loop .best) (bad-copy-in-source .result) (wide .result)
           (c .lower-if .result) (loop-test .taken) (wide .ensures .0)
-          (ten-source-bad t os i (view-at .result) (bad-copy-in-source .result) seen (bad-copy-in-source .ensures))
+          (ten-source-bad t markers i (view-at .result) (bad-copy-in-source .result) seen (bad-copy-in-source .ensures))
           (c .lower-if .ensures),
     )
 
@@ -78,10 +78,10 @@ unfolding earlier
 returns c =
     let args = c .before .before .before .before .before .args in
     let t = args .t .now in
-    let os = args .os .now in
+    let markers = args .markers .now in
     let loop = c .before .loop in
     sym (loop .inv .1
-    ∙ blamed-end bad-10-source t os (earlier (marker-at t os) (loop .i)) (loop .i) (loop .best) 10
+    ∙ blamed-end bad-10-source t markers (earlier (marker-at t markers) (loop .i)) (loop .i) (loop .best) 10
     (c .loop-test .left))
 
 pub ten-source-spec : {M : Type 1} → statement M

@@ -18,14 +18,14 @@ use Rattle.source_match.proofs.ten_target.Statement.{statement}
 use Rattle.source_match.proofs.ten_target.Tie as tie
 
 abbrev Inv-loop : tie.InvT-loop
-Inv-loop t src skeys links heads os keys best₀ i₀ best i =
-    (i ≤ length os)
-    × (toward 10 best₀ (blamed (bad-10-target (itemsAt t src)) [] (placed-at t os))
+Inv-loop t source-markers source-keys links heads markers keys best₀ i₀ best i =
+    (i ≤ length markers)
+    × (toward 10 best₀ (blamed (bad-10-target (itemsAt t source-markers)) [] (placed-at t markers))
     ≡ toward 10 best
-    (blamed (bad-10-target (itemsAt t src)) (earlier (marker-at t os) i) (placed-at t (drop i os))))
+    (blamed (bad-10-target (itemsAt t source-markers)) (earlier (marker-at t markers) i) (placed-at t (drop i markers))))
 
 abbrev μ-loop : tie.MeasureT-loop
-μ-loop t src skeys links heads os keys best₀ i₀ best i = length os - i
+μ-loop t source-markers source-keys links heads markers keys best₀ i₀ best i = length markers - i
 
 -- keys[i]
 shared-slice-read-view-at : tie.Need-shared-slice-read-view-at Inv-loop μ-loop
@@ -33,7 +33,7 @@ unfolding earlier
 shared-slice-read-view-at c =
     let start = c .before .before .before .before .before .before .before .before .before .before .before .before in
     let loop-test = c .before .before .before .loop-test in
-    omega (arith, keys-long (start .args .t .now) (start .args .os .now) _ (start .pre .1), loop-test .taken)
+    omega (arith, keys-long (start .args .t .now) (start .args .markers .now) _ (start .pre .1), loop-test .taken)
 
 -- keys::view_at(t, at, keys[i])
 view-at-requires : tie.Need-view-at-requires Inv-loop μ-loop
@@ -43,7 +43,7 @@ view-at-requires c κs =
     let args = start .args in
     let i = c .before .before .before .before .loop .i in
     let wide = c .before .wide in
-    key-there (args .t .now) (args .os .now) _ (start .pre .1) i (wide .result) (c .before .before .before .loop-test .taken)
+    key-there (args .t .now) (args .markers .now) _ (start .pre .1) i (wide .result) (c .before .before .before .loop-test .taken)
     (wide .ensures .0)
 
 -- bad_in_target(t, src, skeys, links, heads, keys::view_at(t, at, keys[i]))
@@ -77,20 +77,20 @@ loop-again c =
     let after-loop-test = c .before .before .before .before .before .before in
     let args = after-loop-test .before .before .before .before .before .before .before .before .before .args in
     let t = args .t .now in
-    let src = args .src .now in
-    let os = args .os .now in
+    let source-markers = args .source-markers .now in
+    let markers = args .markers .now in
     let loop = after-loop-test .before .loop in
     let i = loop .i in
     let loop-test = after-loop-test .loop-test in
     let wide = c .before .before .before .before .wide in
     let bad-in-target = c .before .bad-in-target in
     let view-at = c .before .before .view-at in
-    let seen = view-there t os i (wide .result) (view-at .result) (wide .ensures .0) (view-at .ensures) in (
+    let seen = view-there t markers i (wide .result) (view-at .result) (wide .ensures .0) (view-at .ensures) in (
       search needs,
       loop .inv .1
-          ∙ blamed-step 10 (bad-10-target (itemsAt t src)) t os i (loop .best) (bad-in-target .result)
+          ∙ blamed-step 10 (bad-10-target (itemsAt t source-markers)) t markers i (loop .best) (bad-in-target .result)
           (wide .result) (c .lower-if .result) (loop-test .taken) (wide .ensures .0)
-          (ten-target-bad t os i (view-at .result) (bad-in-target .result) seen (itemsAt t src) (bad-in-target .ensures))
+          (ten-target-bad t markers i (view-at .result) (bad-in-target .result) seen (itemsAt t source-markers) (bad-in-target .ensures))
           (c .lower-if .ensures),
     )
 
@@ -100,10 +100,10 @@ unfolding earlier
 returns c =
     let args = c .before .before .before .before .before .before .before .before .before .args in
     let t = args .t .now in
-    let os = args .os .now in
+    let markers = args .markers .now in
     let loop = c .before .loop in
     sym (loop .inv .1
-    ∙ blamed-end (bad-10-target (itemsAt t (args .src .now))) t os (earlier (marker-at t os) (loop .i)) (loop .i)
+    ∙ blamed-end (bad-10-target (itemsAt t (args .source-markers .now))) t markers (earlier (marker-at t markers) (loop .i)) (loop .i)
     (loop .best) 10 (c .loop-test .left))
 
 pub ten-target-spec : {M : Type 1} → statement M

@@ -19,7 +19,7 @@ returns-2 c =
     let out = args .out .now in
     let pre = start .pre in
     answers-refused _ 11 0 out
-    (no-part (args .table .now) (args .n) (args .cut) (args .tcut) (args .id) (length out) (pre .0)
+    (no-part (args .table .now) (args .n) (args .source-cut) (args .target-cut) (args .id) (length out) (pre .0)
     (rw (c .enum-told .given .1) at (pre .1)))
 
 pub split-found-spec : {M : Type 1} → statement M

@@ -18,7 +18,7 @@ returns c =
     let (v, st) = start .pre in
     let (b, p, a, h, s) = st in
     answers-refused _ 12 0 out
-    (refused-12 (args .table .now) (args .n) (args .cut) (args .tcut) (args .id) (length out) v b p a h
+    (refused-12 (args .table .now) (args .n) (args .source-cut) (args .target-cut) (args .id) (length out) v b p a h
     (sym (c .before .is-closed .ensures b p a s) ∙ c .if1 .taken))
 
 -- return Answer::Refused(13, 0)
@@ -31,7 +31,7 @@ returns-2 c =
     let (v, st) = start .pre in
     let (b, p, a, h, s) = st in
     answers-refused _ 13 0 out
-    (refused-13 (args .table .now) (args .n) (args .cut) (args .tcut) (args .id) (length out) v b p a h
+    (refused-13 (args .table .now) (args .n) (args .source-cut) (args .target-cut) (args .id) (length out) v b p a h
     (sym (is-closed .ensures b p a s) ∙ c .before .before .if1 .left)
     (sym (c .before .is-bad-cut .ensures b p a s) ∙ c .if2 .taken))
 
@@ -57,7 +57,7 @@ returns-3 c =
     let (v, st) = start .pre in
     let (b, p, a, h, s) = st in
     answers-refused _ 14 0 out
-    (refused-14 (args .table .now) (args .n) (args .cut) (args .tcut) (args .id) (length out) v b p a h
+    (refused-14 (args .table .now) (args .n) (args .source-cut) (args .target-cut) (args .id) (length out) v b p a h
     (sym (is-closed .ensures b p a s) ∙ if1 .left)
     (sym (is-bad-cut .ensures b p a s) ∙ c .before .before .if2 .left)
     (sym (c .before .is-taken .ensures) ∙ c .if3 .taken))
@@ -77,7 +77,7 @@ returns-4 c =
     let (v, st) = start .pre in
     let (b, p, a, h, s) = st in
     answers-refused _ 15 0 out
-    (refused-15 (args .table .now) (args .n) (args .cut) (args .tcut) (args .id) (length out) v b p a h
+    (refused-15 (args .table .now) (args .n) (args .source-cut) (args .target-cut) (args .id) (length out) v b p a h
     (sym (is-closed .ensures b p a s) ∙ if1 .left) (sym (is-bad-cut .ensures b p a s) ∙ if2 .left)
     (sym (is-taken .ensures) ∙ c .before .before .if3 .left)
     (sym (c .before .is-too-large .ensures) ∙ c .if4 .taken))
@@ -90,7 +90,7 @@ put-split-requires c κs =
     let n = args .n in (
       n,
       start .pre,
-      fits (length (args .out .now)) (split-unit (unit (args .table .now)) n (args .cut) (args .tcut) (args .id))
+      fits (length (args .out .now)) (split-unit (unit (args .table .now)) n (args .source-cut) (args .target-cut) (args .id))
           (sym (c .before .before .is-too-large .ensures) ∙ c .before .if4 .left),
     )
 
@@ -103,8 +103,8 @@ returns-5 c =
     let args = start .args in
     let n = args .n in
     let table = args .table .now in
-    let cut = args .cut in
-    let tcut = args .tcut in
+    let source-cut = args .source-cut in
+    let target-cut = args .target-cut in
     let id = args .id in
     let out = args .out .now in
     let pre = start .pre in
@@ -120,7 +120,7 @@ returns-5 c =
     let (v, st) = pre in
     let (b, p, a, h, s) = st in
     let w = put-split .ensures n pre in
-    answers-split table n cut tcut id out v b p a h (sym (is-closed .ensures b p a s) ∙ if1 .left)
+    answers-split table n source-cut target-cut id out v b p a h (sym (is-closed .ensures b p a s) ∙ if1 .left)
     (sym (is-bad-cut .ensures b p a s) ∙ if2 .left) (sym (is-taken .ensures) ∙ if3 .left)
     (sym (is-too-large .ensures) ∙ if4 .left) (put-split .result) (put-split .last .0) (w .0) (w .1)
 

@@ -21,7 +21,7 @@ returns c =
     let args = c .before .before .before .args in
     let source-added = c .before .source-added in
     λ b p a s.
-    part-added (args .cut) (args .tcut) p (source-added .result) (c .target-added .result)
+    part-added (args .source-cut) (args .target-cut) p (source-added .result) (c .target-added .result)
     (source-added .ensures b p a s) (c .target-added .ensures b p a s)
 
 pub added-spec : {M : Type 1} → statement M

@@ -9,7 +9,7 @@ returns c =
     let args = c .before .before .before .args in
     let source-short = c .before .source-short in
     λ b p a s.
-    bad-cut-is p (args .cut) (args .tcut) (source-short .result) (c .target-short .result)
+    bad-cut-is p (args .source-cut) (args .target-cut) (source-short .result) (c .target-short .result)
     (source-short .ensures b p a s) (c .target-short .ensures b p a s)
 
 pub is-bad-cut-spec : {M : Type 1} → statement M

@@ -41,7 +41,7 @@ add-records-2 c =
       arith,
       c .count-records .ensures,
       q .few,
-      few-added t known (args .n) (args .place) pre (args .cut) (args .tcut) (added .result) (added .ensures),
+      few-added t known (args .n) (args .place) pre (args .source-cut) (args .target-cut) (added .result) (added .ensures),
     )
 
 -- src/lib.rt:125:17
@@ -68,7 +68,7 @@ mul-bytes c =
     let added = c .before .before .before .added in
     omega (
       arith,
-      few-added (args .t .now) known (args .n) (args .place) (start .pre) (args .cut) (args .tcut) (added .result)
+      few-added (args .t .now) known (args .n) (args .place) (start .pre) (args .source-cut) (args .target-cut) (added .result)
           (added .ensures),
     )
 
@@ -85,7 +85,7 @@ add-bytes-2 c =
     let (b, p, a, e, s) = st in
     omega (
       arith,
-      few-added t known (args .n) (args .place) pre (args .cut) (args .tcut) (added .result) (added .ensures),
+      few-added t known (args .n) (args .place) pre (args .source-cut) (args .target-cut) (added .result) (added .ensures),
       small-table t (pre .0),
       s .head .ordered,
       s .head .within,
@@ -100,7 +100,7 @@ returns c =
     let added = c .before .before .before .added in
     let count-records = c .before .before .count-records in
     let count-parts = c .before .count-parts in
-    too-large-at (args .t .now) known (args .n) (args .place) (start .pre) (args .cut) (args .tcut) (added .result)
+    too-large-at (args .t .now) known (args .n) (args .place) (start .pre) (args .source-cut) (args .target-cut) (added .result)
     (added .ensures) (args .id) (args .room) (count-records .result) (count-parts .result) (count-records .ensures)
     (count-parts .ensures)
 

@@ -1,5 +1,5 @@
 use Prim.Native.Nat.{_-_}
-use Rattle.part_contents.proofs.HoldLaws.{holds-source}
+use Rattle.part_at.proofs.HoldLaws.{holds-source}
 use Rattle.table.proofs.WidthLaws.{bytes-known}
 use borrow.Author.Needs.{needs}
 use Rattle.split_limits.proofs.source_added.Statement.{statement}

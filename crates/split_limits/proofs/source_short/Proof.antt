@@ -2,7 +2,7 @@ use Prim.Native.Nat.{_-_}
 use lib.ListN.{length}
 use mathlib.Core.Bool.{not}
 use mathlib.Core.Path.{ap, _∙_}
-use Rattle.part_contents.proofs.HoldLaws.{holds-source}
+use Rattle.part_at.proofs.HoldLaws.{holds-source}
 use Rattle.split_limits.proofs.CutLaws.{not-less}
 use Rattle.table.proofs.WidthLaws.{bytes-known}
 use borrow.Author.Needs.{needs}

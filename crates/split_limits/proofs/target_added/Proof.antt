@@ -2,7 +2,7 @@ use native.Mathlib.Omega.{arith}
 use Prim.Native.Nat.{_-_}
 use Rattle.xliff.specs.Unit.{target-items}
 use Rattle.split_limits.proofs.AddedLaws.{grown-there, nothing-grown}
-use Rattle.part_contents.proofs.HoldLaws.{target-there}
+use Rattle.part_at.proofs.HoldLaws.{target-there}
 use Rattle.table.proofs.WidthLaws.{bytes-known}
 use borrow.Author.Needs.{needs}
 use Rattle.split_limits.proofs.target_added.Statement.{statement}

@@ -6,7 +6,7 @@ use mathlib.Core.Path.{sym, ap, _∙_}
 use lib.Dec.{ltb}
 use Rattle.xliff.specs.Item.{Content}
 use Rattle.xliff.specs.Unit.{target-items}
-use Rattle.part_contents.proofs.HoldLaws.{target-there, nothing-there}
+use Rattle.part_at.proofs.HoldLaws.{target-there, nothing-there}
 use Rattle.split_limits.proofs.CutLaws.{not-most}
 use Rattle.table.proofs.WidthLaws.{bytes-known}
 use borrow.Author.Needs.{needs}

@@ -1,5 +1,5 @@
 use Rattle.split_result.proofs.PlaceLaws.{part-is, part-rises}
-use Rattle.part_contents.proofs.HoldLaws.{target-ends}
+use Rattle.part_at.proofs.HoldLaws.{target-ends}
 use Rattle.table.proofs.WidthLaws.{bytes-known}
 use native.Mathlib.Omega.{arith}
 use borrow.Author.Needs.{needs}

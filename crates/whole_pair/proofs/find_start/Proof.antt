@@ -10,28 +10,28 @@ use Rattle.whole_pair.proofs.find_start.Statement.{statement}
 use Rattle.whole_pair.proofs.find_start.Tie as tie
 
 abbrev Inv-loop : tie.InvT-loop
-Inv-loop ks id i₀ i =
-    (i ≤ length ks) × (next (startsAt ks id) 0 (length ks) ≡ next (startsAt ks id) i (length ks - i))
+Inv-loop keys id i₀ i =
+    (i ≤ length keys) × (next (startsAt keys id) 0 (length keys) ≡ next (startsAt keys id) i (length keys - i))
 
 abbrev μ-loop : tie.MeasureT-loop
-μ-loop ks id i₀ i = length ks - i
+μ-loop keys id i₀ i = length keys - i
 
 -- the loop's start
 loop-holds : tie.Need-loop-holds Inv-loop μ-loop
 loop-holds c = (
   omega arith,
-  ap (next (startsAt (c .args .ks .now) (c .args .id)) 0)
-      (let z : length (c .args .ks .now) ≡ length (c .args .ks .now) - 0 = omega arith in z),
+  ap (next (startsAt (c .args .keys .now) (c .args .id)) 0)
+      (let z : length (c .args .keys .now) ≡ length (c .args .keys .now) - 0 = omega arith in z),
 )
 
 -- return i
 returns : tie.Need-returns Inv-loop μ-loop
 returns c =
     let args = c .before .before .before .before .args in
-    let ks = args .ks .now in
+    let keys = args .keys .now in
     let loop = c .before .before .before .loop in (
       sym (loop .inv .1
-          ∙ next-hit (startsAt ks (args .id)) (length ks) (loop .i) (c .before .before .loop-test .taken)
+          ∙ next-hit (startsAt keys (args .id)) (length keys) (loop .i) (c .before .before .loop-test .taken)
           (c .if1 .taken)),
       loop .inv .0,
     )
@@ -40,11 +40,11 @@ returns c =
 loop-again : tie.Need-loop-again Inv-loop μ-loop
 loop-again c =
     let args = c .before .before .before .before .args in
-    let ks = args .ks .now in
+    let keys = args .keys .now in
     let loop = c .before .before .before .loop in (
       omega arith,
       loop .inv .1
-          ∙ next-miss (startsAt ks (args .id)) (length ks) (loop .i) (c .before .before .loop-test .taken)
+          ∙ next-miss (startsAt keys (args .id)) (length keys) (loop .i) (c .before .before .loop-test .taken)
           (c .if1 .left),
     )
 
@@ -52,9 +52,9 @@ loop-again c =
 returns-2 : tie.Need-returns-2 Inv-loop μ-loop
 returns-2 c =
     let args = c .before .before .args in
-    let ks = args .ks .now in
+    let keys = args .keys .now in
     let loop = c .before .loop in (
-      sym (loop .inv .1 ∙ next-end (startsAt ks (args .id)) (length ks) (loop .i) (c .loop-test .left)),
+      sym (loop .inv .1 ∙ next-end (startsAt keys (args .id)) (length keys) (loop .i) (c .loop-test .left)),
       loop .inv .0,
     )
 

@@ -16,7 +16,7 @@ returns c =
     let find-start = c .before .find-start in
     let f = rw (pre, c .before .before .wide-to-u32 .ensures .0) at (find-start .ensures .0) in
     let n = ap length pre in
-    none-started (args .t .now) (args .os .now) (args .id) (find-start .result) f (omega (arith, n, c .if1 .taken))
+    none-started (args .t .now) (args .markers .now) (args .id) (find-start .result) f (omega (arith, n, c .if1 .taken))
 
 -- return FoundPair::Missing
 returns-2 : tie.Need-returns-2
@@ -30,7 +30,7 @@ returns-2 c =
     let f = rw (pre, wide .ensures .0) at (find-start .ensures .0) in
     let n = ap length pre in
     let g = rw pre at (half-after .ensures .0) in
-    none-ended (args .t .now) (args .os .now) (args .id) (find-start .result) f
+    none-ended (args .t .now) (args .markers .now) (args .id) (find-start .result) f
     (omega (arith, n, c .before .before .if1 .left)) (half-after .result) g (omega (arith, n, c .if2 .taken))
 
 -- os[i]
@@ -38,14 +38,14 @@ shared-slice-read-wide : tie.Need-shared-slice-read-wide
 shared-slice-read-wide c =
     let start = c .before .before .before .before .before .before .before .before .before in
     let if1 = c .before .before .before .if1 in
-    omega (arith, keys-long (start .args .t .now) (start .args .os .now) _ (start .pre), if1 .left)
+    omega (arith, keys-long (start .args .t .now) (start .args .markers .now) _ (start .pre), if1 .left)
 
 -- os[j]
 shared-slice-read-wide-2 : tie.Need-shared-slice-read-wide-2
 shared-slice-read-wide-2 c =
     let start = c .before .before .before .before .before .before .before .before .before .before .before .before in
     let if2 = c .before .before .before .before .if2 in
-    omega (arith, keys-long (start .args .t .now) (start .args .os .now) _ (start .pre), if2 .left)
+    omega (arith, keys-long (start .args .t .now) (start .args .markers .now) _ (start .pre), if2 .left)
 
 -- FoundPair::Complete(start.pform, is_unfit(start.reorder, end.reorder))
 returns-3 : tie.Need-returns-3
@@ -68,10 +68,10 @@ returns-3 c =
     let f = rw (pre, wide .ensures .0) at (find-start .ensures .0) in
     let n = ap length pre in
     let g = rw pre at (half-after .ensures .0) in
-    complete t (args .os .now) (args .id) (find-start .result) f (omega (arith, n, if1 .left)) (half-after .result)
+    complete t (args .markers .now) (args .id) (find-start .result) f (omega (arith, n, if1 .left)) (half-after .result)
     g (omega (arith, n, if2 .left)) (view-at .result) (view-at2 .result)
-    (view-there t (args .os .now) _ (wide2 .result) (view-at .result) (wide2 .ensures .0) (view-at .ensures))
-    (view-there t (args .os .now) _ (wide3 .result) (view-at2 .result) (wide3 .ensures .0) (view-at2 .ensures))
+    (view-there t (args .markers .now) _ (wide2 .result) (view-at .result) (wide2 .ensures .0) (view-at .ensures))
+    (view-there t (args .markers .now) _ (wide3 .result) (view-at2 .result) (wide3 .ensures .0) (view-at2 .ensures))
     (c .is-unfit .result) (c .is-unfit .ensures)
 
 pub pair-of-spec : {M : Type 1} → statement M

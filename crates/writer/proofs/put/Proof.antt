@@ -9,10 +9,10 @@ use Rattle.writer.proofs.put.Statement.{statement}
 use Rattle.writer.proofs.put.Tie as tie
 
 abbrev Inv-loop : tie.InvT-loop
-Inv-loop out₀ src i₀ out i = (i ≤ length src) × (length out ≡ length out₀) × (out ≡ take i src ++ drop i out₀)
+Inv-loop out₀ bytes i₀ out i = (i ≤ length bytes) × (length out ≡ length out₀) × (out ≡ take i bytes ++ drop i out₀)
 
 abbrev μ-loop : tie.MeasureT-loop
-μ-loop out₀ src i₀ out i = length src - i
+μ-loop out₀ bytes i₀ out i = length bytes - i
 
 -- src/lib.rt:14:5
 loop-holds : tie.Need-loop-holds Inv-loop μ-loop
@@ -22,13 +22,13 @@ loop-holds c = (omega arith, refl, refl)
 loop-again : tie.Need-loop-again Inv-loop μ-loop
 loop-again c =
     let args = c .before .before .before .args in
-    let src = args .src .now in
+    let bytes = args .bytes .now in
     let loop = c .before .before .loop in
     let i = loop .i in (
       omega arith,
       simp length-set (loop .inv .1),
-      ap (λ (l : List ℕ). set l i (getD src i 0)) (loop .inv .2)
-          ∙ lead-suc src (args .out .now) i (omega arith) (omega arith),
+      ap (λ (l : List ℕ). set l i (getD bytes i 0)) (loop .inv .2)
+          ∙ lead-suc bytes (args .out .now) i (omega arith) (omega arith),
     )
 
 -- src/lib.rt:9:1
@@ -40,7 +40,7 @@ returns : tie.Need-returns Inv-loop μ-loop
 returns c =
     let args = c .before .before .args in
     let loop = c .before .loop in
-    (omega arith, loop .inv .2 ∙ lead-full (args .src .now) (args .out .now) (loop .i) (omega arith))
+    (omega arith, loop .inv .2 ∙ lead-full (args .bytes .now) (args .out .now) (loop .i) (omega arith))
 
 pub put-spec : {M : Type 1} → statement M
 put-spec =

@@ -70,16 +70,16 @@ module _ (t : List ℕ) (c : Call) (r : List ℕ) (v : XliffUnit) (e : outcome t
   same-unit : unit r ≡ v
   same-unit = accepted-unit t v r a
 
-  goal-now : flat-target r ≡ flattened (target-sequence (v .parts))
+  target-now : flat-target r ≡ flattened (target-sequence (v .parts))
   unfolding flat-target
-  goal-now = ap (λ (u : XliffUnit). flattened (target-sequence (u .parts))) same-unit
+  target-now = ap (λ (u : XliffUnit). flattened (target-sequence (u .parts))) same-unit
 
   kept : of-kind a-removal c ≡ false → (x : Item) → non-removable x ≡ true → times x (flat-target t) ≡ 1 → times x (flat-target r) ≡ 1
   unfolding flat-target
   kept z x n h =
       let least = k .codes z x n (let w = times-copies x (flattened (target-sequence (unit t .parts))) in omega arith) in
       let most = sent-once v (a .now) x (code-if x n) in
-      ap (times x) goal-now ∙ times-copies x (flattened (target-sequence (v .parts))) ∙ (let w : copies x (flattened (target-sequence (v .parts))) ≡ 1 = omega arith in w)
+      ap (times x) target-now ∙ times-copies x (flattened (target-sequence (v .parts))) ∙ (let w : copies x (flattened (target-sequence (v .parts))) ≡ 1 = omega arith in w)
 
   accepted-call : OneCall t c
   unfolding flat-source flat-target closed-parts part-count closed-of
@@ -98,7 +98,7 @@ module _ (t : List ℕ) (c : Call) (r : List ℕ) (v : XliffUnit) (e : outcome t
             let n = k .count in
             omega arith;
         kept-codes = λ z x n h. ap (λ (l : List ℕ). times x (flat-target l)) leaves ∙ kept (not-done _ (sym (was-done a-removal) ∙ z)) x n h;
-        same-target = λ z w. ap flat-target leaves ∙ goal-now ∙ k .goals (not-done _ (sym (was-done a-removal) ∙ z)) (not-done _ (sym (was-done a-setting) ∙ w));
+        same-target = λ z w. ap flat-target leaves ∙ target-now ∙ k .goals (not-done _ (sym (was-done a-removal) ∙ z)) (not-done _ (sym (was-done a-setting) ∙ w));
       }
 
 -- a refused call
@@ -120,36 +120,36 @@ refused-call t c x b v e =
     not-done-now j = ap (λ (o : Outcome). one-if (of-kind j c && is-accepted (answer o))) e ∙ ap one-if (and-false (of-kind j c))
 
 -- SPLIT
-split-keeps : (t : List ℕ) (n cut tcut new room : ℕ) (r : List ℕ) → new < 65536 → Bytes t → Valid t → split t n cut tcut new room ≡ result r
-    → Sent (unit t) → Keeps t (SP n cut tcut new room) (split-unit (unit t) n cut tcut new)
+split-keeps : (t : List ℕ) (n source-cut target-cut new room : ℕ) (r : List ℕ) → new < 65536 → Bytes t → Valid t → split t n source-cut target-cut new room ≡ result r
+    → Sent (unit t) → Keeps t (SP n source-cut target-cut new room) (split-unit (unit t) n source-cut target-cut new)
 unfolding split split-unit with-parts split-refusal kind kind-number of-kind one-if
-split-keeps t n cut tcut new room r l b v e h =
+split-keeps t n source-cut target-cut new room r l b v e h =
     let (valid, own, same) = operation-result t _ _ r e in
-    let first = then-left (split-refusal (unit t) cut tcut new (focus (unit t .parts) n)) _ own in
+    let first = then-left (split-refusal (unit t) source-cut target-cut new (focus (unit t .parts) n)) _ own in
     let (closed, count) = by (focus (unit t .parts) n) refl first in
-    let goal = split-target cut tcut new (unit t .parts) n (h .rule-5) in
+    let own-target = split-target source-cut target-cut new (unit t .parts) n (h .rule-5) in
     record {
-      fits = split-fits cut tcut new (unit t .parts) n l (table-fits t b v);
+      fits = split-fits source-cut target-cut new (unit t .parts) n l (table-fits t b v);
       letter = refl;
-      source = split-source cut tcut new (unit t .parts) n;
+      source = split-source source-cut target-cut new (unit t .parts) n;
       closed = closed;
       count = omega arith;
-      codes = λ z x nr k. subst (λ (ys : Content). 1 ≤ copies x ys) (sym goal) k;
-      goals = λ z w. goal;
+      codes = λ z x nr k. subst (λ (ys : Content). 1 ≤ copies x ys) (sym own-target) k;
+      goals = λ z w. own-target;
     }
   where
     u : XliffUnit
     u = unit t
 
-    by : (f : Focus) → focus (u .parts) n ≡ f → split-refusal u cut tcut new f ≡ none
-        → (closed-of (u .opening .canResegment) (split-focus cut tcut new (u .parts) (focus (u .parts) n)) ≡ closed-of (u .opening .canResegment) (u .parts))
-        × (length (split-focus cut tcut new (u .parts) (focus (u .parts) n)) ≡ suc (length (u .parts)))
+    by : (f : Focus) → focus (u .parts) n ≡ f → split-refusal u source-cut target-cut new f ≡ none
+        → (closed-of (u .opening .canResegment) (split-focus source-cut target-cut new (u .parts) (focus (u .parts) n)) ≡ closed-of (u .opening .canResegment) (u .parts))
+        × (length (split-focus source-cut target-cut new (u .parts) (focus (u .parts) n)) ≡ suc (length (u .parts)))
     by nowhere k o = absurd (true≢false (applies-none 11 true o))
     by (here f p a) k o =
         let at : u .parts ≡ f ++ (p ∷ a) = focus-here (u .parts) n f p a k in (
-          ap (λ (z : Focus). closed-of (u .opening .canResegment) (split-focus cut tcut new (u .parts) z)) k
-              ∙ split-closed (u .opening .canResegment) cut tcut new (u .parts) f p a at (applies-none 12 _ (then-left _ _ o)),
-          ap (λ (z : Focus). length (split-focus cut tcut new (u .parts) z)) k ∙ split-count cut tcut new (u .parts) f p a at,
+          ap (λ (z : Focus). closed-of (u .opening .canResegment) (split-focus source-cut target-cut new (u .parts) z)) k
+              ∙ split-closed (u .opening .canResegment) source-cut target-cut new (u .parts) f p a at (applies-none 12 _ (then-left _ _ o)),
+          ap (λ (z : Focus). length (split-focus source-cut target-cut new (u .parts) z)) k ∙ split-count source-cut target-cut new (u .parts) f p a at,
         )
 
 -- JOIN
@@ -158,15 +158,15 @@ unfolding join join-unit with-parts join-refusal kind kind-number of-kind one-if
 join-keeps t n room r b v e h =
     let (valid, own, same) = operation-result t _ _ r e in
     let first = then-left (join-refusal (unit t) n (focus (unit t .parts) n)) _ own in
-    let (closed, count, goal) = by (focus (unit t .parts) n) refl first in
+    let (closed, count, own-target) = by (focus (unit t .parts) n) refl first in
     record {
       fits = join-fits (unit t .parts) n (table-fits t b v);
       letter = refl;
       source = ap flattened (join-source (unit t .parts) n);
       closed = closed;
       count = omega arith;
-      codes = λ z x nr k. subst (λ (ys : Content). 1 ≤ copies x ys) (sym goal) k;
-      goals = λ z w. goal;
+      codes = λ z x nr k. subst (λ (ys : Content). 1 ≤ copies x ys) (sym own-target) k;
+      goals = λ z w. own-target;
     }
   where
     u : XliffUnit
@@ -258,27 +258,27 @@ remove-keeps t n room b v =
 rewrite-keeps : (t : List ℕ) (side i w room : ℕ) → Bytes t → Valid t → Keeps t (RW side i w room) (rewrite-unit (unit t) side i (form-of w))
 unfolding rewrite-unit with-parts kind kind-number of-kind one-if
 rewrite-keeps t side i w room b v =
-    let goal = rewrite-target-sequence side i (form-of w) (unit t .parts) in
+    let own-target = rewrite-target-sequence side i (form-of w) (unit t .parts) in
     record {
       fits = rewrite-fits side i (form-of w) (unit t .parts) (table-fits t b v);
       letter = refl;
       source = rewrite-source side i (form-of w) (unit t .parts);
       closed = rewrite-closed (unit t .opening .canResegment) side i (form-of w) (unit t .parts);
       count = let z = length-map (unit t .parts) (rewrite-part side (rewrite-item i (form-of w))) in omega arith;
-      codes = λ z x nr k. subst (λ (ys : Content). 1 ≤ copies x ys) (sym goal) k;
-      goals = λ z w. goal;
+      codes = λ z x nr k. subst (λ (ys : Content). 1 ≤ copies x ys) (sym own-target) k;
+      goals = λ z w. own-target;
     }
 
 -- The share of each operation: what one call on a valid table of bytes leaves
 pub each-call : (t : List ℕ) (c : Call) → Bytes t → Given c → Valid t → OneCall t c
 unfolding outcome
-each-call t (SP n cut tcut new room) b g v = by (split t n cut tcut new room) refl
+each-call t (SP n source-cut target-cut new room) b g v = by (split t n source-cut target-cut new room) refl
   where
-    by : (o : Outcome) → split t n cut tcut new room ≡ o → OneCall t (SP n cut tcut new room)
-    by (refuse x) e = refused-call t (SP n cut tcut new room) x b v e
+    by : (o : Outcome) → split t n source-cut target-cut new room ≡ o → OneCall t (SP n source-cut target-cut new room)
+    by (refuse x) e = refused-call t (SP n source-cut target-cut new room) x b v e
     by (result r) e =
-        let a = split-accepted t n cut tcut new room r b e in
-        accepted-call t (SP n cut tcut new room) r (split-unit (unit t) n cut tcut new) e a (split-keeps t n cut tcut new room r g b v e (a .was))
+        let a = split-accepted t n source-cut target-cut new room r b e in
+        accepted-call t (SP n source-cut target-cut new room) r (split-unit (unit t) n source-cut target-cut new) e a (split-keeps t n source-cut target-cut new room r g b v e (a .was))
 each-call t (JN n room) b g v = by (join t n room) refl
   where
     by : (o : Outcome) → join t n room ≡ o → OneCall t (JN n room)

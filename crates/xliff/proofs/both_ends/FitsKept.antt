@@ -82,19 +82,19 @@ unfolding head-id with-id
 new-id i (segment f) = refl
 new-id i (ignorable j) = refl
 
-pub split-fits : (cut tcut new : ℕ) (ps : List Part) (n : ℕ) → new < 65536 → FitParts ps → FitParts (split-focus cut tcut new ps (focus ps n))
+pub split-fits : (source-cut target-cut new : ℕ) (ps : List Part) (n : ℕ) → new < 65536 → FitParts ps → FitParts (split-focus source-cut target-cut new ps (focus ps n))
 unfolding split-focus first-half second-half
-split-fits cut tcut new ps n l f = by (focus ps n) refl
+split-fits source-cut target-cut new ps n l f = by (focus ps n) refl
   where
-    by : (x : Focus) → focus ps n ≡ x → FitParts (split-focus cut tcut new ps x)
+    by : (x : Focus) → focus ps n ≡ x → FitParts (split-focus source-cut target-cut new ps x)
     by nowhere e = f
     by (here b p a) e =
         let (u, v, w) = each-apart b p a (subst FitParts (focus-here ps n b p a e) f) in
-        let (one, two) = halves-fit tcut (p .target) (v .target) in
+        let (one, two) = halves-fit target-cut (p .target) (v .target) in
         let g : ℕ → ℕ = split-order (p .target) in
         each-append (order-parts g b) _ (fit-orders g b u)
-        (each-cons (record { head = v .head; source = first-fits cut (p .source) (v .source); target = one })
-        (each-cons (record { head = subst (λ (z : ℕ). z < 65536) (sym (new-id new (p .head))) l; source = second-fits cut (p .source) (v .source); target = two }) (fit-orders g a w)))
+        (each-cons (record { head = v .head; source = first-fits source-cut (p .source) (v .source); target = one })
+        (each-cons (record { head = subst (λ (z : ℕ). z < 65536) (sym (new-id new (p .head))) l; source = second-fits source-cut (p .source) (v .source); target = two }) (fit-orders g a w)))
 
 -- Join
 head-one : (g h : Head) → head-id g < 65536 → head-id h < 65536 → head-id (join-heads g h) < 65536
@@ -104,12 +104,12 @@ head-one (ignorable i) (segment g) p q = q
 head-one (segment f) (ignorable j) p q = p
 head-one (segment f) (segment g) p q = p
 
-goal-one : (g h : Target) → FitTarget g → FitTarget h → FitTarget (join-targets g h)
+target-one : (g h : Target) → FitTarget g → FitTarget h → FitTarget (join-targets g h)
 unfolding join-targets
-goal-one no-target no-target p q = tt
-goal-one no-target (target r ys) p q = q
-goal-one (target o xs) no-target p q = p
-goal-one (target o xs) (target r ys) p q = each-append xs ys p q
+target-one no-target no-target p q = tt
+target-one no-target (target r ys) p q = q
+target-one (target o xs) no-target p q = p
+target-one (target o xs) (target r ys) p q = each-append xs ys p q
 
 pub join-fits : (ps : List Part) (n : ℕ) → FitParts ps → FitParts (join-focus ps (focus ps n))
 unfolding join-focus join-parts
@@ -130,7 +130,7 @@ join-fits ps n f = by (focus ps n) refl
         (record {
           head = head-one (p .head) (q .head) (v .head) (x .head);
           source = each-append (p .source) (q .source) (v .source) (x .source);
-          target = goal-one (p .target) (q .target) (v .target) (x .target);
+          target = target-one (p .target) (q .target) (v .target) (x .target);
         }) y))
 
 -- Set and remove
@@ -163,12 +163,12 @@ rewrite-fits side i w (p ∷ ps) (each-cons h r) = each-cons (by (eqb side 'S'))
     item : (x : Item) → FitIn x → FitIn (rewrite-item i w x)
     item x f = fit-if w (half-of-id i x) x f
 
-    goal : (g : Target) → FitTarget g → FitTarget (rewrite-target (rewrite-item i w) g)
-    goal no-target k = tt
-    goal (target q xs) k = each-map (rewrite-item i w) item xs k
+    own-target : (g : Target) → FitTarget g → FitTarget (rewrite-target (rewrite-item i w) g)
+    own-target no-target k = tt
+    own-target (target q xs) k = each-map (rewrite-item i w) item xs k
 
     by : (b : Bool) → FitPart
         (cond b (record { head = p .head; source = map (rewrite-item i w) (p .source); target = p .target })
         (record { head = p .head; source = p .source; target = rewrite-target (rewrite-item i w) (p .target) }))
     by true = record { head = h .head; source = each-map (rewrite-item i w) item (p .source) (h .source); target = h .target }
-    by false = record { head = h .head; source = h .source; target = goal (p .target) (h .target) }
+    by false = record { head = h .head; source = h .source; target = own-target (p .target) (h .target) }

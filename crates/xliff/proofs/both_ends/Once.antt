@@ -238,14 +238,14 @@ at-most-once ps six seven x c = by (is-end-half x) refl
         let a = copies-flat x (target-sequence ps) in
         let b = sum-le (λ y. bit (same x (flat y))) (end-bit (id-of x)) (end-copies x (some-half (eqb-true (half x) 2 e)) e) (target-sequence ps) in
         let d = ends-marks (id-of x) (target-sequence ps) in
-        let f = shape-closes (seven .tgt (id-of x)) in
+        let f = shape-closes (seven .target-side (id-of x)) in
         omega arith
     by false e =
         let s : is-start x ≡ true = rw (coded (class x) c, e) in
         let a = copies-flat x (target-sequence ps) in
         let b = sum-le (λ y. bit (same x (flat y))) (start-bit (id-of x)) (start-copies x s) (target-sequence ps) in
         let d = starts-target (id-of x) ps in
-        let f = six .tgt (id-of x) in
+        let f = six .target-side (id-of x) in
         omega arith
 
 -- once at least: it is there

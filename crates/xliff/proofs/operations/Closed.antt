@@ -41,13 +41,13 @@ unfolding resolved with-id
 open-with-id c i (segment f) e = e
 open-with-id c i (ignorable j) e = e
 
-pub split-closed : (c cut tcut new : ℕ) (ps : List Part) (b : List Part) (p : Part) (a : List Part) → ps ≡ b ++ (p ∷ a) → is-closed c p ≡ false
-    → closed-of c (split-focus cut tcut new ps (here b p a)) ≡ closed-of c ps
+pub split-closed : (c source-cut target-cut new : ℕ) (ps : List Part) (b : List Part) (p : Part) (a : List Part) → ps ≡ b ++ (p ∷ a) → is-closed c p ≡ false
+    → closed-of c (split-focus source-cut target-cut new ps (here b p a)) ≡ closed-of c ps
 unfolding split-focus first-half second-half closed-of gather is-closed
-split-closed c cut tcut new ps b p a e o =
-    closed-append c (order-parts (split-order (p .target)) b) (first-half cut tcut p ∷ second-half cut tcut new p ∷ order-parts (split-order (p .target)) a)
+split-closed c source-cut target-cut new ps b p a e o =
+    closed-append c (order-parts (split-order (p .target)) b) (first-half source-cut target-cut p ∷ second-half source-cut target-cut new p ∷ order-parts (split-order (p .target)) a)
     ∙ ap₂ _++_ (closed-orders c (split-order (p .target)) b)
-    (ap₂ _++_ (not-closed c (first-half cut tcut p) o) (ap₂ _++_ (not-closed c (second-half cut tcut new p) (open-with-id c new (p .head) o)) (closed-orders c (split-order (p .target)) a)))
+    (ap₂ _++_ (not-closed c (first-half source-cut target-cut p) o) (ap₂ _++_ (not-closed c (second-half source-cut target-cut new p) (open-with-id c new (p .head) o)) (closed-orders c (split-order (p .target)) a)))
     ∙ ap (λ (l : List ClosedPart). closed-of c b ++ (l ++ closed-of c a)) (sym (not-closed c p o))
     ∙ sym (closed-append c b (p ∷ a)) ∙ ap (closed-of c) (sym e)
 

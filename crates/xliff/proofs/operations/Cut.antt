@@ -194,7 +194,7 @@ balanced-orders f (p ∷ ps) (each-cons b h) =
 
 -- SPLIT
 abbrev after-split : ℕ → ℕ → ℕ → List Part → Part → List Part → List Part
-after-split cut tcut new b p a = order-parts (split-order (p .target)) b ++ (first-half cut tcut p ∷ second-half cut tcut new p ∷ order-parts (split-order (p .target)) a)
+after-split source-cut target-cut new b p a = order-parts (split-order (p .target)) b ++ (first-half source-cut target-cut p ∷ second-half source-cut target-cut new p ∷ order-parts (split-order (p .target)) a)
 
 pub record SplitKeeps (old new : List Part) : Type 0 where
   pub source : Turned (source-sequence old) (source-sequence new)
@@ -204,12 +204,12 @@ pub record SplitKeeps (old new : List Part) : Type 0 where
 two-in : (X f s Z m : Content) → f ++ s ≡ m → X ++ (f ++ (s ++ Z)) ≡ X ++ (m ++ Z)
 two-in X f s Z m e = ap (λ (l : Content). X ++ l) (sym (append-assoc f s Z) ∙ ap (λ (l : Content). l ++ Z) e)
 
-module _ (cut tcut new : ℕ) (b : List Part) (p : Part) (a : List Part) (five : fault-5 (b ++ (p ∷ a)) ≡ none) (g : Good7 (b ++ (p ∷ a))) where
+module _ (source-cut target-cut new : ℕ) (b : List Part) (p : Part) (a : List Part) (five : fault-5 (b ++ (p ∷ a)) ≡ none) (g : Good7 (b ++ (p ∷ a))) where
   abbrev old : List Part
   old = b ++ (p ∷ a)
 
   abbrev now : List Part
-  now = after-split cut tcut new b p a
+  now = after-split source-cut target-cut new b p a
 
   source-was : source-sequence old ≡ source-sequence b ++ (p .source ++ source-sequence a)
   unfolding source-sequence gather
@@ -218,88 +218,88 @@ module _ (cut tcut new : ℕ) (b : List Part) (p : Part) (a : List Part) (five :
   own : BalancedPart p
   own = each-apart b p a (g .bal) .1
 
-  source-cut : Cut cut (p .source)
-  source-cut =
-      cut-content cut (p .source) (λ i. waits [] i) (source-sequence b) (source-sequence a)
-      (λ i. subst (λ (l : Content). Shape (waits [] i) (marks i l)) source-was (g .src i)) (own .source)
+  source-is-cut : Cut source-cut (p .source)
+  source-is-cut =
+      cut-content source-cut (p .source) (λ i. waits [] i) (source-sequence b) (source-sequence a)
+      (λ i. subst (λ (l : Content). Shape (waits [] i) (marks i l)) source-was (g .source-side i)) (own .source)
 
   source-turned : Turned (source-sequence old) (source-sequence now)
   unfolding first-half second-half source-sequence gather
   source-turned =
       let f : ℕ → ℕ = split-order (p .target) in
-      let c = source-cut in
+      let c = source-is-cut in
       record {
         keys = c .keys;
         before = source-sequence b;
         mid = p .source;
         behind = source-sequence a;
         was = source-was;
-        is = source-append (order-parts f b) (first-half cut tcut p ∷ second-half cut tcut new p ∷ order-parts f a)
-            ∙ ap₂ (λ (l m : Content). l ++ (first-items cut (p .source) ++ (second-items cut (p .source) ++ m))) (source-orders f b) (source-orders f a)
-            ∙ two-in (source-sequence b) (first-items cut (p .source)) (second-items cut (p .source)) (source-sequence a) (map (turn (c .keys)) (p .source)) (c .together);
+        is = source-append (order-parts f b) (first-half source-cut target-cut p ∷ second-half source-cut target-cut new p ∷ order-parts f a)
+            ∙ ap₂ (λ (l m : Content). l ++ (first-items source-cut (p .source) ++ (second-items source-cut (p .source) ++ m))) (source-orders f b) (source-orders f a)
+            ∙ two-in (source-sequence b) (first-items source-cut (p .source)) (second-items source-cut (p .source)) (source-sequence a) (map (turn (c .keys)) (p .source)) (c .together);
       }
 
-  src-shape : (i : ℕ) → Shape (waits [] i) (marks i (source-sequence now))
+  source-shape : (i : ℕ) → Shape (waits [] i) (marks i (source-sequence now))
   unfolding source-turned
-  src-shape i =
+  source-shape i =
       let t = source-turned in
       subst (λ (l : Content). Shape (waits [] i) (marks i l)) (sym (t .is))
-      (Shape-turn (t .keys) i (t .before) (t .mid) (t .behind) (own .source) (subst (λ (l : Content). Shape (waits [] i) (marks i l)) (t .was) (g .src i)))
+      (Shape-turn (t .keys) i (t .before) (t .mid) (t .behind) (own .source) (subst (λ (l : Content). Shape (waits [] i) (marks i l)) (t .was) (g .source-side i)))
 
-  all-balanced : Balanced (target-items (first-target tcut (p .target))) → Balanced (target-items (second-target tcut (p .target))) → AllBalanced now
+  all-balanced : Balanced (target-items (first-target target-cut (p .target))) → Balanced (target-items (second-target target-cut (p .target))) → AllBalanced now
   unfolding first-half second-half
   all-balanced u v =
       let (hb, hp, ha) = each-apart b p a (g .bal) in
-      let c = source-cut in
+      let c = source-is-cut in
       let f : ℕ → ℕ = split-order (p .target) in
       each-append (order-parts f b) _ (balanced-orders f b hb)
       (each-cons (record { source = c .first; target = u }) (each-cons (record { source = c .second; target = v }) (balanced-orders f a ha)))
 
-  bare-now : bare-sequence now ≡ bare-sequence b ++ (bare (first-half cut tcut p) ++ (bare (second-half cut tcut new p) ++ bare-sequence a))
+  bare-now : bare-sequence now ≡ bare-sequence b ++ (bare (first-half source-cut target-cut p) ++ (bare (second-half source-cut target-cut new p) ++ bare-sequence a))
   unfolding bare-sequence gather
   bare-now =
       let f : ℕ → ℕ = split-order (p .target) in
-      bare-append (order-parts f b) (first-half cut tcut p ∷ second-half cut tcut new p ∷ order-parts f a)
-      ∙ ap₂ (λ (l m : Content). l ++ (bare (first-half cut tcut p) ++ (bare (second-half cut tcut new p) ++ m))) (bare-orders f b) (bare-orders f a)
+      bare-append (order-parts f b) (first-half source-cut target-cut p ∷ second-half source-cut target-cut new p ∷ order-parts f a)
+      ∙ ap₂ (λ (l m : Content). l ++ (bare (first-half source-cut target-cut p) ++ (bare (second-half source-cut target-cut new p) ++ m))) (bare-orders f b) (bare-orders f a)
 
   bare-was : bare-sequence old ≡ bare-sequence b ++ (bare p ++ bare-sequence a)
   unfolding bare-sequence gather
   bare-was = bare-append b (p ∷ a)
 
   -- with a target
-  module _ (q : ℕ) (xs : Content) (goal-is : p .target ≡ target q xs) where
+  module _ (q : ℕ) (xs : Content) (target-equals : p .target ≡ target q xs) where
     raised : (u v : Content) × (target-sequence old ≡ u ++ (xs ++ v))
-        × (target-sequence (order-parts (raise-above q) b ++ (first-half cut tcut p ∷ second-half cut tcut new p ∷ order-parts (raise-above q) a))
-        ≡ u ++ ((first-items tcut xs ++ second-items tcut xs) ++ v))
+        × (target-sequence (order-parts (raise-above q) b ++ (first-half source-cut target-cut p ∷ second-half source-cut target-cut new p ∷ order-parts (raise-above q) a))
+        ≡ u ++ ((first-items target-cut xs ++ second-items target-cut xs) ++ v))
     unfolding first-half second-half first-target second-target
     raised =
-        let (l, h, nb, na) = place b p a q xs goal-is five in
-        split-targets b a p (first-half cut tcut p) (second-half cut tcut new p) q xs (first-items tcut xs) (second-items tcut xs) goal-is
-        (ap (first-target tcut) goal-is) (ap (second-target tcut) goal-is) l h (unused-order q b nb) (unused-order q a na)
+        let (l, h, nb, na) = place b p a q xs target-equals five in
+        split-targets b a p (first-half source-cut target-cut p) (second-half source-cut target-cut new p) q xs (first-items target-cut xs) (second-items target-cut xs) target-equals
+        (ap (first-target target-cut) target-equals) (ap (second-target target-cut) target-equals) l h (unused-order q b nb) (unused-order q a na)
 
-    seqs : (u v : Content) × (target-sequence old ≡ u ++ (xs ++ v)) × (target-sequence now ≡ u ++ ((first-items tcut xs ++ second-items tcut xs) ++ v))
+    seqs : (u v : Content) × (target-sequence old ≡ u ++ (xs ++ v)) × (target-sequence now ≡ u ++ ((first-items target-cut xs ++ second-items target-cut xs) ++ v))
     unfolding split-order
     seqs = (
       raised .0,
       raised .1,
       raised .2,
-      ap (λ (t : Target). target-sequence (order-parts (split-order t) b ++ (first-half cut tcut p ∷ second-half cut tcut new p ∷ order-parts (split-order t) a))) goal-is
+      ap (λ (t : Target). target-sequence (order-parts (split-order t) b ++ (first-half source-cut target-cut p ∷ second-half source-cut target-cut new p ∷ order-parts (split-order t) a))) target-equals
           ∙ raised .3,
     )
 
     own-balanced : Balanced xs
     unfolding target-items
-    own-balanced = subst (λ (t : Target). Balanced (target-items t)) goal-is (own .target)
+    own-balanced = subst (λ (t : Target). Balanced (target-items t)) target-equals (own .target)
 
-    goal-cut : Cut tcut xs
-    goal-cut =
+    target-is-cut : Cut target-cut xs
+    target-is-cut =
         let (u, v, x, y) = seqs in
-        cut-content tcut xs (λ i. waits (bare-sequence old) i) u v (λ i. subst (λ (l : Content). Shape (waits (bare-sequence old) i) (marks i l)) x (g .tgt i)) own-balanced
+        cut-content target-cut xs (λ i. waits (bare-sequence old) i) u v (λ i. subst (λ (l : Content). Shape (waits (bare-sequence old) i) (marks i l)) x (g .target-side i)) own-balanced
 
-    goal-turned : Turned (target-sequence old) (target-sequence now)
-    goal-turned =
+    target-turned : Turned (target-sequence old) (target-sequence now)
+    target-turned =
         let (u, v, x, y) = seqs in
-        let c = goal-cut in
+        let c = target-is-cut in
         record {
           keys = c .keys;
           before = u;
@@ -311,69 +311,69 @@ module _ (cut tcut new : ℕ) (b : List Part) (p : Part) (a : List Part) (five :
 
     bare-same : bare-sequence now ≡ bare-sequence old
     unfolding bare first-half second-half first-target second-target has-target
-    bare-same = bare-now ∙ ap (λ (t : Target). bare-sequence b ++ (cond (has-target (first-target tcut t)) [] (first-items cut (p .source))
-        ++ (cond (has-target (second-target tcut t)) [] (second-items cut (p .source)) ++ bare-sequence a))) goal-is
-        ∙ sym (bare-was ∙ ap (λ (t : Target). bare-sequence b ++ (cond (has-target t) [] (p .source) ++ bare-sequence a)) goal-is)
+    bare-same = bare-now ∙ ap (λ (t : Target). bare-sequence b ++ (cond (has-target (first-target target-cut t)) [] (first-items source-cut (p .source))
+        ++ (cond (has-target (second-target target-cut t)) [] (second-items source-cut (p .source)) ++ bare-sequence a))) target-equals
+        ∙ sym (bare-was ∙ ap (λ (t : Target). bare-sequence b ++ (cond (has-target t) [] (p .source) ++ bare-sequence a)) target-equals)
 
     pub split-with : SplitKeeps old now
-    unfolding first-target second-target target-items goal-turned
+    unfolding first-target second-target target-items target-turned
     split-with =
-        let c = goal-cut in
-        let t = goal-turned in
+        let c = target-is-cut in
+        let t = target-turned in
         record {
           source = source-turned;
           target = t;
           seven = record {
-            src = src-shape;
-            tgt = λ i.
+            source-side = source-shape;
+            target-side = λ i.
                 subst (λ (l : Content). Shape (waits l i) (marks i (target-sequence now))) (sym bare-same)
                 (subst (λ (l : Content). Shape (waits (bare-sequence old) i) (marks i l)) (sym (t .is))
-                (Shape-turn (t .keys) i (t .before) xs (t .behind) own-balanced (subst (λ (l : Content). Shape (waits (bare-sequence old) i) (marks i l)) (t .was) (g .tgt i))));
-            bal = all-balanced (subst (λ (t : Target). Balanced (target-items (first-target tcut t))) (sym goal-is) (c .first))
-                (subst (λ (t : Target). Balanced (target-items (second-target tcut t))) (sym goal-is) (c .second));
+                (Shape-turn (t .keys) i (t .before) xs (t .behind) own-balanced (subst (λ (l : Content). Shape (waits (bare-sequence old) i) (marks i l)) (t .was) (g .target-side i))));
+            bal = all-balanced (subst (λ (t : Target). Balanced (target-items (first-target target-cut t))) (sym target-equals) (c .first))
+                (subst (λ (t : Target). Balanced (target-items (second-target target-cut t))) (sym target-equals) (c .second));
           };
         }
 
   -- without
-  module _ (goal-is : p .target ≡ no-target) where
-    goal-same : target-sequence now ≡ target-sequence old
+  module _ (target-equals : p .target ≡ no-target) where
+    same-target-sequence : target-sequence now ≡ target-sequence old
     unfolding first-half second-half first-target second-target
-    goal-same =
-        ap (λ (t : Target). target-sequence (order-parts (split-order t) b ++ (first-half cut tcut p ∷ second-half cut tcut new p ∷ order-parts (split-order t) a))) goal-is
-        ∙ without-target b p (first-half cut tcut p) (second-half cut tcut new p) a goal-is (ap (first-target tcut) goal-is) (ap (second-target tcut) goal-is) (fault-5-fits old five)
+    same-target-sequence =
+        ap (λ (t : Target). target-sequence (order-parts (split-order t) b ++ (first-half source-cut target-cut p ∷ second-half source-cut target-cut new p ∷ order-parts (split-order t) a))) target-equals
+        ∙ without-target b p (first-half source-cut target-cut p) (second-half source-cut target-cut new p) a target-equals (ap (first-target target-cut) target-equals) (ap (second-target target-cut) target-equals) (fault-5-fits old five)
 
-    bare-turned : bare-sequence now ≡ bare-sequence b ++ (map (turn (source-cut .keys)) (p .source) ++ bare-sequence a)
+    bare-turned : bare-sequence now ≡ bare-sequence b ++ (map (turn (source-is-cut .keys)) (p .source) ++ bare-sequence a)
     unfolding bare first-half second-half first-target second-target has-target
-    bare-turned = bare-now ∙ ap (λ (t : Target). bare-sequence b ++ (cond (has-target (first-target tcut t)) [] (first-items cut (p .source))
-        ++ (cond (has-target (second-target tcut t)) [] (second-items cut (p .source)) ++ bare-sequence a))) goal-is
-        ∙ two-in (bare-sequence b) (first-items cut (p .source)) (second-items cut (p .source)) (bare-sequence a) (map (turn (source-cut .keys)) (p .source)) (source-cut .together)
+    bare-turned = bare-now ∙ ap (λ (t : Target). bare-sequence b ++ (cond (has-target (first-target target-cut t)) [] (first-items source-cut (p .source))
+        ++ (cond (has-target (second-target target-cut t)) [] (second-items source-cut (p .source)) ++ bare-sequence a))) target-equals
+        ∙ two-in (bare-sequence b) (first-items source-cut (p .source)) (second-items source-cut (p .source)) (bare-sequence a) (map (turn (source-is-cut .keys)) (p .source)) (source-is-cut .together)
 
     bare-old : bare-sequence old ≡ bare-sequence b ++ (p .source ++ bare-sequence a)
     unfolding bare has-target
-    bare-old = bare-was ∙ ap (λ (t : Target). bare-sequence b ++ (cond (has-target t) [] (p .source) ++ bare-sequence a)) goal-is
+    bare-old = bare-was ∙ ap (λ (t : Target). bare-sequence b ++ (cond (has-target t) [] (p .source) ++ bare-sequence a)) target-equals
 
     pub split-without : SplitKeeps old now
     unfolding first-target second-target target-items
     split-without =
         record {
           source = source-turned;
-          target = not-turned (target-sequence old) (target-sequence now) goal-same;
+          target = not-turned (target-sequence old) (target-sequence now) same-target-sequence;
           seven = record {
-            src = src-shape;
-            tgt = λ i.
+            source-side = source-shape;
+            target-side = λ i.
                 Shape-mono (λ c s h. ap (λ (l : Content). anyMk c s (marks i l)) bare-turned
-                ∙ waits-turn (source-cut .keys) i (bare-sequence b) (p .source) (bare-sequence a) c s ∙ ap (λ (l : Content). anyMk c s (marks i l)) (sym bare-old) ∙ h)
-                (subst (λ (l : Content). Shape (waits (bare-sequence old) i) (marks i l)) (sym goal-same) (g .tgt i));
-            bal = all-balanced (subst (λ (t : Target). Balanced (target-items (first-target tcut t))) (sym goal-is) r-nil)
-                (subst (λ (t : Target). Balanced (target-items (second-target tcut t))) (sym goal-is) r-nil);
+                ∙ waits-turn (source-is-cut .keys) i (bare-sequence b) (p .source) (bare-sequence a) c s ∙ ap (λ (l : Content). anyMk c s (marks i l)) (sym bare-old) ∙ h)
+                (subst (λ (l : Content). Shape (waits (bare-sequence old) i) (marks i l)) (sym same-target-sequence) (g .target-side i));
+            bal = all-balanced (subst (λ (t : Target). Balanced (target-items (first-target target-cut t))) (sym target-equals) r-nil)
+                (subst (λ (t : Target). Balanced (target-items (second-target target-cut t))) (sym target-equals) r-nil);
           };
         }
 
-pub split-keeps : (cut tcut new : ℕ) (ps b : List Part) (p : Part) (a : List Part) → fault-5 (b ++ (p ∷ a)) ≡ none → Good7 (b ++ (p ∷ a))
-    → SplitKeeps (b ++ (p ∷ a)) (split-focus cut tcut new ps (here b p a))
+pub split-keeps : (source-cut target-cut new : ℕ) (ps b : List Part) (p : Part) (a : List Part) → fault-5 (b ++ (p ∷ a)) ≡ none → Good7 (b ++ (p ∷ a))
+    → SplitKeeps (b ++ (p ∷ a)) (split-focus source-cut target-cut new ps (here b p a))
 unfolding split-focus
-split-keeps cut tcut new ps b p a five g = by (p .target) refl
+split-keeps source-cut target-cut new ps b p a five g = by (p .target) refl
   where
-    by : (t : Target) → p .target ≡ t → SplitKeeps (b ++ (p ∷ a)) (after-split cut tcut new b p a)
-    by no-target e = split-without cut tcut new b p a five g e
-    by (target q xs) e = split-with cut tcut new b p a five g q xs e
+    by : (t : Target) → p .target ≡ t → SplitKeeps (b ++ (p ∷ a)) (after-split source-cut target-cut new b p a)
+    by no-target e = split-without source-cut target-cut new b p a five g e
+    by (target q xs) e = split-with source-cut target-cut new b p a five g q xs e

@@ -58,22 +58,22 @@ join-6 ps b p q a e f = counted-rule-6 _ (counted (subst Rule6 e (rule-6-counted
     counted : Rule6 (b ++ (p ∷ q ∷ a)) → Rule6 (order-parts (join-order ps (p .target) (q .target)) (b ++ (join-parts p q ∷ a)))
     counted r =
         record {
-          src = λ i.
+          source-side = λ i.
               let x = sum-append (source-ids i) b (p ∷ q ∷ a) in
               let y = sum-append (source-ids i) b (join-parts p q ∷ a) in
               let z = source-ids-orders i g (b ++ (join-parts p q ∷ a)) in
               let s = sum-append (start-bit i) (p .source) (q .source) in
               let w = joined-bit i p q in
-              let m = r .src i in
+              let m = r .source-side i in
               omega arith;
-          tgt = λ i.
+          target-side = λ i.
               let x = sum-append (target-ids i) b (p ∷ q ∷ a) in
               let y = sum-append (target-ids i) b (join-parts p q ∷ a) in
               let z = target-ids-orders i g (b ++ (join-parts p q ∷ a)) in
               let s = sum-append (start-bit i) (target-items (p .target)) (target-items (q .target)) in
               let t = ap (starts i) (items-join (p .target) (q .target)) in
               let w = joined-bit i p q in
-              let m = r .tgt i in
+              let m = r .target-side i in
               omega arith;
         }
 

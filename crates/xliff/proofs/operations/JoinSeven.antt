@@ -68,8 +68,8 @@ module _ (ps b : List Part) (p q : Part) (a : List Part) (at : ps ≡ b ++ (p �
   join-7 =
       good-rule-7 now
       (record {
-        src = λ i. subst (λ (l : Content). Shape (waits [] i) (marks i l)) (sym (join-source-here ps b p q a at)) (g .src i);
-        tgt = λ i. subst (λ (l : Content). Shape (waits l i) (marks i (target-sequence now))) (sym bare-same)
-            (subst (λ (l : Content). Shape (waits (bare-sequence ps) i) (marks i l)) (sym (join-target ps b p q a at five fit)) (g .tgt i));
+        source-side = λ i. subst (λ (l : Content). Shape (waits [] i) (marks i l)) (sym (join-source-here ps b p q a at)) (g .source-side i);
+        target-side = λ i. subst (λ (l : Content). Shape (waits l i) (marks i (target-sequence now))) (sym bare-same)
+            (subst (λ (l : Content). Shape (waits (bare-sequence ps) i) (marks i l)) (sym (join-target ps b p q a at five fit)) (g .target-side i));
         bal = all-balanced;
       })

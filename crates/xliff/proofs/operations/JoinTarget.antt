@@ -193,9 +193,9 @@ lower-self : (q : ℕ) → lower-above q q ≡ q
 unfolding lower-above
 lower-self q = rw (le-ltb q q (omega arith))
 
-goal-of : (q : ℕ) (xs ys : Content) (g h : Target) → g ≡ target q xs → h ≡ target (suc q) ys → order-target (lower-above q) (join-targets g h) ≡ target q (xs ++ ys)
+target-of-part : (q : ℕ) (xs ys : Content) (g h : Target) → g ≡ target q xs → h ≡ target (suc q) ys → order-target (lower-above q) (join-targets g h) ≡ target q (xs ++ ys)
 unfolding order-target join-targets
-goal-of q xs ys g h e f = rw (e, f) (ap (λ (z : ℕ). target z (xs ++ ys)) (lower-self q))
+target-of-part q xs ys g h e f = rw (e, f) (ap (λ (z : ℕ). target z (xs ++ ys)) (lower-self q))
 
 lengths : (q : ℕ) (b : List Part) (p r : Part) (a : List Part)
     → length (b ++ (p ∷ r ∷ a)) ≡ suc (length (order-parts (lower-above q) b ++ (order-part (lower-above q) (join-parts p r) ∷ order-parts (lower-above q) a)))
@@ -229,7 +229,7 @@ two-targets b p r a q xs ys pt rt fits =
     (ap (orders-fit (length (b ++ (p ∷ r ∷ a))) []) (append-assoc (orders b) (q ∷ []) (suc q ∷ orders a) ∙ sym shown) ∙ fits) in
     let fb : among (suc q) (orders b) ≡ false = or-left _ _ (sym (among-append (suc q) (orders b) (q ∷ [])) ∙ two .not-before) in
     let fa : among (suc q) (orders a) ≡ false = two .not-after in
-    let jt : j .target ≡ target q (xs ++ ys) = goal-of q xs ys (p .target) (r .target) pt rt in
+    let jt : j .target ≡ target q (xs ++ ys) = target-of-part q xs ys (p .target) (r .target) pt rt in
     let nb : target-of-order lb q ≡ [] = moved-but (lower-above q) q q (suc q) b fb (lowered-own q) ∙ unused-order q b (one .not-before) in
     let na : target-of-order la q ≡ [] = moved-but (lower-above q) q q (suc q) a fa (lowered-own q) ∙ unused-order q a (or-right (eqb q (suc q)) _ (one .not-after)) in
     finish b p r a q xs ys (split-targets lb la j p r q (xs ++ ys) xs ys jt pt rt (one .low) (omega (arith, two .high, lengths q b p r a)) nb na) fb fa

@@ -100,8 +100,8 @@ join-accepted t n room r bt e =
     whole b p q a at k bo seven h =
         let ps : List Part = u .parts in
         let qs : List Part = join-focus (u .parts) (here b p (q ∷ a)) in
-        let src = subst (λ (f : Focus). source-sequence (join-focus (u .parts) f) ≡ source-sequence (u .parts)) k (join-source (u .parts) n) in
-        let tgt = join-target (u .parts) b p q a at (h .rule-5) bo in
+        let source-same = subst (λ (f : Focus). source-sequence (join-focus (u .parts) f) ≡ source-sequence (u .parts)) k (join-source (u .parts) n) in
+        let target-same = join-target (u .parts) b p q a at (h .rule-5) bo in
         let r7 = then-right (fault-6 (u .parts)) _ (h .rules) in
         let r8 = then-right (fault-7 (u .parts)) _ r7 in
         let r9 = then-right (fault-8 (u .parts)) _ r8 in
@@ -116,8 +116,8 @@ join-accepted t n room r bt e =
           good = orders-good (join-order (u .parts) (p .target) (q .target)) (b ++ (join-parts p q ∷ a)) (each-append b (join-parts p q ∷ a) gb (joined p q a gp gr));
           rule-5 = subst (λ (l : List Part). fault-5 (join-focus l (here b p (q ∷ a))) ≡ none) (sym at) (join-5 b p q a (ap fault-5 (sym at) ∙ h .rule-5) bo);
           rules = then-none _ _ (join-6 (u .parts) b p q a at (then-left _ _ (h .rules)))
-              (then-none _ _ seven (then-none _ _ (join-8 (u .parts) qs src tgt (then-left _ _ r8))
-              (then-none _ _ (join-9 (u .parts) qs src tgt (then-left _ _ r9)) (join-10 (u .parts) qs src tgt (then-right (fault-9 (u .parts)) _ r9)))));
+              (then-none _ _ seven (then-none _ _ (join-8 (u .parts) qs source-same target-same (then-left _ _ r8))
+              (then-none _ _ (join-9 (u .parts) qs source-same target-same (then-left _ _ r9)) (join-10 (u .parts) qs source-same target-same (then-right (fault-9 (u .parts)) _ r9)))));
         }
       where
         joined : (p q : Part) (a : List Part) → GoodPart p → GoodParts (q ∷ a) → GoodParts (join-parts p q ∷ a)

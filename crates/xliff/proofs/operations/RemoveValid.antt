@@ -59,7 +59,7 @@ fits-gone n used (x ∷ qs) q rs e =
 abbrev bared : Part → Part
 bared p = record { head = with-state 'I' (p .head); source = p .source; target = no-target }
 
-module _ (b : List Part) (p : Part) (a : List Part) (q : ℕ) (c : Content) (goal-is : p .target ≡ target q c) where
+module _ (b : List Part) (p : Part) (a : List Part) (q : ℕ) (c : Content) (target-equals : p .target ≡ target q c) where
   abbrev old : List Part
   old = b ++ (p ∷ a)
 
@@ -69,7 +69,7 @@ module _ (b : List Part) (p : Part) (a : List Part) (q : ℕ) (c : Content) (goa
   remove-5 : fault-5 old ≡ none → fault-5 now ≡ none
   unfolding fault-5 located orders order-list gather
   remove-5 e =
-      let shown : orders old ≡ orders b ++ (q ∷ orders a) = orders-append b (p ∷ a) ∙ ap (λ (t : Target). orders b ++ (order-list t ++ orders a)) goal-is in
+      let shown : orders old ≡ orders b ++ (q ∷ orders a) = orders-append b (p ∷ a) ∙ ap (λ (t : Target). orders b ++ (order-list t ++ orders a)) target-equals in
       let len : length now ≡ length old = length-append b (bared p ∷ a) ∙ sym (length-append b (p ∷ a)) in
       rule-5-back (length now) 3 [] now
       (ap₂ (λ (z : ℕ) (l : List ℕ). orders-fit z [] l) len (orders-append b (bared p ∷ a))
@@ -79,17 +79,17 @@ module _ (b : List Part) (p : Part) (a : List Part) (q : ℕ) (c : Content) (goa
   unfolding target-items
   remove-6 r =
       record {
-        src = λ i.
+        source-side = λ i.
             let x = sum-append (source-ids i) b (p ∷ a) in
             let y = sum-append (source-ids i) b (bared p ∷ a) in
             let s = ap (λ (j : ℕ). cond {A = ℕ} (eqb j 0) 0 (cond (eqb j i) 1 0)) (state-id 'I' (p .head)) in
-            let m = r .src i in
+            let m = r .source-side i in
             omega arith;
-        tgt = λ i.
+        target-side = λ i.
             let x = sum-append (target-ids i) b (p ∷ a) in
             let y = sum-append (target-ids i) b (bared p ∷ a) in
             let s = ap (λ (j : ℕ). cond {A = ℕ} (eqb j 0) 0 (cond (eqb j i) 1 0)) (state-id 'I' (p .head)) in
-            let m = r .tgt i in
+            let m = r .target-side i in
             omega arith;
       }
 
@@ -99,15 +99,15 @@ module _ (b : List Part) (p : Part) (a : List Part) (q : ℕ) (c : Content) (goa
 
   remove-8 : fault-5 old ≡ none → Rule6 old → fault-8 old ≡ none → fault-8 now ≡ none
   remove-8 five six e =
-      let (u, v, was, is) = taken-out b p (bared p) a q c goal-is refl five in
+      let (u, v, was, is) = taken-out b p (bared p) a q c target-equals refl five in
       let (k, l) = rule-8 old e in
       rule-8-back now (ap (clear bad-8-source []) source-same ∙ k)
       (ap (clear bad-8-target []) is
-      ∙ out-8 u c v (λ i. let x = starts-target i old in let y = six .tgt i in let z = ap (starts i) was in omega arith) (ap (clear bad-8-target []) (sym was) ∙ l))
+      ∙ out-8 u c v (λ i. let x = starts-target i old in let y = six .target-side i in let z = ap (starts i) was in omega arith) (ap (clear bad-8-target []) (sym was) ∙ l))
 
   remove-10 : fault-5 old ≡ none → fault-10 old ≡ none → fault-10 now ≡ none
   remove-10 five e =
-      let (u, v, was, is) = taken-out b p (bared p) a q c goal-is refl five in
+      let (u, v, was, is) = taken-out b p (bared p) a q c target-equals refl five in
       let (k, l) = rule-10 old e in
       rule-10-back now (ap (clear bad-10-source []) source-same ∙ k)
       (ap₂ (λ (s t : Content). clear (bad-10-target s) [] t) source-same is

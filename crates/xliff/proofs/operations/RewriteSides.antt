@@ -211,16 +211,16 @@ both-kept f g ps five six eight s t =
       five = five-kept (on-both f g) (λ p. order-same f g (p .target)) ps five;
       six = counted-rule-6 qs
           (record {
-            src = λ j. let a = six .src j in let b = sum-map (source-ids j) (on-both f g) ps
+            source-side = λ j. let a = six .source-side j in let b = sum-map (source-ids j) (on-both f g) ps
                 ∙ sum-cong (λ p. source-ids j (on-both f g p)) (source-ids j) (λ p. ap (λ (z : ℕ). part-bit j p + z) (starts-map j f (s .flat-same) (p .source))) ps in omega arith;
-            tgt = λ j. let a = six .tgt j in let b = sum-map (target-ids j) (on-both f g) ps
+            target-side = λ j. let a = six .target-side j in let b = sum-map (target-ids j) (on-both f g) ps
                 ∙ sum-cong (λ p. target-ids j (on-both f g p)) (target-ids j)
                 (λ p. ap (λ (z : ℕ). part-bit j p + z) (ap (starts j) (items-of g (p .target)) ∙ starts-map j g (t .flat-same) (target-items (p .target)))) ps in omega arith;
           });
       seven = good-rule-7 qs
           (record {
-            src = λ j. subst (λ (l : Content). Shape (waits [] j) (marks j l)) (sym (source-is f g ps)) (s .shapes j);
-            tgt = λ j. Shape-mono (λ c h k. ap (λ (l : Content). anyMk c h (marks j l)) (bare-is f g ps) ∙ s .blind j (bare-sequence ps) c h ∙ k)
+            source-side = λ j. subst (λ (l : Content). Shape (waits [] j) (marks j l)) (sym (source-is f g ps)) (s .shapes j);
+            target-side = λ j. Shape-mono (λ c h k. ap (λ (l : Content). anyMk c h (marks j l)) (bare-is f g ps) ∙ s .blind j (bare-sequence ps) c h ∙ k)
                 (subst (λ (l : Content). Shape (waits (bare-sequence ps) j) (marks j l)) (sym (target-is f g ps)) (t .shapes j));
             bal = both-balanced f g ps (s .balanced) (t .balanced);
           });

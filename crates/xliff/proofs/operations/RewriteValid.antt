@@ -54,14 +54,14 @@ any-map P Q g h [] = refl
 any-map P Q g h (p ∷ ps) = ap₂ _||_ (h p) (any-map P Q g h ps)
 
 -- the part of a side
-goal-stays : (t : Target) → t ≡ rewrite-target stay t
+target-stays : (t : Target) → t ≡ rewrite-target stay t
 unfolding rewrite-target
-goal-stays no-target = refl
-goal-stays (target q xs) = ap (target q) (sym (map-stay xs))
+target-stays no-target = refl
+target-stays (target q xs) = ap (target q) (sym (map-stay xs))
 
 part-S : (side : ℕ) (f : Item → Item) → eqb side 'S' ≡ true → (p : Part) → rewrite-part side f p ≡ on-both f stay p
 unfolding rewrite-part
-part-S side f e p = rw e (ap (λ (t : Target). record { head = p .head; source = map f (p .source); target = t }) (goal-stays (p .target)))
+part-S side f e p = rw e (ap (λ (t : Target). record { head = p .head; source = map f (p .source); target = t }) (target-stays (p .target)))
 
 part-T : (side : ℕ) (f : Item → Item) → eqb side 'S' ≡ false → (p : Part) → rewrite-part side f p ≡ on-both stay f p
 unfolding rewrite-part
@@ -113,10 +113,10 @@ good-item i w x g = by (half-of-id i x)
     by true = good-form w x g
     by false = g
 
-pub good-goal : (i : ℕ) (w : Form) (g : Target) → GoodTarget g → GoodTarget (rewrite-target (rewrite-item i w) g)
+pub good-own-target : (i : ℕ) (w : Form) (g : Target) → GoodTarget g → GoodTarget (rewrite-target (rewrite-item i w) g)
 unfolding rewrite-target
-good-goal i w no-target g = tt
-good-goal i w (target q xs) g = each-map (rewrite-item i w) (good-item i w) xs g
+good-own-target i w no-target g = tt
+good-own-target i w (target q xs) g = each-map (rewrite-item i w) (good-item i w) xs g
 
 pub good-parts : (side i : ℕ) (w : Form) (ps : List Part) → GoodParts ps → GoodParts (map (rewrite-part side (rewrite-item i w)) ps)
 unfolding rewrite-part
@@ -126,7 +126,7 @@ good-parts side i w (p ∷ ps) (each-cons g h) = each-cons (by (eqb side 'S')) (
     by : (b : Bool) → GoodPart (cond b (record { head = p .head; source = map (rewrite-item i w) (p .source); target = p .target })
         (record { head = p .head; source = p .source; target = rewrite-target (rewrite-item i w) (p .target) }))
     by true = record { head = g .head; source = each-map (rewrite-item i w) (good-item i w) (p .source) (g .source); target = g .target }
-    by false = record { head = g .head; source = g .source; target = good-goal i w (p .target) (g .target) }
+    by false = record { head = g .head; source = g .source; target = good-own-target i w (p .target) (g .target) }
 
 not-found : (u : XliffUnit) (side i : ℕ) (w : Form) → pair-refusal u side i w none ≡ none → ⊥
 unfolding pair-refusal
@@ -155,12 +155,12 @@ rewrite-accepted t side i w room r bt e =
         let six : Rule6 ps = rule-6-counted ps (then-left _ _ (h .rules)) in
         let seven : Good7 ps = rule-7-good ps six (then-left _ _ r7) in
         let at : find-whole i (source-sequence ps) ≡ some p = rw s at found-it in
-        let asked = make-asked i (form-of w) (λ q. q .source) (source-sequence ps) ps p (seven .src i) at (t .not-already) (t .letter)
+        let asked = make-asked i (form-of w) (λ q. q .source) (source-sequence ps) ps p (seven .source-side i) at (t .not-already) (t .letter)
         (λ k. sym (any-map (λ q. are-partners i (side-content side q)) (λ q. are-partners i (map f (q .source))) (rewrite-part side f) (content-S side i f s) ps) ∙ t .partners k) in
         subst Kept (sym (map-same (rewrite-part side f) (on-both f stay) (part-S side f s) ps))
         (both-kept f stay ps (h .rule-5) six (then-left _ _ (then-right (fault-7 ps) _ r7))
-        (rewrites i (form-of w) (λ j. waits [] j) (λ q. q .source) (source-sequence ps) ps (seven .src) (sources ps (seven .bal)) (λ m. total-source m ps) asked)
-        (stays (λ j. waits (bare-sequence ps) j) (λ q. target-items (q .target)) (target-sequence ps) ps (seven .tgt) (goals ps (seven .bal))))
+        (rewrites i (form-of w) (λ j. waits [] j) (λ q. q .source) (source-sequence ps) ps (seven .source-side) (sources ps (seven .bal)) (λ m. total-source m ps) asked)
+        (stays (λ j. waits (bare-sequence ps) j) (λ q. target-items (q .target)) (target-sequence ps) ps (seven .target-side) (goals ps (seven .bal))))
     kept p found-it t h false s =
         let f : Item → Item = rewrite-item i (form-of w) in
         let ps : List Part = u .parts in
@@ -168,12 +168,12 @@ rewrite-accepted t side i w room r bt e =
         let six : Rule6 ps = rule-6-counted ps (then-left _ _ (h .rules)) in
         let seven : Good7 ps = rule-7-good ps six (then-left _ _ r7) in
         let at : find-whole i (target-sequence ps) ≡ some p = rw s at found-it in
-        let asked = make-asked i (form-of w) (λ q. target-items (q .target)) (target-sequence ps) ps p (seven .tgt i) at (t .not-already) (t .letter)
+        let asked = make-asked i (form-of w) (λ q. target-items (q .target)) (target-sequence ps) ps p (seven .target-side i) at (t .not-already) (t .letter)
         (λ k. sym (any-map (λ q. are-partners i (side-content side q)) (λ q. are-partners i (map f (target-items (q .target)))) (rewrite-part side f) (content-T side i f s) ps) ∙ t .partners k) in
         subst Kept (sym (map-same (rewrite-part side f) (on-both stay f) (part-T side f s) ps))
         (both-kept stay f ps (h .rule-5) six (then-left _ _ (then-right (fault-7 ps) _ r7))
-        (stays (λ j. waits [] j) (λ q. q .source) (source-sequence ps) ps (seven .src) (sources ps (seven .bal)))
-        (rewrites i (form-of w) (λ j. waits (bare-sequence ps) j) (λ q. target-items (q .target)) (target-sequence ps) ps (seven .tgt) (goals ps (seven .bal))
+        (stays (λ j. waits [] j) (λ q. q .source) (source-sequence ps) ps (seven .source-side) (sources ps (seven .bal)))
+        (rewrites i (form-of w) (λ j. waits (bare-sequence ps) j) (λ q. target-items (q .target)) (target-sequence ps) ps (seven .target-side) (goals ps (seven .bal))
         (λ m. total-target m ps (h .rule-5)) asked))
 
     by : (o : Option Whole) → find-whole i (side-sequence side (u .parts)) ≡ o → pair-refusal u side i (form-of w) o ≡ none
@@ -184,8 +184,8 @@ rewrite-accepted t side i w room r bt e =
         let qs : List Part = map (rewrite-part side (rewrite-item i (form-of w))) (u .parts) in
         let k = kept p q (tried u side i (form-of w) p o) h (eqb side 'S') refl in
         let r9 = then-right (fault-8 ps) _ (then-right (fault-7 ps) _ (then-right (fault-6 ps) _ (h .rules))) in
-        let src = rewrite-source side i (form-of w) ps in
-        let tgt = rewrite-target-sequence side i (form-of w) ps in
+        let source-same = rewrite-source side i (form-of w) ps in
+        let target-same = rewrite-target-sequence side i (form-of w) ps in
         record {
           letter = h .letter;
           first = rewrite-part side (rewrite-item i (form-of w)) (h .first);
@@ -195,7 +195,7 @@ rewrite-accepted t side i w room r bt e =
           rule-5 = k .five;
           rules =
               then-none _ _ (k .six) (then-none _ _ (k .seven) (then-none _ _ (k .eight)
-              (then-none _ _ (rule-9-kept ps qs src tgt (then-left _ _ r9)) (rule-10-kept ps qs src tgt (then-right (fault-9 ps) _ r9)))));
+              (then-none _ _ (rule-9-kept ps qs source-same target-same (then-left _ _ r9)) (rule-10-kept ps qs source-same target-same (then-right (fault-9 ps) _ r9)))));
         }
 
 -- An accepted rewrite leaves a valid table

@@ -112,21 +112,21 @@ halves-between b f s m a h =
     simp flattened-append
     (ap (λ (l : Content). flattened b ++ l) (sym (append-assoc (flattened f) (flattened s) (flattened a)) ∙ ap (λ (l : Content). l ++ flattened a) h))
 
-pub split-source : (cut tcut new : ℕ) (ps : List Part) (n : ℕ)
-    → flattened (source-sequence (split-focus cut tcut new ps (focus ps n))) ≡ flattened (source-sequence ps)
+pub split-source : (source-cut target-cut new : ℕ) (ps : List Part) (n : ℕ)
+    → flattened (source-sequence (split-focus source-cut target-cut new ps (focus ps n))) ≡ flattened (source-sequence ps)
 unfolding split-focus first-half second-half source-sequence gather
-split-source cut tcut new ps n = by (focus ps n) refl
+split-source source-cut target-cut new ps n = by (focus ps n) refl
   where
-    by : (f : Focus) → focus ps n ≡ f → flattened (source-sequence (split-focus cut tcut new ps f)) ≡ flattened (source-sequence ps)
+    by : (f : Focus) → focus ps n ≡ f → flattened (source-sequence (split-focus source-cut target-cut new ps f)) ≡ flattened (source-sequence ps)
     by nowhere e = refl
     by (here b p a) e =
         let g : ℕ → ℕ = split-order (p .target) in
-        let one : Content = first-items cut (p .source) in
-        let two : Content = second-items cut (p .source) in
+        let one : Content = first-items source-cut (p .source) in
+        let two : Content = second-items source-cut (p .source) in
         ap flattened
-        (source-append (order-parts g b) (first-half cut tcut p ∷ second-half cut tcut new p ∷ order-parts g a)
+        (source-append (order-parts g b) (first-half source-cut target-cut p ∷ second-half source-cut target-cut new p ∷ order-parts g a)
         ∙ ap₂ (λ (l m : Content). l ++ (one ++ (two ++ m))) (source-orders g b) (source-orders g a))
-        ∙ halves-between (source-sequence b) one two (p .source) (source-sequence a) (flattened-halves cut (p .source))
+        ∙ halves-between (source-sequence b) one two (p .source) (source-sequence a) (flattened-halves source-cut (p .source))
         ∙ ap flattened (sym (source-append b (p ∷ a)) ∙ ap source-sequence (sym (focus-here ps n b p a e)))
 
 -- Join keeps the source
@@ -189,10 +189,10 @@ rewrite-source side i w (p ∷ ps) =
     by false = refl
 
 -- part counts
-pub split-count : (cut tcut new : ℕ) (ps b : List Part) (p : Part) (a : List Part) → ps ≡ b ++ (p ∷ a)
-    → length (split-focus cut tcut new ps (here b p a)) ≡ suc (length ps)
+pub split-count : (source-cut target-cut new : ℕ) (ps b : List Part) (p : Part) (a : List Part) → ps ≡ b ++ (p ∷ a)
+    → length (split-focus source-cut target-cut new ps (here b p a)) ≡ suc (length ps)
 unfolding split-focus order-parts
-split-count cut tcut new ps b p a e =
+split-count source-cut target-cut new ps b p a e =
     rw e (simp (length-append, length-map) (omega arith))
 
 pub join-count : (ps b : List Part) (p q : Part) (a : List Part) → ps ≡ b ++ (p ∷ q ∷ a) → suc (length (join-focus ps (here b p (q ∷ a)))) ≡ length ps

@@ -122,30 +122,30 @@ unfolding order-parts
 counted f b p x y a = simp (length-append, length-map) (omega arith)
 
 -- Split keeps 5
-pub split-5 : (cut tcut new : ℕ) (b : List Part) (p : Part) (a : List Part) → fault-5 (b ++ (p ∷ a)) ≡ none
-    → fault-5 (split-focus cut tcut new (b ++ (p ∷ a)) (here b p a)) ≡ none
+pub split-5 : (source-cut target-cut new : ℕ) (b : List Part) (p : Part) (a : List Part) → fault-5 (b ++ (p ∷ a)) ≡ none
+    → fault-5 (split-focus source-cut target-cut new (b ++ (p ∷ a)) (here b p a)) ≡ none
 unfolding fault-5 located split-focus orders order-list gather first-half second-half first-target second-target split-order
-split-5 cut tcut new b p a e = by (p .target) refl (fault-5-fits (b ++ (p ∷ a)) e)
+split-5 source-cut target-cut new b p a e = by (p .target) refl (fault-5-fits (b ++ (p ∷ a)) e)
   where
     count : (f : ℕ → ℕ) (x y : Part) → length (order-parts f b ++ (x ∷ y ∷ order-parts f a)) ≡ suc (length (b ++ (p ∷ a)))
     count f x y = counted f b p x y a
 
     by : (g : Target) → p .target ≡ g → orders-fit (length (b ++ (p ∷ a))) [] (orders (b ++ (p ∷ a))) ≡ true
-        → fault-5 (order-parts (split-order g) b ++ (first-half cut tcut p ∷ second-half cut tcut new p ∷ order-parts (split-order g) a)) ≡ none
+        → fault-5 (order-parts (split-order g) b ++ (first-half source-cut target-cut p ∷ second-half source-cut target-cut new p ∷ order-parts (split-order g) a)) ≡ none
     by no-target g k =
         rule-5-back _ 3 [] _
-        (ap₂ (λ (n : ℕ) (l : List ℕ). orders-fit n [] l) (count (split-order no-target) (first-half cut tcut p) (second-half cut tcut new p))
+        (ap₂ (λ (n : ℕ) (l : List ℕ). orders-fit n [] l) (count (split-order no-target) (first-half source-cut target-cut p) (second-half source-cut target-cut new p))
         (orders-append (order-parts (split-order no-target) b) _
         ∙ ap₂ (λ (l m : List ℕ). l ++ m) (orders-map (split-order no-target) b ∙ map-same (split-order no-target) (λ x. refl) (orders b))
-        (ap₂ (λ (t : Target) (l : List ℕ). order-list (first-target tcut t) ++ (order-list (second-target tcut t) ++ l)) g
+        (ap₂ (λ (t : Target) (l : List ℕ). order-list (first-target target-cut t) ++ (order-list (second-target target-cut t) ++ l)) g
         (orders-map (split-order no-target) a ∙ map-same (split-order no-target) (λ x. refl) (orders a))))
         ∙ fits-more (length (b ++ (p ∷ a))) [] (orders b ++ orders a)
         (ap (orders-fit (length (b ++ (p ∷ a))) []) (sym (orders-append b (p ∷ a) ∙ ap (λ (t : Target). orders b ++ (order-list t ++ orders a)) g)) ∙ k))
     by (target q xs) g k =
         rule-5-back _ 3 [] _
-        (ap₂ (λ (n : ℕ) (l : List ℕ). orders-fit n [] l) (count (raise-above q) (first-half cut tcut p) (second-half cut tcut new p))
+        (ap₂ (λ (n : ℕ) (l : List ℕ). orders-fit n [] l) (count (raise-above q) (first-half source-cut target-cut p) (second-half source-cut target-cut new p))
         (orders-append (order-parts (raise-above q) b) _
         ∙ ap₂ (λ (l m : List ℕ). l ++ m) (orders-map (raise-above q) b)
-        (ap₂ (λ (t : Target) (l : List ℕ). order-list (first-target tcut t) ++ (order-list (second-target tcut t) ++ l)) g (orders-map (raise-above q) a)))
+        (ap₂ (λ (t : Target) (l : List ℕ). order-list (first-target target-cut t) ++ (order-list (second-target target-cut t) ++ l)) g (orders-map (raise-above q) a)))
         ∙ split-fits (length (b ++ (p ∷ a))) q (orders b) (orders a)
         (ap (orders-fit (length (b ++ (p ∷ a))) []) (sym (orders-append b (p ∷ a) ∙ ap (λ (t : Target). orders b ++ (order-list t ++ orders a)) g)) ∙ k))

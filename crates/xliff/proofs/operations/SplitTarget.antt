@@ -47,17 +47,17 @@ glue u v xs ys zs old new x y h =
     ∙ sym (flattened-append u (xs ++ v)))
 
 -- with a target
-with-target : (cut tcut new : ℕ) (b : List Part) (p : Part) (a : List Part) (q : ℕ) (xs : Content) → p .target ≡ target q xs → orders-fit (length (b ++ (p ∷ a))) [] (orders (b ++ (p ∷ a))) ≡ true
-    → flattened (target-sequence (order-parts (raise-above q) b ++ (first-half cut tcut p ∷ second-half cut tcut new p ∷ order-parts (raise-above q) a)))
+with-target : (source-cut target-cut new : ℕ) (b : List Part) (p : Part) (a : List Part) (q : ℕ) (xs : Content) → p .target ≡ target q xs → orders-fit (length (b ++ (p ∷ a))) [] (orders (b ++ (p ∷ a))) ≡ true
+    → flattened (target-sequence (order-parts (raise-above q) b ++ (first-half source-cut target-cut p ∷ second-half source-cut target-cut new p ∷ order-parts (raise-above q) a)))
     ≡ flattened (target-sequence (b ++ (p ∷ a)))
 unfolding first-half second-half first-target second-target orders order-list gather
-with-target cut tcut new b p a q xs g e =
+with-target source-cut target-cut new b p a q xs g e =
     let shown : orders (b ++ (p ∷ a)) ≡ orders b ++ (q ∷ orders a) = orders-append b (p ∷ a) ∙ ap (λ (t : Target). orders b ++ (order-list t ++ orders a)) g in
     let o = order-fits (length (b ++ (p ∷ a))) [] (orders b) q (orders a) (ap (orders-fit (length (b ++ (p ∷ a))) []) (sym shown) ∙ e) in
     let (u, v, x, y) =
-    split-targets b a p (first-half cut tcut p) (second-half cut tcut new p) q xs (first-items tcut xs) (second-items tcut xs) g
-    (ap (first-target tcut) g) (ap (second-target tcut) g) (o .low) (o .high) (unused-order q b (o .not-before)) (unused-order q a (o .not-after)) in
-    glue u v xs (first-items tcut xs) (second-items tcut xs) _ _ x y (flattened-halves tcut xs)
+    split-targets b a p (first-half source-cut target-cut p) (second-half source-cut target-cut new p) q xs (first-items target-cut xs) (second-items target-cut xs) g
+    (ap (first-target target-cut) g) (ap (second-target target-cut) g) (o .low) (o .high) (unused-order q b (o .not-before)) (unused-order q a (o .not-after)) in
+    glue u v xs (first-items target-cut xs) (second-items target-cut xs) _ _ x y (flattened-halves target-cut xs)
 
 -- without: the orders stay, and the one more is not used
 pub without-target : (b : List Part) (p f s : Part) (a : List Part) → p .target ≡ no-target → f .target ≡ no-target → s .target ≡ no-target
@@ -84,23 +84,23 @@ without-target b p f s a pt ft st e =
         inner k = rw (ft, st, pt) (moved (split-order no-target) k k a (λ o. (λ z. z, λ z. z)))
 
 -- Split keeps the flattened target
-pub split-target : (cut tcut new : ℕ) (ps : List Part) (n : ℕ) → fault-5 ps ≡ none
-    → flattened (target-sequence (split-focus cut tcut new ps (focus ps n))) ≡ flattened (target-sequence ps)
+pub split-target : (source-cut target-cut new : ℕ) (ps : List Part) (n : ℕ) → fault-5 ps ≡ none
+    → flattened (target-sequence (split-focus source-cut target-cut new ps (focus ps n))) ≡ flattened (target-sequence ps)
 unfolding split-focus first-half second-half first-target second-target split-order
-split-target cut tcut new ps n e = by (focus ps n) refl
+split-target source-cut target-cut new ps n e = by (focus ps n) refl
   where
     go : (b : List Part) (p : Part) (a : List Part) (g : Target) → p .target ≡ g → ps ≡ b ++ (p ∷ a)
-        → flattened (target-sequence (order-parts (split-order g) b ++ (first-half cut tcut p ∷ second-half cut tcut new p ∷ order-parts (split-order g) a)))
+        → flattened (target-sequence (order-parts (split-order g) b ++ (first-half source-cut target-cut p ∷ second-half source-cut target-cut new p ∷ order-parts (split-order g) a)))
         ≡ flattened (target-sequence ps)
     go b p a no-target h k =
         ap flattened
-        (without-target b p (first-half cut tcut p) (second-half cut tcut new p) a h (ap (first-target tcut) h) (ap (second-target tcut) h)
+        (without-target b p (first-half source-cut target-cut p) (second-half source-cut target-cut new p) a h (ap (first-target target-cut) h) (ap (second-target target-cut) h)
         (subst (λ (l : List Part). orders-fit (length l) [] (orders l) ≡ true) k (fault-5-fits ps e))
         ∙ ap target-sequence (sym k))
     go b p a (target q xs) h k =
-        with-target cut tcut new b p a q xs h (subst (λ (l : List Part). orders-fit (length l) [] (orders l) ≡ true) k (fault-5-fits ps e))
+        with-target source-cut target-cut new b p a q xs h (subst (λ (l : List Part). orders-fit (length l) [] (orders l) ≡ true) k (fault-5-fits ps e))
         ∙ ap (λ (l : List Part). flattened (target-sequence l)) (sym k)
 
-    by : (f : Focus) → focus ps n ≡ f → flattened (target-sequence (split-focus cut tcut new ps f)) ≡ flattened (target-sequence ps)
+    by : (f : Focus) → focus ps n ≡ f → flattened (target-sequence (split-focus source-cut target-cut new ps f)) ≡ flattened (target-sequence ps)
     by nowhere h = refl
     by (here b p a) h = go b p a (p .target) refl (focus-here ps n b p a h)

@@ -99,30 +99,30 @@ one-more i new ps f a z t = by (eqb new 0) (eqb new i) refl t
     by false false e k = omega arith
     by false true e k = let q : sum (f i) ps ≡ 0 = subst (λ (j : ℕ). sum (f j) ps ≡ 0) (eqb-true new i e) (z k) in omega arith
 
-split-6 : (cut tcut new : ℕ) (b : List Part) (p : Part) (a : List Part) → id-taken (b ++ (p ∷ a)) new ≡ false → Rule6 (b ++ (p ∷ a))
-    → Rule6 (split-focus cut tcut new (b ++ (p ∷ a)) (here b p a))
+split-6 : (source-cut target-cut new : ℕ) (b : List Part) (p : Part) (a : List Part) → id-taken (b ++ (p ∷ a)) new ≡ false → Rule6 (b ++ (p ∷ a))
+    → Rule6 (split-focus source-cut target-cut new (b ++ (p ∷ a)) (here b p a))
 unfolding split-focus first-half second-half
-split-6 cut tcut new b p a t r =
+split-6 source-cut target-cut new b p a t r =
     let f : ℕ → ℕ = split-order (p .target) in
-    let rest : List Part = first-half cut tcut p ∷ second-half cut tcut new p ∷ order-parts f a in
+    let rest : List Part = first-half source-cut target-cut p ∷ second-half source-cut target-cut new p ∷ order-parts f a in
     record {
-      src = λ i.
+      source-side = λ i.
           let x = sum-append (source-ids i) (order-parts f b) rest in
           let y = sum-append (source-ids i) b (p ∷ a) in
           let u = source-ids-orders i f b in
           let v = source-ids-orders i f a in
-          let w = starts-halves i cut (p .source) in
+          let w = starts-halves i source-cut (p .source) in
           let n = new-head i new (p .head) in
-          let m = one-more i new (b ++ (p ∷ a)) source-ids (r .src i) (λ k. none-parts new (b ++ (p ∷ a)) k .0) t in
+          let m = one-more i new (b ++ (p ∷ a)) source-ids (r .source-side i) (λ k. none-parts new (b ++ (p ∷ a)) k .0) t in
           omega arith;
-      tgt = λ i.
+      target-side = λ i.
           let x = sum-append (target-ids i) (order-parts f b) rest in
           let y = sum-append (target-ids i) b (p ∷ a) in
           let u = target-ids-orders i f b in
           let v = target-ids-orders i f a in
-          let w = starts-targets i tcut (p .target) in
+          let w = starts-targets i target-cut (p .target) in
           let n = new-head i new (p .head) in
-          let m = one-more i new (b ++ (p ∷ a)) target-ids (r .tgt i) (λ k. none-parts new (b ++ (p ∷ a)) k .1) t in
+          let m = one-more i new (b ++ (p ∷ a)) target-ids (r .target-side i) (λ k. none-parts new (b ++ (p ∷ a)) k .1) t in
           omega arith;
     }
 
@@ -153,23 +153,23 @@ unfolding with-id
 good-id i (segment f) g = g
 good-id i (ignorable j) g = g
 
-split-good : (cut tcut new : ℕ) (b : List Part) (p : Part) (a : List Part) → GoodParts (b ++ (p ∷ a)) → GoodParts (split-focus cut tcut new (b ++ (p ∷ a)) (here b p a))
+split-good : (source-cut target-cut new : ℕ) (b : List Part) (p : Part) (a : List Part) → GoodParts (b ++ (p ∷ a)) → GoodParts (split-focus source-cut target-cut new (b ++ (p ∷ a)) (here b p a))
 unfolding split-focus first-half second-half
-split-good cut tcut new b p a h =
+split-good source-cut target-cut new b p a h =
     let (gb, gp, ga) = each-apart b p a h in
-    let (one, two) = good-targets tcut (p .target) (gp .target) in
+    let (one, two) = good-targets target-cut (p .target) (gp .target) in
     let f : ℕ → ℕ = split-order (p .target) in
     each-append (order-parts f b) _ (orders-good f b gb)
-    (each-cons (record { head = gp .head; source = good-first cut (p .source) (gp .source); target = one })
-    (each-cons (record { head = good-id new (p .head) (gp .head); source = good-second cut (p .source) (gp .source); target = two }) (orders-good f a ga)))
+    (each-cons (record { head = gp .head; source = good-first source-cut (p .source) (gp .source); target = one })
+    (each-cons (record { head = good-id new (p .head) (gp .head); source = good-second source-cut (p .source) (gp .source); target = two }) (orders-good f a ga)))
 
 -- An accepted split
-pub split-accepted : (t : List ℕ) (n cut tcut new room : ℕ) (r : List ℕ) → Bytes t → split t n cut tcut new room ≡ result r → Accepted t (split-unit (unit t) n cut tcut new) r
+pub split-accepted : (t : List ℕ) (n source-cut target-cut new room : ℕ) (r : List ℕ) → Bytes t → split t n source-cut target-cut new room ≡ result r → Accepted t (split-unit (unit t) n source-cut target-cut new) r
 unfolding split split-unit split-focus with-parts split-refusal fault-6-to-10 Valid
-split-accepted t n cut tcut new room r bt e =
+split-accepted t n source-cut target-cut new room r bt e =
     let (valid, own, same) = operation-result t _ _ r e in
-    let first = then-left (split-refusal (unit t) cut tcut new (focus (unit t .parts) n)) _ own in
-    let small = applies-none 15 (too-large room (split-unit (unit t) n cut tcut new)) (then-right (split-refusal (unit t) cut tcut new (focus (unit t .parts) n)) _ own) in
+    let first = then-left (split-refusal (unit t) source-cut target-cut new (focus (unit t .parts) n)) _ own in
+    let small = applies-none 15 (too-large room (split-unit (unit t) n source-cut target-cut new)) (then-right (split-refusal (unit t) source-cut target-cut new (focus (unit t .parts) n)) _ own) in
     let h = sent t bt valid in
     record { was = h; now = by (focus (unit t .parts) n) refl first h; bytes = same; room = room; fits = small }
   where
@@ -177,51 +177,51 @@ split-accepted t n cut tcut new room r bt e =
     u = unit t
 
     v : Focus → XliffUnit
-    v f = with-parts u (split-focus cut tcut new (u .parts) f)
+    v f = with-parts u (split-focus source-cut target-cut new (u .parts) f)
 
     whole : (b : List Part) (p : Part) (a : List Part) → u .parts ≡ b ++ (p ∷ a) → focus (u .parts) n ≡ here b p a → id-taken (u .parts) new ≡ false
         → Sent u → Sent (v (here b p a))
     whole b p a at k taken h =
         let ps : List Part = u .parts in
-        let qs : List Part = split-focus cut tcut new ps (here b p a) in
+        let qs : List Part = split-focus source-cut target-cut new ps (here b p a) in
         let old : List Part = b ++ (p ∷ a) in
-        let now-at : split-focus cut tcut new old (here b p a) ≡ qs = ap (λ (l : List Part). split-focus cut tcut new l (here b p a)) (sym at) in
+        let now-at : split-focus source-cut target-cut new old (here b p a) ≡ qs = ap (λ (l : List Part). split-focus source-cut target-cut new l (here b p a)) (sym at) in
         let r7 = then-right (fault-6 ps) _ (h .rules) in
         let r8 = then-right (fault-7 ps) _ r7 in
         let r9 = then-right (fault-8 ps) _ r8 in
         let six : Rule6 old = subst Rule6 at (rule-6-counted ps (then-left _ _ (h .rules))) in
         let five : fault-5 old ≡ none = ap fault-5 (sym at) ∙ h .rule-5 in
         let seven : Good7 old = rule-7-good old six (ap fault-7 (sym at) ∙ then-left _ _ r7) in
-        let kept = split-keeps cut tcut new ps b p a five seven in
-        let src = subst (λ (f : Focus). flattened (source-sequence (split-focus cut tcut new ps f)) ≡ flattened (source-sequence ps)) k (split-source cut tcut new ps n) in
-        let tgt = subst (λ (f : Focus). flattened (target-sequence (split-focus cut tcut new ps f)) ≡ flattened (target-sequence ps)) k (split-target cut tcut new ps n (h .rule-5)) in
-        let (x, xs, shown) = some-part (order-parts (split-order (p .target)) b) (first-half cut tcut p) (second-half cut tcut new p ∷ order-parts (split-order (p .target)) a) in
+        let kept = split-keeps source-cut target-cut new ps b p a five seven in
+        let source-same = subst (λ (f : Focus). flattened (source-sequence (split-focus source-cut target-cut new ps f)) ≡ flattened (source-sequence ps)) k (split-source source-cut target-cut new ps n) in
+        let target-same = subst (λ (f : Focus). flattened (target-sequence (split-focus source-cut target-cut new ps f)) ≡ flattened (target-sequence ps)) k (split-target source-cut target-cut new ps n (h .rule-5)) in
+        let (x, xs, shown) = some-part (order-parts (split-order (p .target)) b) (first-half source-cut target-cut p) (second-half source-cut target-cut new p ∷ order-parts (split-order (p .target)) a) in
         record {
           letter = h .letter;
           first = x;
           others = xs;
           parts = listed b p a x xs shown;
-          good = subst GoodParts now-at (split-good cut tcut new b p a (subst GoodParts at (h .good)));
-          rule-5 = ap fault-5 (sym now-at) ∙ split-5 cut tcut new b p a five;
+          good = subst GoodParts now-at (split-good source-cut target-cut new b p a (subst GoodParts at (h .good)));
+          rule-5 = ap fault-5 (sym now-at) ∙ split-5 source-cut target-cut new b p a five;
           rules =
-              then-none _ _ (counted-rule-6 qs (subst Rule6 now-at (split-6 cut tcut new b p a (ap (λ (l : List Part). id-taken l new) (sym at) ∙ taken) six)))
+              then-none _ _ (counted-rule-6 qs (subst Rule6 now-at (split-6 source-cut target-cut new b p a (ap (λ (l : List Part). id-taken l new) (sym at) ∙ taken) six)))
               (then-none _ _ (good-rule-7 qs (kept .seven))
               (then-none _ _ (eased-8 old qs (turned-eased _ _ (kept .source)) (turned-eased _ _ (kept .target)) (ap fault-8 (sym at) ∙ then-left _ _ r8))
-              (then-none _ _ (rule-9-kept ps qs src tgt (then-left _ _ r9)) (rule-10-kept ps qs src tgt (then-right (fault-9 ps) _ r9)))));
+              (then-none _ _ (rule-9-kept ps qs source-same target-same (then-left _ _ r9)) (rule-10-kept ps qs source-same target-same (then-right (fault-9 ps) _ r9)))));
         }
       where
         listed : (b : List Part) (p : Part) (a : List Part) (x : Part) (xs : List Part)
-            → order-parts (split-order (p .target)) b ++ (first-half cut tcut p ∷ second-half cut tcut new p ∷ order-parts (split-order (p .target)) a) ≡ x ∷ xs
-            → split-focus cut tcut new (u .parts) (here b p a) ≡ x ∷ xs
+            → order-parts (split-order (p .target)) b ++ (first-half source-cut target-cut p ∷ second-half source-cut target-cut new p ∷ order-parts (split-order (p .target)) a) ≡ x ∷ xs
+            → split-focus source-cut target-cut new (u .parts) (here b p a) ≡ x ∷ xs
         listed b p a x xs e = e
 
-    by : (f : Focus) → focus (u .parts) n ≡ f → split-refusal u cut tcut new f ≡ none → Sent u → Sent (v f)
+    by : (f : Focus) → focus (u .parts) n ≡ f → split-refusal u source-cut target-cut new f ≡ none → Sent u → Sent (v f)
     by nowhere k o h = absurd (true≢false (applies-none 11 true o))
     by (here b p a) k o h =
         let at : u .parts ≡ b ++ (p ∷ a) = focus-here (u .parts) n b p a k in
-        let o2 = then-right (applies 13 (bad-cut p cut tcut)) _ (then-right (applies 12 (is-closed (u .opening .canResegment) p)) _ o) in
+        let o2 = then-right (applies 13 (bad-cut p source-cut target-cut)) _ (then-right (applies 12 (is-closed (u .opening .canResegment) p)) _ o) in
         whole b p a at k (applies-none 14 (id-taken (u .parts) new) o2) h
 
 -- An accepted split leaves a valid table
-pub split-valid : (t : List ℕ) (n cut tcut new room : ℕ) (r : List ℕ) → Bytes t → split t n cut tcut new room ≡ result r → Valid r
-split-valid t n cut tcut new room r bt e = accepted-valid t (split-unit (unit t) n cut tcut new) r (split-accepted t n cut tcut new room r bt e)
+pub split-valid : (t : List ℕ) (n source-cut target-cut new room : ℕ) (r : List ℕ) → Bytes t → split t n source-cut target-cut new room ≡ result r → Valid r
+split-valid t n source-cut target-cut new room r bt e = accepted-valid t (split-unit (unit t) n source-cut target-cut new) r (split-accepted t n source-cut target-cut new room r bt e)

@@ -259,10 +259,10 @@ unfolding content-records
 content-to [] each-nil = each-nil
 content-to (x ∷ xs) (each-cons f h) = item-to x (content-records xs) f (content-to xs h)
 
-goal-from : (g : Target) → AllFit (target-records g) → FitTarget g
+target-from-records : (g : Target) → AllFit (target-records g) → FitTarget g
 unfolding target-records
-goal-from no-target h = tt
-goal-from (target q xs) (each-cons f h) = content-from xs h
+target-from-records no-target h = tt
+target-from-records (target q xs) (each-cons f h) = content-from xs h
 
 pub parts-from : (ps : List Part) → AllFit (gather part-records ps) → FitParts ps
 unfolding gather part-records
@@ -270,7 +270,7 @@ parts-from [] h = each-nil
 parts-from (p ∷ ps) (each-cons f h) =
     let mine = each-left (content-records (p .source) ++ target-records (p .target)) (gather part-records ps) h in
     each-cons
-    (record { head = f; source = content-from (p .source) (each-left (content-records (p .source)) _ mine); target = goal-from (p .target) (each-right (content-records (p .source)) _ mine) })
+    (record { head = f; source = content-from (p .source) (each-left (content-records (p .source)) _ mine); target = target-from-records (p .target) (each-right (content-records (p .source)) _ mine) })
     (parts-from ps (each-right (content-records (p .source) ++ target-records (p .target)) (gather part-records ps) h))
 
 pub unit-from : (u : XliffUnit) → AllFit (unit-records u) → FitParts (u .parts)

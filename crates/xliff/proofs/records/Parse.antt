@@ -118,11 +118,11 @@ reading-content (x ∷ xs) rs = reading-item x (content-records xs) rs ∙ ap (o
 abbrev Outside : List Part → Reading
 Outside ps = record { items = []; target = no-target; parts = ps }
 
-reading-goal : (g : Target) (rs : List Record) (ps : List Part) → reading rs ≡ Outside ps
+reading-target : (g : Target) (rs : List Record) (ps : List Part) → reading rs ≡ Outside ps
     → reading (target-records g ++ rs) ≡ record { items = []; target = g; parts = ps }
 unfolding target-records reading take-record onto
-reading-goal no-target rs ps e = e
-reading-goal (target o xs) rs ps e =
+reading-target no-target rs ps e = e
+reading-target (target o xs) rs ps e =
     ap (take-record (target-head o)) (reading-content xs rs ∙ ap (onto xs) e)
     ∙ ap (λ (ys : Content). record { items = []; target = target o ys; parts = ps }) (append-nil xs)
 
@@ -131,7 +131,7 @@ reading-inside : (xs : Content) (g : Target) (rs : List Record) (ps : List Part)
 unfolding onto
 reading-inside xs g rs ps e =
     ap reading (append-assoc (content-records xs) (target-records g) rs) ∙ reading-content xs (target-records g ++ rs)
-    ∙ ap (onto xs) (reading-goal g rs ps e) ∙ ap (λ (ys : Content). record { items = ys; target = g; parts = ps }) (append-nil xs)
+    ∙ ap (onto xs) (reading-target g rs ps e) ∙ ap (λ (ys : Content). record { items = ys; target = g; parts = ps }) (append-nil xs)
 
 reading-part : (p : Part) (rs : List Record) (ps : List Part) → reading rs ≡ Outside ps → reading (part-records p ++ rs) ≡ Outside (p ∷ ps)
 unfolding part-records reading take-record

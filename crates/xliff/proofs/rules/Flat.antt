@@ -152,15 +152,15 @@ module _ (ps qs : List Part) (s : flattened (source-sequence qs) ≡ flattened (
   unfolding may-copy
   may-copy-flat x y = simp flats
 
-  bad-10-flat : (src b : Content) (x : Item) (a : Content) → bad-10-target (flattened src) (flattened b) (flat x) (flattened a) ≡ bad-10-target src b x a
+  bad-10-flat : (sources b : Content) (x : Item) (a : Content) → bad-10-target (flattened sources) (flattened b) (flat x) (flattened a) ≡ bad-10-target sources b x a
   unfolding bad-10-target unlike-source bad-copy
-  bad-10-flat src b x a =
+  bad-10-flat sources b x a =
       simp (
-        any-flat (of-other-class (flat x)) (of-other-class x) (other-class-flat x) src,
-        any-flat (agrees (flat x)) (agrees x) (agrees-flat x) src,
-        any-flat (may-copy (flat x)) (may-copy x) (may-copy-flat x) src,
+        any-flat (of-other-class (flat x)) (of-other-class x) (other-class-flat x) sources,
+        any-flat (agrees (flat x)) (agrees x) (agrees-flat x) sources,
+        any-flat (may-copy (flat x)) (may-copy x) (may-copy-flat x) sources,
         flats,
-        any-flat (starts-id (id-of x)) (starts-id (id-of x)) (starts-flat (id-of x)) src,
+        any-flat (starts-id (id-of x)) (starts-id (id-of x)) (starts-flat (id-of x)) sources,
       )
 
   pub rule-10-kept : fault-10 ps ≡ none → fault-10 qs ≡ none

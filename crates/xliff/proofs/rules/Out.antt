@@ -32,9 +32,9 @@ module _ (t : Item → Bool) where
       and-both (not (t x)) (clear alone (x ∷ b′) (A ++ B)) (and-left (not (t x)) (clear alone (x ∷ b) (A ++ (c ++ B))) e)
       (out-alone (x ∷ b) (x ∷ b′) A c B (and-right (not (t x)) _ e))
 
-pub out-10 : (src A c B : Content) → clear (bad-10-target src) [] (A ++ (c ++ B)) ≡ true → clear (bad-10-target src) [] (A ++ B) ≡ true
+pub out-10 : (sources A c B : Content) → clear (bad-10-target sources) [] (A ++ (c ++ B)) ≡ true → clear (bad-10-target sources) [] (A ++ B) ≡ true
 unfolding bad-10-target
-out-10 src A c B e = out-alone (λ x. unlike-source src x || bad-copy src x) [] [] A c B e
+out-10 sources A c B e = out-alone (λ x. unlike-source sources x || bad-copy sources x) [] [] A c B e
 
 -- how many items are the other half of x
 abbrev others : Item → Content → ℕ

@@ -75,7 +75,7 @@ beside {e} i b x a s h =
 
 -- in a unit that meets 6 and 7
 pub source-partner : (ps : List Part) → Good7 ps → (b : Content) (x : Item) (a : Content) → source-sequence ps ≡ reverseAux b (x ∷ a) → is-half x ≡ true → Beside (id-of x) b x a
-source-partner ps g b x a e h = beside (id-of x) b x a (subst (λ (l : Content). Shape (waits [] (id-of x)) (marks (id-of x) l)) e (g .src (id-of x))) (half-own x h)
+source-partner ps g b x a e h = beside (id-of x) b x a (subst (λ (l : Content). Shape (waits [] (id-of x)) (marks (id-of x) l)) e (g .source-side (id-of x))) (half-own x h)
 
 pub target-partner : (ps : List Part) → Good7 ps → (b : Content) (x : Item) (a : Content) → target-sequence ps ≡ reverseAux b (x ∷ a) → is-half x ≡ true → Beside (id-of x) b x a
-target-partner ps g b x a e h = beside (id-of x) b x a (subst (λ (l : Content). Shape (waits (bare-sequence ps) (id-of x)) (marks (id-of x) l)) e (g .tgt (id-of x))) (half-own x h)
+target-partner ps g b x a e h = beside (id-of x) b x a (subst (λ (l : Content). Shape (waits (bare-sequence ps) (id-of x)) (marks (id-of x) l)) e (g .target-side (id-of x))) (half-own x h)

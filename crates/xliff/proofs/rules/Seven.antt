@@ -21,7 +21,7 @@ use Rattle.xliff.proofs.rules.Stack.{r-nil, Bal}
 use Rattle.xliff.proofs.rules.Balance.{Balanced, clear-balanced, balanced-clear}
 use Rattle.xliff.proofs.rules.Marks.{Mk, mk, mkOf, marks, marks-cons, marks-append, Shape, waits, anyMk, clear-marks, shapes-clear, pmk, opens, shape-from, Bal-id, Bal-two}
 use Rattle.xliff.proofs.rules.Total.{total-target-most}
-use Rattle.xliff.proofs.rules.Six.{start-bit, starts, source-ids, target-ids, Rule6, items-goal}
+use Rattle.xliff.proofs.rules.Six.{start-bit, starts, source-ids, target-ids, Rule6, items-of-target}
 
 -- the sources of the parts without target
 unfoldable pub bare : Part → Content
@@ -38,8 +38,8 @@ abbrev pub AllBalanced : List Part → Type 0
 AllBalanced ps = Each BalancedPart ps
 
 pub record Good7 (ps : List Part) : Type 0 where
-  pub src : (i : ℕ) → Shape (waits [] i) (marks i (source-sequence ps))
-  pub tgt : (i : ℕ) → Shape (waits (bare-sequence ps) i) (marks i (target-sequence ps))
+  pub source-side : (i : ℕ) → Shape (waits [] i) (marks i (source-sequence ps))
+  pub target-side : (i : ℕ) → Shape (waits (bare-sequence ps) i) (marks i (target-sequence ps))
   pub bal : AllBalanced ps
 
 -- One start of an id at most, by rule 6
@@ -135,7 +135,7 @@ contents-balanced at (p ∷ ps) e =
     each-cons
     (record {
       source = clear-balanced (p .source) (ap (clear lone-P []) (sym (items-placed (source-at l) [] (p .source))) ∙ clear-blamed lone-P [] s a);
-      target = clear-balanced (target-items (p .target)) (ap (clear lone-P []) (sym (items-goal (target-at l) (p .target))) ∙ clear-blamed lone-P [] t b);
+      target = clear-balanced (target-items (p .target)) (ap (clear lone-P []) (sym (items-of-target (target-at l) (p .target))) ∙ clear-blamed lone-P [] t b);
     })
     (contents-balanced (at + part-size p) ps (append-nil-right (blamed lone-P [] t) _ r))
 
@@ -145,7 +145,7 @@ balanced-contents at [] each-nil = refl
 balanced-contents at (p ∷ ps) (each-cons b h) =
     let l : Located = record { part = p; at = at } in
     ap₂ _++_ (blamed-clear lone-P [] (placed-from (source-at l) [] (p .source)) (ap (clear lone-P []) (items-placed (source-at l) [] (p .source)) ∙ balanced-clear (p .source) (b .source)))
-    (ap₂ _++_ (blamed-clear lone-P [] (placed-target (target-at l) (p .target)) (ap (clear lone-P []) (items-goal (target-at l) (p .target)) ∙ balanced-clear (target-items (p .target)) (b .target)))
+    (ap₂ _++_ (blamed-clear lone-P [] (placed-target (target-at l) (p .target)) (ap (clear lone-P []) (items-of-target (target-at l) (p .target)) ∙ balanced-clear (target-items (p .target)) (b .target)))
     (balanced-contents (at + part-size p) ps h))
 
 -- with nothing that waits, no half may be alone
@@ -207,12 +207,12 @@ rule-7-good ps r e =
     let t : clear (lone-in-target (waiting [] ps)) [] (target-sequence ps) ≡ true
     = ap (clear (lone-in-target (waiting [] ps)) []) (sym (items-target 3 ps)) ∙ clear-blamed (lone-in-target (waiting [] ps)) [] (placed-target-sequence (located-from 3 ps)) c in
     record {
-      src = λ i. shape-from (waits [] i) i (marks i (source-sequence ps)) (source-run i ps bal)
-          (let x = opens-starts i (source-sequence ps) in let y = starts-source i ps in let z = r .src i in omega arith)
+      source-side = λ i. shape-from (waits [] i) i (marks i (source-sequence ps)) (source-run i ps bal)
+          (let x = opens-starts i (source-sequence ps) in let y = starts-source i ps in let z = r .source-side i in omega arith)
           (clear-marks [] i [] (source-sequence ps) s₀);
-      tgt = λ i. subst (λ (l : List Mk). Shape (λ c s. anyMk c s l) (marks i (target-sequence ps))) (marks-waiting i [] ps bal s)
+      target-side = λ i. subst (λ (l : List Mk). Shape (λ c s. anyMk c s l) (marks i (target-sequence ps))) (marks-waiting i [] ps bal s)
           (shape-from (waits (waiting [] ps) i) i (marks i (target-sequence ps)) (target-sequence-run i ps bal)
-          (let x = opens-starts i (target-sequence ps) in let y = starts-target i ps in let z = r .tgt i in omega arith)
+          (let x = opens-starts i (target-sequence ps) in let y = starts-target i ps in let z = r .target-side i in omega arith)
           (clear-marks (waiting [] ps) i [] (target-sequence ps) t));
       bal = bal;
     }
@@ -220,11 +220,11 @@ rule-7-good ps r e =
 pub good-rule-7 : (ps : List Part) → Good7 ps → fault-7 ps ≡ none
 unfolding fault-7 located first-of
 good-rule-7 ps g =
-    let s₀ : clear (lone-in-target []) [] (source-sequence ps) ≡ true = shapes-clear [] [] (source-sequence ps) (g .src) in
+    let s₀ : clear (lone-in-target []) [] (source-sequence ps) ≡ true = shapes-clear [] [] (source-sequence ps) (g .source-side) in
     let s : clear lone-S [] (source-sequence ps) ≡ true = sym (clear-cong (lone-in-target []) lone-S none-waits [] (source-sequence ps)) ∙ s₀ in
     let t : clear (lone-in-target (waiting [] ps)) [] (target-sequence ps) ≡ true
     = shapes-clear (waiting [] ps) [] (target-sequence ps)
-    (λ i. subst (λ (l : List Mk). Shape (λ c h. anyMk c h l) (marks i (target-sequence ps))) (sym (marks-waiting i [] ps (g .bal) s)) (g .tgt i)) in
+    (λ i. subst (λ (l : List Mk). Shape (λ c h. anyMk c h l) (marks i (target-sequence ps))) (sym (marks-waiting i [] ps (g .bal) s)) (g .target-side i)) in
     ap (first-of 7)
     (ap₂ _++_ (ap₂ _++_ (balanced-contents 3 ps (g .bal)) (blamed-clear lone-S [] (placed-source-sequence (located-from 3 ps)) (ap (clear lone-S []) (items-source 3 ps) ∙ s)))
     (blamed-clear (lone-in-target (waiting [] ps)) [] (placed-target-sequence (located-from 3 ps)) (ap (clear (lone-in-target (waiting [] ps)) []) (items-target 3 ps) ∙ t)))

@@ -35,8 +35,8 @@ abbrev pub target-ids : ℕ → Part → ℕ
 target-ids i p = part-bit i p + starts i (target-items (p .target))
 
 pub record Rule6 (ps : List Part) : Type 0 where
-  pub src : (i : ℕ) → sum (source-ids i) ps ≤ 1
-  pub tgt : (i : ℕ) → sum (target-ids i) ps ≤ 1
+  pub source-side : (i : ℕ) → sum (source-ids i) ps ≤ 1
+  pub target-side : (i : ℕ) → sum (target-ids i) ps ≤ 1
 
 -- the owners that share no id: parts and source starts (true), parts and target starts (false)
 abbrev counts : Bool → Owner → ℕ
@@ -217,10 +217,10 @@ part-names w i l = by (eqb (head-id (l .part .head)) 0) (eqb (head-id (l .part .
     by false true e = rw e
     by false false e = rw e
 
-pub items-goal : (at : ℕ) (g : Target) → items (placed-target at g) ≡ target-items g
+pub items-of-target : (at : ℕ) (g : Target) → items (placed-target at g) ≡ target-items g
 unfolding placed-target target-items items
-items-goal at no-target = refl
-items-goal at (target q xs) = items-placed at [] xs
+items-of-target at no-target = refl
+items-of-target at (target q xs) = items-placed at [] xs
 
 abbrev ids : Bool → ℕ → Part → ℕ
 ids true i p = source-ids i p
@@ -253,7 +253,7 @@ names-ids w i l =
     by false a b c =
         let d = no-names false i of-source (placed-from (source-at l) [] (l .part .source)) refl in
         let e = start-names false i of-target (placed-target (target-at l) (l .part .target)) refl in
-        let f = ap (starts i) (items-goal (target-at l) (l .part .target)) in
+        let f = ap (starts i) (items-of-target (target-at l) (l .part .target)) in
         omega arith
 
 all-names : (w : Bool) (i at : ℕ) (ps : List Part) → num w i (gather names (located-from at ps)) ≡ sum (ids w i) ps
@@ -270,8 +270,8 @@ pub rule-6-counted : (ps : List Part) → fault-6 ps ≡ none → Rule6 ps
 unfolding fault-6 located
 rule-6-counted ps e =
     record {
-      src = λ i. let a = all-names true i 3 ps in let b = no-clash-count true i [] (gather names (located-from 3 ps)) e (omega arith) in omega arith;
-      tgt = λ i. let a = all-names false i 3 ps in let b = no-clash-count false i [] (gather names (located-from 3 ps)) e (omega arith) in omega arith;
+      source-side = λ i. let a = all-names true i 3 ps in let b = no-clash-count true i [] (gather names (located-from 3 ps)) e (omega arith) in omega arith;
+      target-side = λ i. let a = all-names false i 3 ps in let b = no-clash-count false i [] (gather names (located-from 3 ps)) e (omega arith) in omega arith;
     }
 
 pub counted-rule-6 : (ps : List Part) → Rule6 ps → fault-6 ps ≡ none
@@ -279,5 +279,5 @@ unfolding fault-6 located
 counted-rule-6 ps r = count-no-clash [] (gather names (located-from 3 ps)) at-most
   where
     at-most : (w : Bool) (i : ℕ) → num w i [] + num w i (gather names (located-from 3 ps)) ≤ 1
-    at-most true i = let a = all-names true i 3 ps in let b = r .src i in omega arith
-    at-most false i = let a = all-names false i 3 ps in let b = r .tgt i in omega arith
+    at-most true i = let a = all-names true i 3 ps in let b = r .source-side i in omega arith
+    at-most false i = let a = all-names false i 3 ps in let b = r .target-side i in omega arith

@@ -125,17 +125,17 @@ ready-end =
       in-targets = λ a. goes-on {st′ = complete} refl (at-end refl);
     }
 
-ready-goal : (g : Target) (rs : List Record) → GoodTarget g → Ready rs → AllGood (target-records g ++ rs) × ((a : Bool) → Runs (in-source a) (target-records g ++ rs))
+ready-target : (g : Target) (rs : List Record) → GoodTarget g → Ready rs → AllGood (target-records g ++ rs) × ((a : Bool) → Runs (in-source a) (target-records g ++ rs))
 unfolding target-records step inline-step outer-step
-ready-goal no-target rs h r = (r .all-good, r .in-sources)
-ready-goal (target q xs) rs h r =
+ready-target no-target rs h r = (r .all-good, r .in-sources)
+ready-target (target q xs) rs h r =
     let f = fine-content in-target rs (λ a cs. refl) (λ a x. refl) (r .all-good) (r .in-targets) xs h in
     (each-cons tt (f .all-good), λ a. goes-on {st′ = in-target false} refl (f .from-start))
 
 ready-part : (p : Part) (rs : List Record) → GoodPart p → Ready rs → Ready (part-records p ++ rs)
 unfolding part-records step inline-step outer-step
 ready-part p rs h r =
-    let (g, runs) = ready-goal (p .target) rs (h .target) r in
+    let (g, runs) = ready-target (p .target) rs (h .target) r in
     let f = fine-content in-source (target-records (p .target) ++ rs) (λ a cs. refl) (λ a x. refl) g runs (p .source) (h .source) in
     let e : content-records (p .source) ++ target-records (p .target) ++ rs ≡ content-records (p .source) ++ (target-records (p .target) ++ rs)
     = append-assoc (content-records (p .source)) (target-records (p .target)) rs in

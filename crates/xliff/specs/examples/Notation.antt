@@ -71,7 +71,7 @@ EM i = inline (annotation-end form-S i)
 
 -- Requests of a job: "SP part, cut, cut, id; JN part; ST part, state, length, content; RT part; RW side, id, form."
 abbrev pub SP : ℕ → ℕ → ℕ → ℕ → List ℕ
-SP n cut tcut new = 'S' ∷ 'P' ∷ (two n ++ two cut ++ two tcut ++ two new)
+SP n source-cut target-cut new = 'S' ∷ 'P' ∷ (two n ++ two source-cut ++ two target-cut ++ two new)
 
 abbrev pub JN : ℕ → List ℕ
 JN n = 'J' ∷ 'N' ∷ two n

@@ -13,11 +13,11 @@ use Rattle.xliff.proofs.lists.Each.{each-right}
 use Rattle.xliff.proofs.lists.Slices.{tail-is}
 use Rattle.heads.specs.Heads.{SomeTarget}
 use Rattle.walk.specs.Kept.{Holds}
 use Rattle.part_at.specs.declared.PartPlace.{PartPlace}
 use Rattle.part_at.specs.Stands.{TargetStands, PartStands}
 use Rattle.part_at.proofs.SliceLaws.{target-is}
-use Rattle.part_contents.specs.Targets.{TargetIs}
-use Rattle.part_contents.proofs.HoldLaws.{good-rest, good-part, holds-slice}
+use Rattle.part_at.specs.Targets.{TargetIs}
+use Rattle.part_at.proofs.HoldLaws.{good-rest, good-part, holds-slice}
 
 -- it is there: `&t[TARGET_WIDTH..]` holds its content
 pub record Present (t : List ℕ) (g : Target) : Type 0 where

@@ -9,8 +9,8 @@ use lib.ListN.{length}
 use mathlib.Core.List.{List}
 use mathlib.Core.Path.{_≡_, ap}
 use borrow.Author.Needs.{needs}
-use Rattle.record_count.proofs.count_records.Statement.{statement}
-use Rattle.record_count.proofs.count_records.Tie as tie
+use Rattle.part_at.proofs.count_records.Statement.{statement}
+use Rattle.part_at.proofs.count_records.Tie as tie
 
 abbrev Inv-loop : tie.InvT-loop
 Inv-loop t at₀ n₀ at n = (rs : List Record) × At t at rs × (n + length rs ≡ length (unit-records (unit t)))

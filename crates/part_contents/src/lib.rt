@@ -1,4 +1,0 @@
-// A crate for its laws: the bytes of a part's contents hold its items.
-pub fn contents() -> u8 {
-    1
-}
