@@ -5,6 +5,7 @@ use mathlib.Core.Bool.{Bool, true, false}
 use mathlib.Core.List.{List, [], _∷_, _++_}
 use native.Mathlib.Omega.{arith}
 use lib.ListN.{length, getD, length-append}
+use Rattle.table.specs.Meaning.{segment-meaning}
 use Rattle.xliff.specs.Bytes.{two, two-at}
 use Rattle.xliff.specs.Unit as unit
 use Rattle.xliff.specs.Unit.{Opening, Head, segment, ignorable, with-id, with-state}
@@ -16,7 +17,7 @@ use Rattle.writer.specs.Pieces.{lead, overlay, numberBytes, Written}
 use Rattle.writer.proofs.PieceLaws.{over-lead}
 use Rattle.writer.proofs.RunLaws.{Pieces, pair}
 use Rattle.table.specs.declared.Segment.{Segment}
-use Rattle.heads.specs.Heads.{fields, is-segment, SomeUnit, SomeTarget, SomeSegment, ResegmentIs, SegmentIs, FieldsAre, OrderIs, WroteId}
+use Rattle.heads.specs.Heads.{is-segment, SomeUnit, SomeTarget, SomeSegment, ResegmentIs, SegmentIs, FieldsAre, OrderIs, WroteId}
 
 -- how long they are
 pub segment-long : (f : unit.Segment) → length (head-bytes (segment f)) ≡ 6
@@ -89,7 +90,7 @@ module _ (t : List ℕ) where
   some-segment (ignorable i) e y = absurd (let z : _≡_ {A = ℕ} 0 1 = cc in let x : ⊥ = omega arith in x)
 
   module _ (st : ℕ) (o l : List ℕ) (n : ℕ) where
-    pub state-set : (g : Segment) → FieldsAre t g → Written (head-bytes (segment (with-fields st (fields g)))) o n l
+    pub state-set : (g : Segment) → FieldsAre t g → Written (head-bytes (segment (with-fields st (segment-meaning g)))) o n l
         → (h : Head) → head-bytes h ≡ t → is-segment h ≡ true → Written (head-bytes (with-state st h)) o n l
     unfolding with-state
     state-set g r w (segment f) e y = subst (λ (x : unit.Segment). Written (head-bytes (segment (with-fields st x))) o n l) (r f e) w
@@ -114,7 +115,7 @@ id-set id t o l m n w k h e = (
 
 -- the mark, then the fields
 pub segment-wrote : (f : Segment) (o a b c d : List ℕ) (m n k : ℕ) → m ≡ 2 → a ≡ overlay o 0 (83 ∷ 71 ∷ []) → n ≡ m + 2 → b ≡ overlay a m (numberBytes (f .id))
-    → k ≡ n + 1 → c ≡ overlay b n (f .«can_resegment» ∷ []) → d ≡ overlay c k (f .state ∷ []) → d ≡ lead (head-bytes (segment (fields f))) o
+    → k ≡ n + 1 → c ≡ overlay b n (f .«can_resegment» ∷ []) → d ≡ overlay c k (f .state ∷ []) → d ≡ lead (head-bytes (segment (segment-meaning f))) o
 unfolding head-bytes two
 segment-wrote f o a b c d m n k m2 ea n2 eb k1 ec ed =
     let mark : List ℕ = 83 ∷ 71 ∷ [] in

@@ -4,15 +4,12 @@ use mathlib.Core.Path.{_≡_}
 use mathlib.Core.Bool.{Bool, true, false}
 use mathlib.Core.List.{List, _++_}
 use lib.ListN.{length}
+use Rattle.table.specs.Meaning.{segment-meaning}
 use Rattle.xliff.specs.Unit as unit
 use Rattle.xliff.specs.Unit.{Opening, Head, segment, ignorable, with-id, with-state}
 use Rattle.xliff.specs.Encode.{opening, target-head, record-bytes, head-bytes}
 use Rattle.writer.specs.Pieces.{Written}
 use Rattle.table.specs.declared.Segment.{Segment}
-
--- the fields of a segment
-abbrev pub fields : Segment → unit.Segment
-fields f = record { id = f .id; canResegment = f .«can_resegment»; state = f .state }
 
 -- the head is a segment's
 abbrev pub is-segment : Head → Bool
@@ -41,7 +38,7 @@ abbrev pub SegmentIs : List ℕ → Bool → Type 0
 SegmentIs bytes r = (h : Head) → head-bytes h ≡ bytes → r ≡ is-segment h
 
 abbrev pub FieldsAre : List ℕ → Segment → Type 0
-FieldsAre bytes r = (f : unit.Segment) → head-bytes (segment f) ≡ bytes → fields r ≡ f
+FieldsAre bytes r = (f : unit.Segment) → head-bytes (segment f) ≡ bytes → segment-meaning r ≡ f
 
 abbrev pub OrderIs : List ℕ → ℕ → Type 0
 OrderIs t r = (q : ℕ) (s : List ℕ) → t ≡ record-bytes (target-head q) ++ s → r ≡ q

@@ -4,10 +4,11 @@ use table::Segment;
 ghost use Prim.Native.Nat.{_≤_};
 ghost use mathlib.Core.List.{_++_};
 ghost use lib.ListN.{length};
+ghost use Rattle.table.specs.Meaning.{segment-meaning};
 ghost use Rattle.xliff.specs.Unit.{segment};
 ghost use Rattle.xliff.specs.Encode.{target-head, record-bytes, head-bytes};
 ghost use Rattle.writer.specs.Pieces.{Written};
-ghost use Rattle.heads.specs.Heads.{fields, SomeUnit, ResegmentIs, SomeHead, SegmentIs, SomeSegment, FieldsAre, HeadRoom, WroteState, WroteId, SomeTarget, OrderIs};
+ghost use Rattle.heads.specs.Heads.{SomeUnit, ResegmentIs, SomeHead, SegmentIs, SomeSegment, FieldsAre, HeadRoom, WroteState, WroteId, SomeTarget, OrderIs};
 
 // Where a part's id and a target's order stand.
 const PART_ID: usize = 2;
@@ -41,8 +42,8 @@ pub fn segment_of(head: &[u8]) -> Segment
 
 // A segment's head with these fields.
 pub fn put_segment(out: &mut [u8], f: Segment) -> usize
-    requires { ⌜ length (head-bytes (segment (fields f))) ≤ length (now out) ⌝ }
-    ensures { λ r. ⌜ Written (head-bytes (segment (fields f))) (now (out .entry)) r (now (out .exit)) ⌝ }
+    requires { ⌜ length (head-bytes (segment (segment-meaning f))) ≤ length (now out) ⌝ }
+    ensures { λ r. ⌜ Written (head-bytes (segment (segment-meaning f))) (now (out .entry)) r (now (out .exit)) ⌝ }
 {
     let m = writer::put_mark(out, 0, b"SG");
     let n = writer::put_number(out, m, f.id);

@@ -6,6 +6,7 @@ use mathlib.Core.List.{List}
 use native.Mathlib.Omega.{arith}
 use lib.ListN.{length}
 use lib.Dec.{eqb, leb}
+use Rattle.table.specs.Meaning.{segment-meaning}
 use Rattle.xliff.specs.Bytes.{'-'}
 use Rattle.xliff.specs.Unit as unit
 use Rattle.xliff.specs.Unit.{Head, segment, ignorable}
@@ -13,7 +14,7 @@ use Rattle.xliff.specs.Encode.{head-bytes}
 use Rattle.xliff.specs.Join.{join-heads, rank, earliest, dash}
 use Rattle.writer.specs.Pieces.{Written}
 use Rattle.table.specs.declared.Segment.{Segment}
-use Rattle.heads.specs.Heads.{fields, is-segment, FieldsAre}
+use Rattle.heads.specs.Heads.{is-segment, FieldsAre}
 use Rattle.joined_part.specs.Heads.{JoinedSegment}
 
 -- two segments
@@ -46,19 +47,19 @@ ignored-first f j = refl
 -- the heads a and b, whose bytes are h and i
 module _ (h i : List ℕ) where
   pub both-segments : (a b : Head) → head-bytes a ≡ h → head-bytes b ≡ i → is-segment a ≡ true → is-segment b ≡ true
-      → (x y r : Segment) → FieldsAre h x → FieldsAre i y → JoinedSegment x y r → segment (fields r) ≡ join-heads a b
+      → (x y r : Segment) → FieldsAre h x → FieldsAre i y → JoinedSegment x y r → segment (segment-meaning r) ≡ join-heads a b
   both-segments (segment f) (segment g) ea eb p q x y r u v j = j ∙ ap₂ (λ (m n : unit.Segment). join-heads (segment m) (segment n)) (u f ea) (v g eb)
   both-segments (segment f) (ignorable n) ea eb p q x y r u v j = absurd (true≢false (sym q))
   both-segments (ignorable m) b ea eb p q x y r u v j = absurd (true≢false (sym p))
 
   pub first-segment : (a b : Head) → head-bytes a ≡ h → is-segment a ≡ true → is-segment b ≡ false
-      → (x r : Segment) → FieldsAre h x → JoinedSegment x x r → segment (fields r) ≡ join-heads a b
+      → (x r : Segment) → FieldsAre h x → JoinedSegment x x r → segment (segment-meaning r) ≡ join-heads a b
   first-segment (segment f) (ignorable n) ea p q x r u j = j ∙ ap (λ (m : unit.Segment). join-heads (segment m) (segment m)) (u f ea) ∙ with-itself f n
   first-segment (segment f) (segment g) ea p q x r u j = absurd (true≢false q)
   first-segment (ignorable m) b ea p q x r u j = absurd (true≢false (sym p))
 
   pub second-segment : (a b : Head) → head-bytes b ≡ i → is-segment a ≡ false → is-segment b ≡ true
-      → (y r : Segment) → FieldsAre i y → JoinedSegment y y r → segment (fields r) ≡ join-heads a b
+      → (y r : Segment) → FieldsAre i y → JoinedSegment y y r → segment (segment-meaning r) ≡ join-heads a b
   second-segment (ignorable n) (segment g) eb p q y r v j =
       j ∙ ap (λ (m : unit.Segment). join-heads (segment m) (segment m)) (v g eb) ∙ with-itself g n ∙ ignored-first g n
   second-segment (ignorable m) (ignorable n) eb p q y r v j = absurd (true≢false (sym q))
@@ -71,9 +72,9 @@ module _ (h i : List ℕ) where
   no-segment (segment f) b ea p q = absurd (true≢false p)
 
 -- room for a segment, and its writing
-module _ (a b : Head) (r : Segment) (e : segment (fields r) ≡ join-heads a b) where
-  pub segment-room : (o : List ℕ) → length (head-bytes (join-heads a b)) ≤ length o → length (head-bytes (segment (fields r))) ≤ length o
+module _ (a b : Head) (r : Segment) (e : segment (segment-meaning r) ≡ join-heads a b) where
+  pub segment-room : (o : List ℕ) → length (head-bytes (join-heads a b)) ≤ length o → length (head-bytes (segment (segment-meaning r))) ≤ length o
   segment-room o h = omega (arith, ap (λ (x : Head). length (head-bytes x)) e)
 
-  pub segment-wrote : (o l : List ℕ) (n : ℕ) → Written (head-bytes (segment (fields r))) o n l → Written (head-bytes (join-heads a b)) o n l
+  pub segment-wrote : (o l : List ℕ) (n : ℕ) → Written (head-bytes (segment (segment-meaning r))) o n l → Written (head-bytes (join-heads a b)) o n l
   segment-wrote o l n w = subst (λ (x : Head). Written (head-bytes x) o n l) e w

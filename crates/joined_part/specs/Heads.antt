@@ -3,16 +3,16 @@ use Prim.Native.Nat.{ℕ, _≤_}
 use mathlib.Core.Path.{_≡_}
 use mathlib.Core.List.{List}
 use lib.ListN.{length}
+use Rattle.table.specs.Meaning.{segment-meaning}
 use Rattle.xliff.specs.Unit.{Head, segment}
 use Rattle.xliff.specs.Encode.{head-bytes}
 use Rattle.xliff.specs.Join.{join-heads}
 use Rattle.writer.specs.Pieces.{Written}
 use Rattle.table.specs.declared.Segment.{Segment}
-use Rattle.heads.specs.Heads.{fields}
 
 -- the segment r is x and y joined
 abbrev pub JoinedSegment : Segment → Segment → Segment → Type 0
-JoinedSegment x y r = segment (fields r) ≡ join-heads (segment (fields x)) (segment (fields y))
+JoinedSegment x y r = segment (segment-meaning r) ≡ join-heads (segment (segment-meaning x)) (segment (segment-meaning y))
 
 -- two heads, and room for both in one; it is written
 abbrev pub RoomHeads : List ℕ → List ℕ → List ℕ → Type 0

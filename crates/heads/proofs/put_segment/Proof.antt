@@ -1,5 +1,5 @@
+use Rattle.table.specs.Meaning.{segment-meaning}
 use Rattle.heads.proofs.HeadLaws.{segment-long, segment-wrote}
-use Rattle.heads.specs.Heads.{fields}
 use native.Mathlib.Omega.{arith}
 use borrow.Author.Needs.{needs}
 use Rattle.heads.proofs.put_segment.Statement.{statement}
@@ -9,14 +9,14 @@ use Rattle.heads.proofs.put_segment.Tie as tie
 put-mark-requires : tie.Need-put-mark-requires
 put-mark-requires c κs =
     let f = c .before .before .before .args .f in
-    omega (arith, segment-long (fields f))
+    omega (arith, segment-long (segment-meaning f))
 
 -- src/lib.rt:65:9
 put-number-requires : tie.Need-put-number-requires
 put-number-requires c κs =
     let f = c .before .before .before .before .before .before .before .args .f in
     let put-mark = c .before .before .before .put-mark in
-    omega (arith, put-mark .ensures .0, segment-long (fields f))
+    omega (arith, put-mark .ensures .0, segment-long (segment-meaning f))
 
 -- src/lib.rt:66:9
 put-byte-requires : tie.Need-put-byte-requires
@@ -25,7 +25,7 @@ put-byte-requires c κs =
     let f = after-put-mark .before .before .before .before .args .f in
     let put-mark = after-put-mark .put-mark in
     let put-number = c .before .before .before .put-number in
-    omega (arith, put-mark .ensures .0, put-number .ensures .0, segment-long (fields f))
+    omega (arith, put-mark .ensures .0, put-number .ensures .0, segment-long (segment-meaning f))
 
 -- src/lib.rt:67:5
 put-byte-requires-2 : tie.Need-put-byte-requires-2
@@ -35,7 +35,7 @@ put-byte-requires-2 c κs =
     let put-mark = after-put-number .before .before .before .before .put-mark in
     let put-number = after-put-number .put-number in
     let put-byte = c .before .before .before .put-byte in
-    omega (arith, put-mark .ensures .0, put-number .ensures .0, put-byte .ensures .0, segment-long (fields f))
+    omega (arith, put-mark .ensures .0, put-number .ensures .0, put-byte .ensures .0, segment-long (segment-meaning f))
 
 -- src/lib.rt:60:1
 returns : tie.Need-returns
@@ -54,7 +54,7 @@ returns c =
         put-number .ensures .0,
         put-byte .ensures .0,
         put-byte2 .ensures .0,
-        segment-long (fields f),
+        segment-long (segment-meaning f),
       ),
       segment-wrote f (args .out .now) (put-mark .last .0) (put-number .last .0) (put-byte .last .0)
           (put-byte2 .last .0) (put-mark .result) (put-number .result) (put-byte .result) (put-mark .ensures .0)
