@@ -26,7 +26,8 @@ toward-if n false best at rest = refl
 
 blamed-first : (bad : Content → spec.Item → Content → Bool) (t markers : List ℕ) (before : Content) (i : ℕ) → i < length markers
     → blamed bad before (placed-at t (drop i markers))
-    ≡ cond (bad before (item-at t (getD markers i 0)) (items (placed-at t (drop (suc i) markers)))) (getD markers i 0 ∷ blamed bad (item-at t (getD markers i 0) ∷ before) (placed-at t (drop (suc i) markers)))
+    ≡ cond (bad before (item-at t (getD markers i 0)) (items (placed-at t (drop (suc i) markers))))
+    (getD markers i 0 ∷ blamed bad (item-at t (getD markers i 0) ∷ before) (placed-at t (drop (suc i) markers)))
     (blamed bad (item-at t (getD markers i 0) ∷ before) (placed-at t (drop (suc i) markers)))
 unfolding blamed placed-at
 blamed-first bad t [] before i h = absurd (omega arith)
@@ -39,7 +40,8 @@ module _ (bad : Content → spec.Item → Content → Bool) (t markers : List �
       ≡ toward n (cond b (lower best (getD markers i 0)) best) (blamed bad (item-at t (getD markers i 0) ∷ before) (placed-at t (drop (i + 1) markers)))
   blamed-on n b h e =
       ap (toward n best) (blamed-first bad t markers before i h)
-      ∙ toward-if n (bad before (item-at t (getD markers i 0)) (items (placed-at t (drop (suc i) markers)))) best (getD markers i 0) (blamed bad (item-at t (getD markers i 0) ∷ before) (placed-at t (drop (suc i) markers)))
+      ∙ toward-if n (bad before (item-at t (getD markers i 0)) (items (placed-at t (drop (suc i) markers)))) best (getD markers i 0)
+      (blamed bad (item-at t (getD markers i 0) ∷ before) (placed-at t (drop (suc i) markers)))
       ∙ ap₂ (λ (c : Bool) (k : ℕ). toward n (cond c (lower best (getD markers i 0)) best)
       (blamed bad (item-at t (getD markers i 0) ∷ before) (placed-at t (drop k markers))))
       (sym e) (let z : suc i ≡ i + 1 = omega arith in z)

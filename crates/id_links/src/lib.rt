@@ -26,7 +26,8 @@ pub fn link(links: &mut [u16], heads: &mut [u16], n: usize, k: u32)
 // Links to what is before, and the last key of each group. Linear.
 pub fn link_before(keys: &[u32], links: &mut [u16], heads: &mut [u16])
     requires { ⌜ (length (now keys) ≤ most-records) × (length (now links) ≡ most-records) × (length (now heads) ≡ 256) × Headed [] (now heads) ⌝ }
-    ensures { λ r. ⌜ Linked (now (keys .entry)) (now (links .exit)) × Headed (now (keys .entry)) (now (heads .exit)) × (length (now (links .exit)) ≡ most-records) × (length (now (heads .exit)) ≡ 256) ⌝ }
+    ensures { λ r. ⌜ Linked (now (keys .entry)) (now (links .exit)) × Headed (now (keys .entry)) (now (heads .exit))
+        × (length (now (links .exit)) ≡ most-records) × (length (now (heads .exit)) ≡ 256) ⌝ }
 {
     let mut i: usize = 0;
     while i < keys.len() {

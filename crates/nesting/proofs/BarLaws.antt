@@ -138,7 +138,8 @@ module _ (t markers keys : List ℕ) (same : keys ≡ barKeys t markers) (i : �
   unfolding lone-left
   lone-end h e = sym (e ∙ blamed-end lone-bar t markers (itemsAt t (reverse (take i markers))) i best 7 h)
 
-pub lone-start : (t markers : List ℕ) → Passes t → markers ≡ barred true t → first-of 7 (gather (blamed lone-P []) (placed-contents (located (unit t .parts)))) ≡ toward 7 Nowhere (lone-left t markers 0)
+pub lone-start : (t markers : List ℕ) → Passes t → markers ≡ barred true t → first-of 7 (gather (blamed lone-P []) (placed-contents (located (unit t .parts))))
+    ≡ toward 7 Nowhere (lone-left t markers 0)
 unfolding lone-left itemsAt
 lone-start t markers p e =
     ap (first-of 7) (sym (contents-blamed t p) ∙ ap (λ (l : List ℕ). blamed lone-bar [] (placed-at t l)) (sym e)) ∙ toward-none 7 (blamed lone-bar [] (placed-at t markers))

@@ -93,7 +93,8 @@ fn is_half_p(k: u32) -> bool
 // Whether the marker at `i` is a half of pc or mrk without partner in its content.
 pub fn is_lone(keys: &[u32], i: usize, stack: &mut [u32]) -> bool
     requires { ⌜ (i < length (now keys)) × (length (now keys) ≤ most-records) × (length (now stack) ≡ most-records) ⌝ }
-    ensures { λ r. ⌜ (r ≡ lonePKey (run (reverse (take i (now (keys .entry))))) (getD (now (keys .entry)) i 0) (run (drop (i + 1) (now (keys .entry))))) × (length (now (stack .exit)) ≡ most-records) ⌝ }
+    ensures { λ r. ⌜ (r ≡ lonePKey (run (reverse (take i (now (keys .entry))))) (getD (now (keys .entry)) i 0) (run (drop (i + 1) (now (keys .entry)))))
+        × (length (now (stack .exit)) ≡ most-records) ⌝ }
 {
     let k = keys[i];
     if !is_half_p(k) {

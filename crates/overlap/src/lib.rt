@@ -73,7 +73,8 @@ fn is_stray(key: u32, first: usize, end: usize, before: usize, after: usize) -> 
 // The index of the first stray marker from `first` up to `end`, or the end.
 // Linear in the markers between them.
 fn first_stray(keys: &[u32], starts: &[u16], ends: &[u16], first: usize, end: usize) -> usize
-    requires { ⌜ Halves (now keys) (now starts) (now ends) × (length (now starts) ≡ most-records) × (length (now ends) ≡ most-records) × (end ≤ length (now keys)) × (length (now keys) ≤ most-records) ⌝ }
+    requires { ⌜ Halves (now keys) (now starts) (now ends) × (length (now starts) ≡ most-records) × (length (now ends) ≡ most-records)
+        × (end ≤ length (now keys)) × (length (now keys) ≤ most-records) ⌝ }
     ensures { λ r. ⌜ r ≡ next (strayAt (now (keys .entry)) first end) first (end - first) ⌝ }
 {
     let mut j = first;

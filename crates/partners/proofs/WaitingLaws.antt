@@ -186,7 +186,8 @@ module _ (x : Item) where
         ≡ cond (targeted after) false (is-half y && not (lone-P seen y ys || lone-S (seen ++ earlier) y (ys ++ later)) && other-half x y)
     unfolding waitsKey
     half-waits seen y ys k =
-        ap₂ (λ (o p : Bool). o && (not p && (not (loneSKey (map key (only-markers seen) ++ before) (key y) (map key (only-markers ys) ++ after)) && not (targeted (map key (only-markers ys) ++ after)))))
+        ap₂ (λ (o p : Bool). o && (not p && (not (loneSKey (map key (only-markers seen) ++ before) (key y) (map key (only-markers ys) ++ after)) && not
+        (targeted (map key (only-markers ys) ++ after)))))
         (other-key x y)
         (ap₂ (λ (b a : List ℕ). lonePKey b (key y) a) (run-alone seen before n) (run-alone ys after m) ∙ lone-P-keys seen y ys k)
         ∙ ap₂ (λ (s t : Bool). other-half x y && (not (lone-P seen y ys) && (not s && not t)))

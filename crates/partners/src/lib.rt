@@ -152,7 +152,8 @@ fn waits_for(x: u32, bars: &[u32], stack: &mut [u32]) -> bool
 // another that waits in the source. Linear, and as `waits_for` where it is the only half of its id: at most quadratic.
 fn stays_lone(keys: &[u32], i: usize, bars: &[u32], stack: &mut [u32]) -> bool
     requires { ⌜ (i < length (now keys)) × (length (now bars) ≤ most-records) × (length (now stack) ≡ most-records) ⌝ }
-    ensures { λ r. ⌜ (r ≡ loneInTarget (now (bars .entry)) (reverse (take i (now (keys .entry)))) (getD (now (keys .entry)) i 0) (drop (i + 1) (now (keys .entry)))) × (length (now (stack .exit)) ≡ most-records) ⌝ }
+    ensures { λ r. ⌜ (r ≡ loneInTarget (now (bars .entry)) (reverse (take i (now (keys .entry)))) (getD (now (keys .entry)) i 0) (drop (i + 1) (now (keys .entry))))
+        × (length (now (stack .exit)) ≡ most-records) ⌝ }
 {
     if !lone_s(keys, i) {
         return false;

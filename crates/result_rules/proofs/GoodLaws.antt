@@ -48,4 +48,9 @@ module _ (v : XliffUnit) (g : GoodUnit v) where
   -- within the limits 15 is only a matter of the room
   pub only-room : (room : ℕ) → too-large room v ≡ ltb room (length (encode v))
   unfolding too-large
-  only-room room = rw (le-ltb most-bytes (length (encode v)) (g .size), le-ltb most-records (length (unit-records v)) (g .few), le-ltb most-parts (length (v .parts)) (g .few-parts)) (or-none (ltb room (length (encode v))))
+  only-room room = rw (
+    le-ltb most-bytes (length (encode v)) (g .size),
+    le-ltb most-records (length (unit-records v)) (g .few),
+    le-ltb most-parts
+        (length (v .parts)) (g .few-parts),
+  ) (or-none (ltb room (length (encode v))))

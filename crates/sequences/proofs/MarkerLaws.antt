@@ -25,17 +25,17 @@ keys-front : (t os l keys : List ℕ) (k r : ℕ) → Front os l k → r ≡ len
 keys-front t os l keys k r f e g = ap (λ (n : ℕ). take n keys) (front-long os l k f ∙ sym e) ∙ g
 
 pub both-markers : (t : List ℕ) (parts : ℕ) → Passes t → length t ≤ most-bytes → parts ≡ length (unit t .parts)
-    → (src skeys tgt tkeys : List ℕ) (k m i j : ℕ) → Front (offsets true 0 t) src k → Front (target-offsets t 0 parts) tgt m
-    → i ≡ length (take k src) → take i skeys ≡ keysAt t (take k src)
-    → j ≡ length (take m tgt) → take j tkeys ≡ keysAt t (take m tgt)
-    → Markers t (take k src) (take k skeys) (take m tgt) (take m tkeys)
-both-markers t parts p s e src skeys tgt tkeys k m i j a b a′ x b′ y = (
+    → (source-markers source-keys target-markers target-keys : List ℕ) (k m i j : ℕ) → Front (offsets true 0 t) source-markers k → Front (target-offsets t 0 parts) target-markers m
+    → i ≡ length (take k source-markers) → take i source-keys ≡ keysAt t (take k source-markers)
+    → j ≡ length (take m target-markers) → take j target-keys ≡ keysAt t (take m target-markers)
+    → Markers t (take k source-markers) (take k source-keys) (take m target-markers) (take m target-keys)
+both-markers t parts p s e source-markers source-keys target-markers target-keys k m i j a b a′ x b′ y = (
   p,
   a .0,
-  keys-front t _ src skeys k i a a′ x,
+  keys-front t _ source-markers source-keys k i a a′ x,
   b .0 ∙ ap (target-offsets t 0) e,
-  keys-front t _ tgt tkeys m j b b′ y,
-  omega (arith, front-long _ src k a, a .1),
-  omega (arith, front-long _ tgt m b, b .1),
+  keys-front t _ target-markers target-keys m j b b′ y,
+  omega (arith, front-long _ source-markers k a, a .1),
+  omega (arith, front-long _ target-markers m b, b .1),
   s,
 )

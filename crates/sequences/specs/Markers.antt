@@ -11,7 +11,7 @@ use Rattle.keys.specs.Keys.{keysAt}
 use Rattle.sequences.specs.Marks.{offsets}
 
 abbrev pub Markers : List ℕ → List ℕ → List ℕ → List ℕ → List ℕ → Type 0
-Markers t src skeys tgt tkeys =
-    Passes t × (src ≡ offsets true 0 t) × (skeys ≡ keysAt t src)
-    × (tgt ≡ target-offsets t 0 (length (unit t .parts))) × (tkeys ≡ keysAt t tgt)
-    × (length src ≤ most-records) × (length tgt ≤ most-records) × (length t ≤ most-bytes)
+Markers t source-markers source-keys target-markers target-keys =
+    Passes t × (source-markers ≡ offsets true 0 t) × (source-keys ≡ keysAt t source-markers)
+    × (target-markers ≡ target-offsets t 0 (length (unit t .parts))) × (target-keys ≡ keysAt t target-markers)
+    × (length source-markers ≤ most-records) × (length target-markers ≤ most-records) × (length t ≤ most-bytes)

@@ -157,40 +157,33 @@ pub fn targets(t: &[u8], parts: u16, out: &mut [u16]) -> usize
     n
 }
 
-fn narrow(n: usize) -> u16
-    requires { ⌜ n ≤ most-parts ⌝ }
-    ensures { λ r. ⌜ r ≡ n ⌝ }
-{
-    n as u16
-}
-
 // How many markers there are in the source and in the target sequence.
 pub struct Counts {
     pub source: usize,
     pub target: usize,
 }
 
-// The markers of both sequences of a table with so many parts: their offsets at the front of `src` and `tgt`, their
-// keys at the front of `skeys` and `tkeys`.
+// The markers of both sequences of a table with so many parts: their offsets at the front of `source_markers` and
+// `target_markers`, their keys at the front of `source_keys` and `target_keys`.
 pub fn markers(
     t: &[u8],
     parts: usize,
-    src: &mut [u16],
-    skeys: &mut [u32],
-    tgt: &mut [u16],
-    tkeys: &mut [u32],
+    source_markers: &mut [u16],
+    source_keys: &mut [u32],
+    target_markers: &mut [u16],
+    target_keys: &mut [u32],
 ) -> Counts
-    requires { ⌜ Passes (now t) × (length (now t) ≤ most-bytes) × (parts ≡ length (unit (now t) .parts)) × (length (now src) ≡ most-records)
-        × (length (now skeys) ≡ most-records) × (length (now tgt) ≡ most-records) × (length (now tkeys) ≡ most-records) ⌝ }
-    ensures { λ r. ⌜ Markers (now (t .entry)) (take (r .source) (now (src .exit))) (take (r .source) (now (skeys .exit)))
-        (take (r .target) (now (tgt .exit))) (take (r .target) (now (tkeys .exit)))
-        × (r .source ≡ length (take (r .source) (now (src .exit)))) × (r .source ≡ length (take (r .source) (now (skeys .exit))))
-        × (r .target ≡ length (take (r .target) (now (tgt .exit)))) × (r .target ≡ length (take (r .target) (now (tkeys .exit)))) ⌝ }
+    requires { ⌜ Passes (now t) × (length (now t) ≤ most-bytes) × (parts ≡ length (unit (now t) .parts)) × (length (now «source_markers») ≡ most-records)
+        × (length (now «source_keys») ≡ most-records) × (length (now «target_markers») ≡ most-records) × (length (now «target_keys») ≡ most-records) ⌝ }
+    ensures { λ r. ⌜ Markers (now (t .entry)) (take (r .source) (now («source_markers» .exit))) (take (r .source) (now («source_keys» .exit)))
+        (take (r .target) (now («target_markers» .exit))) (take (r .target) (now («target_keys» .exit)))
+        × (r .source ≡ length (take (r .source) (now («source_markers» .exit)))) × (r .source ≡ length (take (r .source) (now («source_keys» .exit))))
+        × (r .target ≡ length (take (r .target) (now («target_markers» .exit)))) × (r .target ≡ length (take (r .target) (now («target_keys» .exit)))) ⌝ }
 {
-    let k = sources(t, src);
-    let m = targets(t, narrow(parts), tgt);
-    keys::keys_at(t, &src[..k], skeys);
-    keys::keys_at(t, &tgt[..m], tkeys);
+    let k = sources(t, source_markers);
+    let m = targets(t, marks::narrow(parts), target_markers);
+    keys::keys_at(t, &source_markers[..k], source_keys);
+    keys::keys_at(t, &target_markers[..m], target_keys);
     Counts {
         source: k,
         target: m,

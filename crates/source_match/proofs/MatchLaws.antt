@@ -73,7 +73,8 @@ module _ (p : spec.Item → Bool) (t : List ℕ) where
   unfolding any itemsAt
   items-last [] i h = absurd (omega arith)
   items-last (o ∷ markers) zero h = refl
-  items-last (o ∷ markers) (suc i) h = ap (λ (b : Bool). p (item-at t o) || b) (items-last markers i (omega arith)) ∙ or-swap (p (item-at t o)) (p (item-at t (getD markers i 0))) (any p (itemsAt t (take i markers)))
+  items-last (o ∷ markers) (suc i) h = ap (λ (b : Bool). p (item-at t o) || b) (items-last markers i (omega arith))
+      ∙ or-swap (p (item-at t o)) (p (item-at t (getD markers i 0))) (any p (itemsAt t (take i markers)))
 
   any-at : (markers : List ℕ) → any p (itemsAt t markers) ≡ any (λ (o : ℕ). p (item-at t o)) markers
   unfolding any itemsAt

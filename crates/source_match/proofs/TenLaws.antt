@@ -20,7 +20,8 @@ use Rattle.views.specs.Views.{itemsAt}
 use Rattle.views.proofs.ViewLaws.{items-at}
 
 pub rule-10-is : (t source-markers target-markers : List ℕ) (p q : Place) → Passes t → source-markers ≡ offsets true 0 t → target-markers ≡ target-offsets t 0 (length (unit t .parts))
-    → refusal-at 10 p ≡ first-of 10 (blamed bad-10-source [] (placed-at t source-markers)) → refusal-at 10 q ≡ toward 10 p (blamed (bad-10-target (itemsAt t source-markers)) [] (placed-at t target-markers))
+    → refusal-at 10 p ≡ first-of 10 (blamed bad-10-source [] (placed-at t source-markers)) → refusal-at 10 q
+    ≡ toward 10 p (blamed (bad-10-target (itemsAt t source-markers)) [] (placed-at t target-markers))
     → refusal-at 10 q ≡ fault-10 (unit t .parts)
 unfolding offsets
 rule-10-is t source-markers target-markers p q s e f g h =

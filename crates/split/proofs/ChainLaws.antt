@@ -26,8 +26,10 @@ module _ (t : List ℕ) (n source-cut target-cut id room : ℕ) (e : table-refus
   on-focus : (f : Focus) → focus (unit t .parts) n ≡ f → split t n source-cut target-cut id room ≡ unless (split-refusal (unit t) source-cut target-cut id f then applies 15 large) bytes
   unfolding split large bytes
   on-focus f h =
-      on-passed t (split-refusal (unit t) source-cut target-cut id (focus (unit t .parts) n) then applies 15 (too-large room (split-unit (unit t) n source-cut target-cut id))) (split-unit (unit t) n source-cut target-cut id) e
-      ∙ ap (λ (g : Focus). unless (split-refusal (unit t) source-cut target-cut id g then applies 15 (too-large room (split-unit (unit t) n source-cut target-cut id))) (encode (split-unit (unit t) n source-cut target-cut id))) h
+      on-passed t (split-refusal (unit t) source-cut target-cut id (focus (unit t .parts) n) then applies 15 (too-large room (split-unit (unit t) n source-cut target-cut id)))
+      (split-unit (unit t) n source-cut target-cut id) e
+      ∙ ap (λ (g : Focus). unless (split-refusal (unit t) source-cut target-cut id g then applies 15 (too-large room (split-unit (unit t) n source-cut target-cut id)))
+      (encode (split-unit (unit t) n source-cut target-cut id))) h
 
   pub no-part : focus (unit t .parts) n ≡ nowhere → split t n source-cut target-cut id room ≡ refuse (record { number = 11; place = 0 })
   unfolding split-refusal

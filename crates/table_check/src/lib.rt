@@ -25,7 +25,8 @@ fn from_9(
     target_keys: &[u32],
     nine: Place,
 ) -> Answer
-    requires { ⌜ Markers (now t) (now «source_markers») (now «source_keys») (now «target_markers») (now «target_keys») × (len ≡ length (now t)) × (refusal-at 9 nine ≡ fault-9 (unit (now t) .parts)) ⌝ }
+    requires { ⌜ Markers (now t) (now «source_markers») (now «source_keys») (now «target_markers») (now «target_keys») × (len ≡ length (now t))
+        × (refusal-at 9 nine ≡ fault-9 (unit (now t) .parts)) ⌝ }
     ensures { λ r. ⌜ answer-meaning r ≡ answer (unless (fault-9 (unit (now (t .entry)) .parts) then fault-10 (unit (now (t .entry)) .parts)) (now (t .entry))) ⌝ }
 {
     match nine {
@@ -47,7 +48,8 @@ fn from_8(
     target_keys: &[u32],
     eight: Place,
 ) -> Answer
-    requires { ⌜ Markers (now t) (now «source_markers») (now «source_keys») (now «target_markers») (now «target_keys») × (len ≡ length (now t)) × (refusal-at 8 eight ≡ fault-8 (unit (now t) .parts)) ⌝ }
+    requires { ⌜ Markers (now t) (now «source_markers») (now «source_keys») (now «target_markers») (now «target_keys») × (len ≡ length (now t))
+        × (refusal-at 8 eight ≡ fault-8 (unit (now t) .parts)) ⌝ }
     ensures { λ r. ⌜ answer-meaning r ≡ answer (unless (fault-8 (unit (now (t .entry)) .parts)
         then fault-9 (unit (now (t .entry)) .parts) then fault-10 (unit (now (t .entry)) .parts)) (now (t .entry))) ⌝ }
 {
@@ -74,7 +76,8 @@ fn from_7(
     target_keys: &[u32],
     seven: Place,
 ) -> Answer
-    requires { ⌜ Markers (now t) (now «source_markers») (now «source_keys») (now «target_markers») (now «target_keys») × (len ≡ length (now t)) × (refusal-at 7 seven ≡ fault-7 (unit (now t) .parts)) ⌝ }
+    requires { ⌜ Markers (now t) (now «source_markers») (now «source_keys») (now «target_markers») (now «target_keys») × (len ≡ length (now t))
+        × (refusal-at 7 seven ≡ fault-7 (unit (now t) .parts)) ⌝ }
     ensures { λ r. ⌜ answer-meaning r ≡ answer (unless (fault-7 (unit (now (t .entry)) .parts) then fault-8 (unit (now (t .entry)) .parts)
         then fault-9 (unit (now (t .entry)) .parts) then fault-10 (unit (now (t .entry)) .parts)) (now (t .entry))) ⌝ }
 {

@@ -98,7 +98,8 @@ module _ (t markers : List ℕ) (id e : ℕ) (h : e ≡ next (startsAt (keysAt t
     the-start : find-whole id (itemsAt t markers) ≡ ended-by (marker-at t markers e) (nearest (other-half (marker-at t markers e)) (run (marker-at t markers) (suc e) (length markers - suc e)))
     the-start =
         ap (find-whole id) all-items ∙ whole-from id (marker-at t markers) (length markers) 0 e by-items (omega (arith, here))
-        ∙ ap (λ (m : ℕ). ended-by (marker-at t markers e) (nearest (other-half (marker-at t markers e)) (run (marker-at t markers) (suc e) m))) (let z : 0 + length markers - suc e ≡ length markers - suc e = omega arith in z)
+        ∙ ap (λ (m : ℕ). ended-by (marker-at t markers e) (nearest (other-half (marker-at t markers e)) (run (marker-at t markers) (suc e) m)))
+        (let z : 0 + length markers - suc e ≡ length markers - suc e = omega arith in z)
 
     the-next : next (λ k. other-half (marker-at t markers e) (marker-at t markers k)) (suc e) (length markers - suc e) ≡ j
     the-next = sym (g ∙ after-is t markers e here)
@@ -112,7 +113,8 @@ module _ (t markers : List ℕ) (id e : ℕ) (h : e ≡ next (startsAt (keysAt t
         ∙ ap (ended-by (marker-at t markers e))
         (nearest-none (other-half (marker-at t markers e)) (marker-at t markers) (length markers - suc e) (suc e) (omega (arith, k, here, length-keys t markers, the-next)))))
 
-    pub complete : j < length (keysAt t markers) → (v w : View) → v ≡ viewOf (marker-at t markers e) → w ≡ viewOf (marker-at t markers j) → (b : Bool) → b ≡ not (eqb (w .reorder) (end-letter (v .reorder)))
+    pub complete : j < length (keysAt t markers) → (v w : View) → v ≡ viewOf (marker-at t markers e) → w ≡ viewOf (marker-at t markers j) → (b : Bool)
+        → b ≡ not (eqb (w .reorder) (end-letter (v .reorder)))
         → Complete (v .pform) b ≡ pairOf (find-whole id (itemsAt t markers))
     unfolding pairOf ended-by unfit-letter viewOf
     complete k v w a c b d =

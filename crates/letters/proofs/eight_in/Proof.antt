@@ -53,7 +53,7 @@ view-at-requires c κs =
     key-there (args .t .now) (args .markers .now) _ (start .pre) i (wide .result) (c .before .before .before .loop-test .taken)
     (wide .ensures .0)
 
--- ill_ended(t, os, keys, i, x)
+-- ill_ended(t, markers, keys, i, x)
 ill-ended-requires : tie.Need-ill-ended-requires Inv-loop μ-loop
 unfolding earlier any
 ill-ended-requires c κs =

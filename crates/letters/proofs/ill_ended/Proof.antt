@@ -50,7 +50,7 @@ shared-slice-read-view-at c =
       if2 .left,
     )
 
--- keys::view_at(t, views::wide(os[start - 1]), keys[start - 1])
+-- keys::view_at(t, views::wide(markers[start - 1]), keys[start - 1])
 view-at-requires : tie.Need-view-at-requires
 view-at-requires c κs =
     let start = c .before .before .before .before .before .before .before .before .before .before .before in
@@ -63,7 +63,7 @@ view-at-requires c κs =
     key-there t (args .markers .now) _ (pre .0) (half-before-call .result - 1) (wide .result)
     (omega (arith, half-before-call .ensures .1, pre .1, if2 .left)) (wide .ensures .0)
 
--- ill_matched(keys::view_at(t, views::wide(os[start - 1]), keys[start - 1]), x)
+-- ill_matched(keys::view_at(t, views::wide(markers[start - 1]), keys[start - 1]), x)
 returns-3 : tie.Need-returns-3
 returns-3 c =
     let after-if2 = c .before .before .before .before .before in

@@ -6,7 +6,7 @@ use borrow.Author.Needs.{needs}
 use Rattle.letters.proofs.rule_8.Statement.{statement}
 use Rattle.letters.proofs.rule_8.Tie as tie
 
--- eight_in(t, false, tgt, tkeys, source)
+-- eight_in(t, false, target_markers, target_keys, source)
 returns : tie.Need-returns
 unfolding fault-8 offsets
 returns c =

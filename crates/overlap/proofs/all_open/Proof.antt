@@ -31,7 +31,7 @@ loop-holds : tie.Need-loop-holds Inv-loop μ-loop
 unfolding earlier
 loop-holds c = (omega arith, λ p. refl)
 
--- is_closed(t, os, keys, i)
+-- is_closed(t, markers, keys, i)
 is-closed-requires : tie.Need-is-closed-requires Inv-loop μ-loop
 unfolding earlier
 is-closed-requires c κs =

@@ -41,7 +41,7 @@ shared-slice-read-view-at c =
     let pre = start .pre in
     omega (arith, keys-long (start .args .t .now) (start .args .markers .now) _ (pre .0), pre .5)
 
--- keys::view_at(t, views::wide(os[i]), keys[i])
+-- keys::view_at(t, views::wide(markers[i]), keys[i])
 view-at-requires : tie.Need-view-at-requires
 view-at-requires c κs =
     let start = c .before .before .before .before .before .before .before .before .before .before .before in

@@ -38,7 +38,7 @@ shared-slice-read-view-at c =
     let pre = start .pre in
     omega (arith, keys-long (start .args .t .now) (start .args .markers .now) _ (pre .0), pre .1)
 
--- keys::view_at(t, views::wide(os[i]), keys[i])
+-- keys::view_at(t, views::wide(markers[i]), keys[i])
 view-at-requires : tie.Need-view-at-requires
 view-at-requires c κs =
     let start = c .before .before .before .before .before .before .before .before .before in
@@ -49,7 +49,7 @@ view-at-requires c κs =
     let wide = c .before .wide in
     key-there t (args .markers .now) _ (pre .0) i (wide .result) (pre .1) (wide .ensures .0)
 
--- is_closed_start(keys::view_at(t, views::wide(os[i]), keys[i]))
+-- is_closed_start(keys::view_at(t, views::wide(markers[i]), keys[i]))
 returns-2 : tie.Need-returns-2
 returns-2 c =
     let start = c .before .before .before .before .before .before .before .before .before .before .before in

@@ -22,7 +22,7 @@ Inv-loop t markers keys starts ends best₀ i₀ best i =
 abbrev μ-loop : tie.MeasureT-loop
 μ-loop t markers keys starts ends best₀ i₀ best i = length markers - i
 
--- encloses_stray(t, os, keys, starts, ends, i)
+-- encloses_stray(t, markers, keys, starts, ends, i)
 encloses-stray-requires : tie.Need-encloses-stray-requires Inv-loop μ-loop
 unfolding earlier
 encloses-stray-requires c κs =

@@ -6,7 +6,7 @@ use borrow.Author.Needs.{needs}
 use Rattle.overlap.proofs.rule_9.Statement.{statement}
 use Rattle.overlap.proofs.rule_9.Tie as tie
 
--- nine_in(t, tgt, tkeys, nine_in(t, src, skeys, Place::Nowhere))
+-- nine_in(t, target_markers, target_keys, nine_in(t, source_markers, source_keys, Place::Nowhere))
 returns : tie.Need-returns
 unfolding fault-9 offsets
 returns c =

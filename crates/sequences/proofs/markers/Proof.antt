@@ -7,26 +7,26 @@ use borrow.Author.Needs.{needs}
 use Rattle.sequences.proofs.markers.Statement.{statement}
 use Rattle.sequences.proofs.markers.Tie as tie
 
--- narrow(parts)
+-- marks::narrow(parts)
 narrow-requires : tie.Need-narrow-requires
 narrow-requires c κs =
     let start = c .before .before .before .before .before .before .before .before .before in
     omega (arith, start .pre .2, few-parts (start .args .t .now) (start .pre .0))
 
--- targets(t, narrow(parts), tgt)
+-- targets(t, marks::narrow(parts), target_markers)
 targets-requires : tie.Need-targets-requires
 targets-requires c κs =
     let start = c .before .before .before .before .before .before .before .before .before .before .before in
     let pre = start .pre in
     (pre .0, pre .1, pre .5, omega (arith, c .before .narrow .ensures, pre .2, few-parts (start .args .t .now) (pre .0)))
 
--- &src[..k]
+-- &source_markers[..k]
 slice-aggregate-keys-at : tie.Need-slice-aggregate-keys-at
 slice-aggregate-keys-at c =
     let sources = c .before .before .before .before .before .before .before .before .sources in
     front-long _ (sources .last .1 .0) (sources .result) (sources .ensures)
 
--- keys::keys_at(t, &src[..k], skeys)
+-- keys::keys_at(t, &source_markers[..k], source_keys)
 keys-at-requires : tie.Need-keys-at-requires
 keys-at-requires c κs =
     let sources = c .before .before .before .before .before .before .before .before .before .sources in
@@ -34,13 +34,13 @@ keys-at-requires c κs =
     .before .before .before .before .pre in
     omega (arith, front-long _ (sources .last .1 .0) (sources .result) (sources .ensures), sources .ensures .1, pre .4)
 
--- &tgt[..m]
+-- &target_markers[..m]
 slice-aggregate-keys-at-2 : tie.Need-slice-aggregate-keys-at-2
 slice-aggregate-keys-at-2 c =
     let targets = c .before .before .before .before .before .before .before .before .targets in
     front-long _ (targets .last .1 .1 .0) (targets .result) (targets .ensures)
 
--- keys::keys_at(t, &tgt[..m], tkeys)
+-- keys::keys_at(t, &target_markers[..m], target_keys)
 keys-at-requires-2 : tie.Need-keys-at-requires-2
 keys-at-requires-2 c κs =
     let targets = c .before .before .before .before .before .before .before .before .before .targets in

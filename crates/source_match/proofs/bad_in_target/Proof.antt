@@ -4,7 +4,7 @@ use borrow.Author.Needs.{needs}
 use Rattle.source_match.proofs.bad_in_target.Statement.{statement}
 use Rattle.source_match.proofs.bad_in_target.Tie as tie
 
--- | (code & copies_none(t, os, keys, links, heads, x))
+-- | (code & copies_none(t, markers, keys, links, heads, x))
 returns : tie.Need-returns
 returns c =
     let after-is-code = c .before .before .before .before .before in

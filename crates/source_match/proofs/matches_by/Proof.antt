@@ -43,7 +43,7 @@ shared-slice-read-one-more c =
       loop-test .taken,
     )
 
--- one_more(t, views::wide(os[i]), keys[i], id, x, found)
+-- one_more(t, views::wide(markers[i]), keys[i], id, x, found)
 one-more-requires : tie.Need-one-more-requires Inv-loop μ-loop
 one-more-requires c κs =
     let start = c .before .before .before .before .before .before .before .before .before .before .before .before

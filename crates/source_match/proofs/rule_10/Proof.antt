@@ -8,7 +8,7 @@ use borrow.Author.Needs.{needs}
 use Rattle.source_match.proofs.rule_10.Statement.{statement}
 use Rattle.source_match.proofs.rule_10.Tie as tie
 
--- id_links::link_before(skeys, &mut links, &mut heads)
+-- id_links::link_before(source_keys, &mut links, &mut heads)
 link-before-requires : tie.Need-link-before-requires
 link-before-requires c κs =
     let start = c .before .before .before .before .before .before .before in
@@ -19,21 +19,21 @@ link-before-requires c κs =
       λ g l. getD-replicate 256 g 0 0 l ∙ sym (previous-none _),
     )
 
--- ten_source(t, src, skeys)
+-- ten_source(t, source_markers, source_keys)
 ten-source-requires : tie.Need-ten-source-requires
 ten-source-requires c κs =
     let pre = c .before .before .before .before .before .before .before .before .before .before .before .before
     .pre in
     pre .2
 
--- ten_target(t, src, skeys, &links, &heads, tgt, tkeys, ten_source(t, src, skeys))
+-- ten_target(t, source_markers, source_keys, &links, &heads, target_markers, target_keys, ten_source(t, source_markers, source_keys))
 ten-target-requires : tie.Need-ten-target-requires
 ten-target-requires c κs =
     let pre = c .before .before .before .before .before .before .before .before .before .before .before .before
     .before .pre in
     (search needs, pre .4)
 
--- ten_target(t, src, skeys, &links, &heads, tgt, tkeys, ten_source(t, src, skeys))
+-- ten_target(t, source_markers, source_keys, &links, &heads, target_markers, target_keys, ten_source(t, source_markers, source_keys))
 returns : tie.Need-returns
 returns c =
     let start = c .before .before .before .before .before .before .before .before .before .before .before .before

@@ -46,7 +46,7 @@ view-at-requires c κs =
     key-there (args .t .now) (args .markers .now) _ (start .pre .1) i (wide .result) (c .before .before .before .loop-test .taken)
     (wide .ensures .0)
 
--- bad_in_target(t, src, skeys, links, heads, keys::view_at(t, at, keys[i]))
+-- bad_in_target(t, source_markers, source_keys, links, heads, keys::view_at(t, at, keys[i]))
 bad-in-target-requires : tie.Need-bad-in-target-requires Inv-loop μ-loop
 unfolding earlier
 bad-in-target-requires c κs =

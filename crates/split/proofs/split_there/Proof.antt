@@ -82,7 +82,7 @@ returns-4 c =
     (sym (is-taken .ensures) ∙ c .before .before .if3 .left)
     (sym (c .before .is-too-large .ensures) ∙ c .if4 .taken))
 
--- split_result::put_split(out, table, place, cut, tcut, id)
+-- split_result::put_split(out, table, place, cut, target_cut, id)
 put-split-requires : tie.Need-put-split-requires
 put-split-requires c κs =
     let start = c .before .before .before .before .before .before .before .before .before .before .before in
@@ -94,7 +94,7 @@ put-split-requires c κs =
           (sym (c .before .before .is-too-large .ensures) ∙ c .before .if4 .left),
     )
 
--- Answer::Accepted(split_result::put_split(out, table, place, cut, tcut, id))
+-- Answer::Accepted(split_result::put_split(out, table, place, cut, target_cut, id))
 returns-5 : tie.Need-returns-5
 returns-5 c =
     let after-is-too-large = c .before .before .before .before .before in

@@ -12,14 +12,14 @@ use borrow.Author.Needs.{needs}
 use Rattle.whole_pair.proofs.in_source.Statement.{statement}
 use Rattle.whole_pair.proofs.in_source.Tie as tie
 
--- &os[..n]
+-- &markers[..n]
 slice-aggregate-keys-at : tie.Need-slice-aggregate-keys-at
 slice-aggregate-keys-at c =
     let sources = c .before .before .sources in
     sym (length-take-le (sources .result) (sources .last .1 .0)
     (omega (arith, sources .ensures .1, sources .ensures .2)))
 
--- keys::keys_at(t, &os[..n], &mut ks)
+-- keys::keys_at(t, &markers[..n], &mut keys)
 keys-at-requires : tie.Need-keys-at-requires
 keys-at-requires c κs =
     let sources = c .before .before .before .sources in
@@ -30,14 +30,14 @@ keys-at-requires c κs =
       sources .ensures .1,
     )
 
--- &os[..n]
+-- &markers[..n]
 slice-aggregate-pair-of : tie.Need-slice-aggregate-pair-of
 slice-aggregate-pair-of c =
     let sources = c .before .before .before .before .before .before .sources in
     sym (length-take-le (sources .result) (sources .last .1 .0)
     (omega (arith, sources .ensures .1, sources .ensures .2)))
 
--- &ks[..n]
+-- &keys[..n]
 slice-aggregate-pair-of-2 : tie.Need-slice-aggregate-pair-of-2
 slice-aggregate-pair-of-2 c =
     let sources = c .before .before .before .before .before .before .before .sources in
@@ -45,7 +45,7 @@ slice-aggregate-pair-of-2 c =
     sym (length-take-le (sources .result) (keys-at .last .1 .1 .0)
     (omega (arith, sources .ensures .1, keys-at .ensures .2)))
 
--- pair_of(t, &os[..n], &ks[..n], id)
+-- pair_of(t, &markers[..n], &keys[..n], id)
 pair-of-requires : tie.Need-pair-of-requires
 pair-of-requires c κs =
     let sources = c .before .before .before .before .before .before .before .sources in
@@ -56,7 +56,7 @@ pair-of-requires c κs =
     (omega (arith, sources .ensures .1, sources .ensures .2))))
     ∙ keys-at .ensures .1
 
--- pair_of(t, &os[..n], &ks[..n], id)
+-- pair_of(t, &markers[..n], &keys[..n], id)
 returns : tie.Need-returns
 returns c =
     let after-sources = c .before .before .before .before .before .before .before .before in

@@ -33,14 +33,14 @@ returns-2 c =
     none-ended (args .t .now) (args .markers .now) (args .id) (find-start .result) f
     (omega (arith, n, c .before .before .if1 .left)) (half-after .result) g (omega (arith, n, c .if2 .taken))
 
--- os[i]
+-- markers[i]
 shared-slice-read-wide : tie.Need-shared-slice-read-wide
 shared-slice-read-wide c =
     let start = c .before .before .before .before .before .before .before .before .before in
     let if1 = c .before .before .before .if1 in
     omega (arith, keys-long (start .args .t .now) (start .args .markers .now) _ (start .pre), if1 .left)
 
--- os[j]
+-- markers[j]
 shared-slice-read-wide-2 : tie.Need-shared-slice-read-wide-2
 shared-slice-read-wide-2 c =
     let start = c .before .before .before .before .before .before .before .before .before .before .before .before in

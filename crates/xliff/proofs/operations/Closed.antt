@@ -47,7 +47,8 @@ unfolding split-focus first-half second-half closed-of gather is-closed
 split-closed c source-cut target-cut new ps b p a e o =
     closed-append c (order-parts (split-order (p .target)) b) (first-half source-cut target-cut p ∷ second-half source-cut target-cut new p ∷ order-parts (split-order (p .target)) a)
     ∙ ap₂ _++_ (closed-orders c (split-order (p .target)) b)
-    (ap₂ _++_ (not-closed c (first-half source-cut target-cut p) o) (ap₂ _++_ (not-closed c (second-half source-cut target-cut new p) (open-with-id c new (p .head) o)) (closed-orders c (split-order (p .target)) a)))
+    (ap₂ _++_ (not-closed c (first-half source-cut target-cut p) o)
+    (ap₂ _++_ (not-closed c (second-half source-cut target-cut new p) (open-with-id c new (p .head) o)) (closed-orders c (split-order (p .target)) a)))
     ∙ ap (λ (l : List ClosedPart). closed-of c b ++ (l ++ closed-of c a)) (sym (not-closed c p o))
     ∙ sym (closed-append c b (p ∷ a)) ∙ ap (closed-of c) (sym e)
 

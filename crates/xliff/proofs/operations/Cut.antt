@@ -194,7 +194,8 @@ balanced-orders f (p ∷ ps) (each-cons b h) =
 
 -- SPLIT
 abbrev after-split : ℕ → ℕ → ℕ → List Part → Part → List Part → List Part
-after-split source-cut target-cut new b p a = order-parts (split-order (p .target)) b ++ (first-half source-cut target-cut p ∷ second-half source-cut target-cut new p ∷ order-parts (split-order (p .target)) a)
+after-split source-cut target-cut new b p a = order-parts (split-order (p .target)) b ++
+    (first-half source-cut target-cut p ∷ second-half source-cut target-cut new p ∷ order-parts (split-order (p .target)) a)
 
 pub record SplitKeeps (old new : List Part) : Type 0 where
   pub source : Turned (source-sequence old) (source-sequence new)
@@ -283,7 +284,8 @@ module _ (source-cut target-cut new : ℕ) (b : List Part) (p : Part) (a : List 
       raised .0,
       raised .1,
       raised .2,
-      ap (λ (t : Target). target-sequence (order-parts (split-order t) b ++ (first-half source-cut target-cut p ∷ second-half source-cut target-cut new p ∷ order-parts (split-order t) a))) target-equals
+      ap (λ (t : Target). target-sequence (order-parts (split-order t) b ++
+          (first-half source-cut target-cut p ∷ second-half source-cut target-cut new p ∷ order-parts (split-order t) a))) target-equals
           ∙ raised .3,
     )
 
@@ -339,8 +341,10 @@ module _ (source-cut target-cut new : ℕ) (b : List Part) (p : Part) (a : List 
     same-target-sequence : target-sequence now ≡ target-sequence old
     unfolding first-half second-half first-target second-target
     same-target-sequence =
-        ap (λ (t : Target). target-sequence (order-parts (split-order t) b ++ (first-half source-cut target-cut p ∷ second-half source-cut target-cut new p ∷ order-parts (split-order t) a))) target-equals
-        ∙ without-target b p (first-half source-cut target-cut p) (second-half source-cut target-cut new p) a target-equals (ap (first-target target-cut) target-equals) (ap (second-target target-cut) target-equals) (fault-5-fits old five)
+        ap (λ (t : Target). target-sequence (order-parts (split-order t) b ++
+        (first-half source-cut target-cut p ∷ second-half source-cut target-cut new p ∷ order-parts (split-order t) a))) target-equals
+        ∙ without-target b p (first-half source-cut target-cut p) (second-half source-cut target-cut new p) a target-equals
+        (ap (first-target target-cut) target-equals) (ap (second-target target-cut) target-equals) (fault-5-fits old five)
 
     bare-turned : bare-sequence now ≡ bare-sequence b ++ (map (turn (source-is-cut .keys)) (p .source) ++ bare-sequence a)
     unfolding bare first-half second-half first-target second-target has-target

@@ -47,7 +47,8 @@ glue u v xs ys zs old new x y h =
     ∙ sym (flattened-append u (xs ++ v)))
 
 -- with a target
-with-target : (source-cut target-cut new : ℕ) (b : List Part) (p : Part) (a : List Part) (q : ℕ) (xs : Content) → p .target ≡ target q xs → orders-fit (length (b ++ (p ∷ a))) [] (orders (b ++ (p ∷ a))) ≡ true
+with-target : (source-cut target-cut new : ℕ) (b : List Part) (p : Part) (a : List Part) (q : ℕ) (xs : Content) → p .target ≡ target q xs
+    → orders-fit (length (b ++ (p ∷ a))) [] (orders (b ++ (p ∷ a))) ≡ true
     → flattened (target-sequence (order-parts (raise-above q) b ++ (first-half source-cut target-cut p ∷ second-half source-cut target-cut new p ∷ order-parts (raise-above q) a)))
     ≡ flattened (target-sequence (b ++ (p ∷ a)))
 unfolding first-half second-half first-target second-target orders order-list gather

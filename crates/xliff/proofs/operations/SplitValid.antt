@@ -164,7 +164,8 @@ split-good source-cut target-cut new b p a h =
     (each-cons (record { head = good-id new (p .head) (gp .head); source = good-second source-cut (p .source) (gp .source); target = two }) (orders-good f a ga)))
 
 -- An accepted split
-pub split-accepted : (t : List ℕ) (n source-cut target-cut new room : ℕ) (r : List ℕ) → Bytes t → split t n source-cut target-cut new room ≡ result r → Accepted t (split-unit (unit t) n source-cut target-cut new) r
+pub split-accepted : (t : List ℕ) (n source-cut target-cut new room : ℕ) (r : List ℕ) → Bytes t → split t n source-cut target-cut new room ≡ result r
+    → Accepted t (split-unit (unit t) n source-cut target-cut new) r
 unfolding split split-unit split-focus with-parts split-refusal fault-6-to-10 Valid
 split-accepted t n source-cut target-cut new room r bt e =
     let (valid, own, same) = operation-result t _ _ r e in
@@ -193,9 +194,12 @@ split-accepted t n source-cut target-cut new room r bt e =
         let five : fault-5 old ≡ none = ap fault-5 (sym at) ∙ h .rule-5 in
         let seven : Good7 old = rule-7-good old six (ap fault-7 (sym at) ∙ then-left _ _ r7) in
         let kept = split-keeps source-cut target-cut new ps b p a five seven in
-        let source-same = subst (λ (f : Focus). flattened (source-sequence (split-focus source-cut target-cut new ps f)) ≡ flattened (source-sequence ps)) k (split-source source-cut target-cut new ps n) in
-        let target-same = subst (λ (f : Focus). flattened (target-sequence (split-focus source-cut target-cut new ps f)) ≡ flattened (target-sequence ps)) k (split-target source-cut target-cut new ps n (h .rule-5)) in
-        let (x, xs, shown) = some-part (order-parts (split-order (p .target)) b) (first-half source-cut target-cut p) (second-half source-cut target-cut new p ∷ order-parts (split-order (p .target)) a) in
+        let source-same = subst (λ (f : Focus). flattened (source-sequence (split-focus source-cut target-cut new ps f))
+        ≡ flattened (source-sequence ps)) k (split-source source-cut target-cut new ps n) in
+        let target-same = subst (λ (f : Focus). flattened (target-sequence (split-focus source-cut target-cut new ps f))
+        ≡ flattened (target-sequence ps)) k (split-target source-cut target-cut new ps n (h .rule-5)) in
+        let (x, xs, shown) = some-part (order-parts (split-order (p .target)) b) (first-half source-cut target-cut p)
+        (second-half source-cut target-cut new p ∷ order-parts (split-order (p .target)) a) in
         record {
           letter = h .letter;
           first = x;

@@ -8,6 +8,7 @@ use mathlib.Core.List.{List, [], _∷_, _++_}
 use lib.Dec.{eqb, ltb}
 use lib.ListN.{length, length-append}
 use borrow.Author.Tests.{eqb-true, ltb-true, ltb-false}
+use Rattle.xliff.specs.Parse.{most-bytes}
 use Rattle.xliff.specs.Bytes.{'-', 'E', 'F', 'G', 'I', 'N', 'R', 'S', 'T', 'U', 'X', 'Y', Bytes, no-bytes, one-byte, two, among, gather}
 use Rattle.xliff.specs.Text.{utf8-1, utf8-2, utf8-3, utf8-4, utf8, utf8s}
 use Rattle.xliff.specs.Item.{Item, Content, start, end, form-P, form-S, text, character, standalone, isolated, pair, annotation-start, annotation-end, mark}
@@ -163,7 +164,7 @@ mark-bytes (annotation-start form-S i t) = letters _ refl
 mark-bytes (annotation-end form-P i) = letters _ refl
 mark-bytes (annotation-end form-S i) = letters _ refl
 
-record-bytes-good : (r : Record) → GoodRecord r → Fits r → length (record-bytes r) ≤ 8192 → Bytes (record-bytes r)
+record-bytes-good : (r : Record) → GoodRecord r → Fits r → length (record-bytes r) ≤ most-bytes → Bytes (record-bytes r)
 unfolding record-bytes
 record-bytes-good (opening o) g f l =
     bytes-append ('U' ∷ 'N' ∷ []) (o .canResegment ∷ []) (letters ('U' ∷ 'N' ∷ []) refl) (one-byte (among-byte (o .canResegment) _ letters-YN g) no-bytes)
@@ -178,7 +179,7 @@ record-bytes-good (inline x) g f l = bytes-append (mark x) (field-bytes x) (mark
 record-bytes-good ill-text g f l = absurd g
 record-bytes-good (broken b) g f l = absurd g
 
-pub fit-bytes : (rs : List Record) → AllGood rs → AllFit rs → length (spell rs) ≤ 8192 → Bytes (spell rs)
+pub fit-bytes : (rs : List Record) → AllGood rs → AllFit rs → length (spell rs) ≤ most-bytes → Bytes (spell rs)
 unfolding spell gather
 fit-bytes [] each-nil each-nil l = no-bytes
 fit-bytes (r ∷ rs) (each-cons g h) (each-cons f k) l =
@@ -270,7 +271,12 @@ parts-from [] h = each-nil
 parts-from (p ∷ ps) (each-cons f h) =
     let mine = each-left (content-records (p .source) ++ target-records (p .target)) (gather part-records ps) h in
     each-cons
-    (record { head = f; source = content-from (p .source) (each-left (content-records (p .source)) _ mine); target = target-from-records (p .target) (each-right (content-records (p .source)) _ mine) })
+    (record {
+      head = f;
+      source = content-from (p .source) (each-left (content-records (p .source)) _ mine);
+      target = target-from-records (p .target)
+          (each-right (content-records (p .source)) _ mine);
+    })
     (parts-from ps (each-right (content-records (p .source) ++ target-records (p .target)) (gather part-records ps) h))
 
 pub unit-from : (u : XliffUnit) → AllFit (unit-records u) → FitParts (u .parts)

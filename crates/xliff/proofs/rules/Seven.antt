@@ -145,7 +145,8 @@ balanced-contents at [] each-nil = refl
 balanced-contents at (p ∷ ps) (each-cons b h) =
     let l : Located = record { part = p; at = at } in
     ap₂ _++_ (blamed-clear lone-P [] (placed-from (source-at l) [] (p .source)) (ap (clear lone-P []) (items-placed (source-at l) [] (p .source)) ∙ balanced-clear (p .source) (b .source)))
-    (ap₂ _++_ (blamed-clear lone-P [] (placed-target (target-at l) (p .target)) (ap (clear lone-P []) (items-of-target (target-at l) (p .target)) ∙ balanced-clear (target-items (p .target)) (b .target)))
+    (ap₂ _++_ (blamed-clear lone-P [] (placed-target (target-at l) (p .target)) (ap (clear lone-P []) (items-of-target (target-at l) (p .target))
+    ∙ balanced-clear (target-items (p .target)) (b .target)))
     (balanced-contents (at + part-size p) ps h))
 
 -- with nothing that waits, no half may be alone

@@ -49,7 +49,7 @@ applies-false n true e = absurd (true≢false e)
 applies-false n false e = refl
 
 -- number 1 leaves at most 8,192 bytes
-pub small-table : (t : List ℕ) → table-refusal t ≡ none → length t ≤ 8192
+pub small-table : (t : List ℕ) → table-refusal t ≡ none → length t ≤ most-bytes
 unfolding table-refusal
 small-table t v = ltb-false most-bytes (length t) (applies-none 1 (ltb most-bytes (length t)) (then-left _ _ v))
 
