@@ -6,11 +6,11 @@ use Rattle.both_ends.proofs.run.Reads as reads
 use Rattle.both_ends.proofs.run.Lts as lts
 use Rattle.job.proofs.run.Reads as run-reads
 
--- src/lib.rt:15:5
+-- job::run(job, out)
 run-requires : tie.Need-run-requires
 run-requires c κs = search needs
 
--- src/lib.rt:10:1
+-- job::run(job, out)
 returns : tie.Need-returns
 returns c = (c .run .ensures .0, (c .run .ensures .1, input-meets (c .before .before .before .args .job .now) ((c .before .before .shared-slice-known .given))))
 

@@ -11,7 +11,7 @@ use borrow.Author.Needs.{needs}
 use Rattle.job.proofs.answer_request.Statement.{statement}
 use Rattle.job.proofs.answer_request.Tie as tie
 
--- src/lib.rt:40:33
+-- &table[..n]
 slice-aggregate-perform : tie.Need-slice-aggregate-perform
 unfolding left
 slice-aggregate-perform c =
@@ -19,7 +19,7 @@ slice-aggregate-perform c =
     let pre = start .pre in
     sym (length-take-le (start .args .n) (start .args .table .now) (omega (arith, pre .0, pre .1)))
 
--- src/lib.rt:42:9
+-- keep(table, n, a, &result)
 keep-requires : tie.Need-keep-requires
 unfolding left
 keep-requires c κs =
@@ -32,7 +32,7 @@ keep-requires c κs =
       answer-fits _ (perform .result) _ _ (perform .ensures .0) refl (perform .ensures .1),
     )
 
--- src/lib.rt:35:1
+-- the end
 returns : tie.Need-returns
 unfolding left
 returns c =
@@ -56,12 +56,12 @@ unfolding left
 answer-request-spec =
     tie.close
     (tie.spec
-    -- by search: slice-reshare-prefix-perform 40:33
+    -- by search: slice-reshare-prefix-perform
     (λ c. search needs)
     slice-aggregate-perform
-    -- by search: perform-requires 40:9, put-line-requires 41:9, slice-aggregate-keep 42:36
+    -- by search: perform-requires, put-line-requires, slice-aggregate-keep
     (λ c κs. search needs) (λ c κs. search needs) (λ c. search needs)
     keep-requires
-    -- by search: same-length 35:1, same-length-2 35:1
+    -- by search: same-length, same-length-2
     (λ c. search needs) (λ c. search needs)
     returns)

@@ -6,7 +6,7 @@ use borrow.Author.Needs.{needs}
 use Rattle.job.proofs.keep.Statement.{statement}
 use Rattle.job.proofs.keep.Tie as tie
 
--- src/lib.rt:29:51
+-- &result[..m]
 slice-aggregate-put : tie.Need-slice-aggregate-put
 slice-aggregate-put c =
     let start = c .before .before .before .before .before .before .before in
@@ -15,7 +15,7 @@ slice-aggregate-put c =
     let f = rw (a .given .1) at (pre .3) in
     sym (length-take-le _ (start .args .result .now) (omega (arith, f, pre .2)))
 
--- src/lib.rt:29:32
+-- writer::put(table, &result[..m])
 put-requires : tie.Need-put-requires
 put-requires c κs =
     let start = c .before .before .before .before .before .before .before in
@@ -30,7 +30,7 @@ put-requires c κs =
       length-take-le (a .given .0 .0) (start .args .result .now) (omega (arith, f, pre .2)),
     )
 
--- src/lib.rt:24:1
+-- Answer::Accepted(m) => writer::put(table, &result[..m])
 returns : tie.Need-returns
 returns c =
     let after-a = c .before .before .before .before .before .before in
@@ -42,7 +42,7 @@ returns c =
     rw (a .given .1) (put-keeps (start .args .table .now) (start .args .result .now) (put .last .0) (a .given .0 .0)
     (put .result) (omega (arith, f, pre .2)) (pre .2) (put .ensures .0) (put .ensures .1))
 
--- src/lib.rt:24:1
+-- Answer::Refused(_, _) => n
 returns-2 : tie.Need-returns-2
 returns-2 c =
     let pre = c .before .before .before .before .pre in
@@ -52,11 +52,11 @@ pub keep-spec : {M : Type 1} → statement M
 keep-spec =
     tie.close
     (tie.spec
-    -- by search: enum-known-a 29:26
+    -- by search: enum-known-a
     (λ c. search needs)
     slice-aggregate-put
     put-requires
-    -- by search: enum-told 30:34, same-length 24:1
+    -- by search: enum-told, same-length
     (λ c. search needs) (λ c. search needs)
     returns
     returns-2)

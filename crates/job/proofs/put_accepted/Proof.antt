@@ -10,20 +10,20 @@ use borrow.Author.Needs.{needs}
 use Rattle.job.proofs.put_accepted.Statement.{statement}
 use Rattle.job.proofs.put_accepted.Tie as tie
 
--- src/lib.rt:89:37
+-- &job[..n]
 slice-aggregate-put-2 : tie.Need-slice-aggregate-put-2
 slice-aggregate-put-2 c =
     let start = c .before .before .before .before in
     sym (length-take-le (start .args .n) (start .args .job .now) (start .pre .0))
 
--- src/lib.rt:89:9
+-- writer::put(&mut table, &job[..n])
 put-requires : tie.Need-put-requires
 put-requires c κs =
     let start = c .before .before .before .before in
     let pre = start .pre in
     omega (arith, length-take-le (start .args .n) (start .args .job .now) (pre .0), pre .1)
 
--- src/lib.rt:90:5
+-- put_requests(job, m, &mut table, out)
 put-requests-requires : tie.Need-put-requests-requires
 put-requests-requires c κs =
     let start = c .before .before .before .before .before .before .before .before in
@@ -32,7 +32,7 @@ put-requests-requires c κs =
     let l = put .ensures .0 ∙ length-take-le (start .args .n) (start .args .job .now) (pre .0) in
     (omega (arith, l, pre .0), omega (arith, l, pre .1), pre .2, put .kept .0, pre .3)
 
--- src/lib.rt:84:1
+-- put_requests(job, m, &mut table, out)
 returns : tie.Need-returns
 returns c =
     let after-put = c .before .before .before .before .before .before .before in
@@ -53,13 +53,13 @@ pub put-accepted-spec : {M : Type 1} → statement M
 put-accepted-spec =
     tie.close
     (tie.spec
-    -- by search: slice-aggregate-put 89:25
+    -- by search: slice-aggregate-put
     (λ c. search needs)
     slice-aggregate-put-2
     put-requires
-    -- by search: slice-aggregate-put-requests 90:26
+    -- by search: slice-aggregate-put-requests
     (λ c. search needs)
     put-requests-requires
-    -- by search: same-length 84:1
+    -- by search: same-length
     (λ c. search needs)
     returns)

@@ -10,7 +10,7 @@ use borrow.Author.Needs.{needs}
 use Rattle.job.proofs.put_answers.Statement.{statement}
 use Rattle.job.proofs.put_answers.Tie as tie
 
--- src/lib.rt:98:32
+-- put_accepted(job, n, out)
 put-accepted-requires : tie.Need-put-accepted-requires
 put-accepted-requires c κs =
     let start = c .before .before .before .before .before in
@@ -21,7 +21,7 @@ put-accepted-requires c κs =
     let v = accepted-small (take n job) _ (rw (c .before .enum-told .given .1) at (pre .4)) in
     (pre .1, omega (arith, v, length-take-le n job (pre .1)), pre .2, pre .3)
 
--- src/lib.rt:93:1
+-- Answer::Accepted(_) => put_accepted(job, n, out)
 returns : tie.Need-returns
 returns c =
     let start = c .before .before .before .before .before .before .before .before in
@@ -34,7 +34,7 @@ returns c =
       put-accepted .ensures .1 ∙ ap (λ (l : List ℕ). lead l (args .out .now)) (sym e),
     )
 
--- src/lib.rt:93:1
+-- Answer::Refused(k, at) => lines::put_line(out, Answer::Refused(k, at))
 returns-2 : tie.Need-returns-2
 returns-2 c =
     let after-a = c .before .before .before .before .before in
@@ -52,12 +52,12 @@ pub put-answers-spec : {M : Type 1} → statement M
 put-answers-spec =
     tie.close
     (tie.spec
-    -- by search: enum-told 98:53
+    -- by search: enum-told
     (λ c. search needs)
     put-accepted-requires
-    -- by search: enum-known-a 99:25, put-line-requires 99:35, same-length 93:1
+    -- by search: enum-known-a, put-line-requires, same-length
     (λ c. search needs) (λ c κs. search needs) (λ c. search needs)
     returns
-    -- by search: same-length-2 93:1
+    -- by search: same-length-2
     (λ c. search needs)
     returns-2)

@@ -21,7 +21,7 @@ Inv-loop job n table₀ out₀ at₀ m₀ k₀ table out at m k =
 abbrev μ-loop : tie.MeasureT-loop
 μ-loop job n table₀ out₀ at₀ m₀ k₀ table out at m k = length job - at
 
--- src/lib.rt:67:5
+-- the loop's start
 loop-holds : tie.Need-loop-holds Inv-loop μ-loop
 loop-holds c =
     let start = c .before .before .before in
@@ -35,7 +35,7 @@ loop-holds c =
       printed-start (args .job .now) (args .table .now) (args .n) (args .out .now),
     )
 
--- src/lib.rt:70:21
+-- answer_request(r, &job[at..], table, m, &mut out[k..])
 answer-request-requires : tie.Need-answer-request-requires Inv-loop μ-loop
 answer-request-requires c κs =
     let after-request-of = c .before .before .before .before .before .before in
@@ -59,7 +59,7 @@ answer-request-requires c κs =
       z .1 .1,
     )
 
--- src/lib.rt:73:17
+-- at += requests::size_of(r)
 add-at : tie.Need-add-at Inv-loop μ-loop
 add-at c =
     let after-r = c .before .before .before .before .before .before .before .before .before .before .before in
@@ -72,7 +72,7 @@ add-at c =
     let z = rw (r .given .1) at e in
     omega (arith, z .1 .1, c .size-of .ensures, length-drop (loop .at) (start .args .job .now), start .pre .2)
 
--- src/lib.rt:67:5
+-- the loop ends
 loop-less : tie.Need-loop-less Inv-loop μ-loop
 loop-less c =
     let after-r = c .before .before .before .before .before .before .before .before .before .before .before in
@@ -85,7 +85,7 @@ loop-less c =
     let z = rw (r .given .1) at e in
     omega (arith, z .1 .0, z .1 .1, c .size-of .ensures, length-drop (loop .at) job)
 
--- src/lib.rt:67:5
+-- the loop's step
 loop-again : tie.Need-loop-again Inv-loop μ-loop
 loop-again c =
     let after-answer-request = c .before .before .before .before .before .before in
@@ -118,13 +118,13 @@ loop-again c =
           (w .leaves),
     )
 
--- src/lib.rt:76:62
+-- &table[..m]
 slice-aggregate-put-unreadable : tie.Need-slice-aggregate-put-unreadable Inv-loop μ-loop
 slice-aggregate-put-unreadable c =
     let loop = c .before .before .before .before .before .before .before .loop in
     sym (length-take-le (loop .m) (loop .table) (omega (arith, loop .inv .1, loop .inv .3)))
 
--- src/lib.rt:76:28
+-- put_unreadable(&mut out[k..], at, &table[..m])
 put-unreadable-requires : tie.Need-put-unreadable-requires Inv-loop μ-loop
 put-unreadable-requires c κs =
     let after-loop = c .before .before .before .before .before .before .before in
@@ -143,7 +143,7 @@ put-unreadable-requires c κs =
       ),
     )
 
--- src/lib.rt:76:17
+-- return k + put_unreadable(&mut out[k..], at, &table[..m])
 returns : tie.Need-returns Inv-loop μ-loop
 returns c =
     let after-enum-told = c .before .before .before .before .before in
@@ -160,13 +160,13 @@ returns c =
     (loop .m) (loop .k) (loop .inv .5) (put-unreadable .last .0) (put-unreadable .result) _
     (put-unreadable .ensures .0) (put-unreadable .ensures .1) (loop-test .taken) (z .0) refl
 
--- src/lib.rt:80:41
+-- &table[..m]
 slice-aggregate-put-table : tie.Need-slice-aggregate-put-table Inv-loop μ-loop
 slice-aggregate-put-table c =
     let loop = c .before .before .before .loop in
     sym (length-take-le (loop .m) (loop .table) (omega (arith, loop .inv .1, loop .inv .3)))
 
--- src/lib.rt:80:9
+-- lines::put_table(&mut out[k..], &table[..m])
 put-table-requires : tie.Need-put-table-requires Inv-loop μ-loop
 put-table-requires c κs =
     let pre = c .before .before .before .before .before .before .before .pre in
@@ -187,7 +187,7 @@ put-table-requires c κs =
       ),
     )
 
--- src/lib.rt:80:5
+-- k + lines::put_table(&mut out[k..], &table[..m])
 add-result-2 : tie.Need-add-result-2 Inv-loop μ-loop
 add-result-2 c =
     let after-loop = c .before .before .before .before .before .before in
@@ -205,7 +205,7 @@ add-result-2 c =
       pre .2,
     )
 
--- src/lib.rt:60:1
+-- k + lines::put_table(&mut out[k..], &table[..m])
 returns-2 : tie.Need-returns-2 Inv-loop μ-loop
 returns-2 c =
     let after-loop-test = c .before .before .before .before .before in
@@ -224,33 +224,33 @@ put-requests-spec =
     Inv-loop
     μ-loop
     loop-holds
-    -- by search: sub-request-of 68:36, part-request-of-start 68:36, part-request-of-end 68:36,
-    -- request-of-requires 68:15, enum-known-r 69:29, sub-answer-request 70:43, part-answer-request-start 70:43,
-    -- part-answer-request-end 70:43, sub-answer-request-2 70:65, part-answer-request-start-2 70:65,
-    -- part-answer-request-end-2 70:65
+    -- by search: sub-request-of, part-request-of-start, part-request-of-end,
+    -- request-of-requires, enum-known-r, sub-answer-request, part-answer-request-start,
+    -- part-answer-request-end, sub-answer-request-2, part-answer-request-start-2,
+    -- part-answer-request-end-2
     (λ c. search needs) (λ c. search needs) (λ c. search needs) (λ c κs. search needs) (λ c. search needs)
     (λ c. search needs) (λ c. search needs) (λ c. search needs) (λ c. search needs) (λ c. search needs)
     (λ c. search needs)
     answer-request-requires
-    -- by search: add-k 71:17, size-of-requires 73:23
+    -- by search: add-k, size-of-requires
     (λ c. search needs) (λ c κs. search needs)
     add-at
     loop-less
     loop-again
-    -- by search: enum-told 76:43, sub-put-unreadable 76:43, part-put-unreadable-start 76:43,
-    -- part-put-unreadable-end 76:43, slice-reshare-prefix-put-unreadable 76:62
+    -- by search: enum-told, sub-put-unreadable, part-put-unreadable-start,
+    -- part-put-unreadable-end, slice-reshare-prefix-put-unreadable
     (λ c. search needs) (λ c. search needs) (λ c. search needs) (λ c. search needs) (λ c. search needs)
     slice-aggregate-put-unreadable
     put-unreadable-requires
-    -- by search: add-result 76:24, same-length 76:17, same-length-2 76:17
+    -- by search: add-result, same-length, same-length-2
     (λ c. search needs) (λ c. search needs) (λ c. search needs)
     returns
-    -- by search: sub-put-table 80:26, part-put-table-start 80:26, part-put-table-end 80:26,
-    -- slice-reshare-prefix-put-table 80:41
+    -- by search: sub-put-table, part-put-table-start, part-put-table-end,
+    -- slice-reshare-prefix-put-table
     (λ c. search needs) (λ c. search needs) (λ c. search needs) (λ c. search needs)
     slice-aggregate-put-table
     put-table-requires
     add-result-2
-    -- by search: same-length-3 60:1, same-length-4 60:1
+    -- by search: same-length-3, same-length-4
     (λ c. search needs) (λ c. search needs)
     returns-2)

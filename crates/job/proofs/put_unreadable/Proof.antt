@@ -8,7 +8,7 @@ use borrow.Author.Needs.{needs}
 use Rattle.job.proofs.put_unreadable.Statement.{statement}
 use Rattle.job.proofs.put_unreadable.Tie as tie
 
--- src/lib.rt:55:5
+-- k + lines::put_table(&mut out[k..], t)
 add-result : tie.Need-add-result
 add-result c =
     let after-put-line = c .before .before .before .before .before .before in
@@ -22,7 +22,7 @@ add-result c =
       start .pre .0,
     )
 
--- src/lib.rt:50:1
+-- k + lines::put_table(&mut out[k..], t)
 returns : tie.Need-returns
 returns c =
     let after-put-line = c .before .before .before .before .before .before in
@@ -43,10 +43,10 @@ pub put-unreadable-spec : {M : Type 1} → statement M
 put-unreadable-spec =
     tie.close
     (tie.spec
-    -- by search: put-line-requires 54:9, sub-put-table 55:26, part-put-table-start 55:26,
-    -- part-put-table-end 55:26, put-table-requires 55:9
+    -- by search: put-line-requires, sub-put-table, part-put-table-start,
+    -- part-put-table-end, put-table-requires
     (λ c κs. search needs) (λ c. search needs) (λ c. search needs) (λ c. search needs) (λ c κs. search needs)
     add-result
-    -- by search: same-length 50:1
+    -- by search: same-length
     (λ c. search needs)
     returns)

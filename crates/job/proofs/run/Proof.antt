@@ -11,21 +11,21 @@ use borrow.Author.Needs.{needs}
 use Rattle.job.proofs.run.Statement.{statement}
 use Rattle.job.proofs.run.Tie as tie
 
--- src/lib.rt:117:24
+-- &job[..65535]
 slice-aggregate-run-job : tie.Need-slice-aggregate-run-job
 unfolding desk
 slice-aggregate-run-job c =
     let job = c .before .before .before .args .job .now in
     sym (length-take-le 65535 job (omega (arith, c .before .if1 .taken)))
 
--- src/lib.rt:117:9
+-- run_job(&job[..65535], out)
 run-job-requires : tie.Need-run-job-requires
 unfolding desk
 run-job-requires c κs =
     let job = c .before .before .before .before .args .job .now in
     (omega (arith, length-take-le 65535 job (omega (arith, c .before .before .if1 .taken))), search needs)
 
--- src/lib.rt:117:9
+-- return run_job(&job[..65535], out)
 returns : tie.Need-returns
 unfolding desk
 returns c =
@@ -36,7 +36,7 @@ returns c =
           (run-job .ensures .0) (run-job .ensures .1),
     )
 
--- src/lib.rt:112:1
+-- run_job(job, out)
 returns-2 : tie.Need-returns-2
 unfolding desk
 returns-2 c =
@@ -57,6 +57,6 @@ run-spec =
     slice-aggregate-run-job
     run-job-requires
     returns
-    -- by search: run-job-requires-2 119:5
+    -- by search: run-job-requires-2
     (λ c κs. search needs)
     returns-2)

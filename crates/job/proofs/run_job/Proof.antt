@@ -4,7 +4,7 @@ use borrow.Author.Needs.{needs}
 use Rattle.job.proofs.run_job.Statement.{statement}
 use Rattle.job.proofs.run_job.Tie as tie
 
--- src/lib.rt:108:44
+-- &job[..n]
 slice-aggregate-check : tie.Need-slice-aggregate-check
 slice-aggregate-check c =
     let job = c .before .before .before .before .args .job .now in
@@ -15,8 +15,8 @@ pub run-job-spec : {M : Type 1} → statement M
 run-job-spec =
     tie.close
     (tie.spec
-    -- by search: table-length-requires 107:9
+    -- by search: table-length-requires
     (λ c κs. search needs)
     slice-aggregate-check
-    -- by search: check-requires 108:25, put-answers-requires 108:5, same-length 103:1, returns 103:1
+    -- by search: check-requires, put-answers-requires, same-length, returns
     (λ c κs. search needs) (λ c κs. search needs) (λ c. search needs) (λ c. search needs))

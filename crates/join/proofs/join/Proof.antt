@@ -2,7 +2,7 @@ use borrow.Author.Needs.{needs}
 use Rattle.join.proofs.join.Statement.{statement}
 use Rattle.join.proofs.join.Tie as tie
 
--- src/lib.rt:89:1
+-- join_checked(table, table_check::check(table), wide(part), out)
 returns : tie.Need-returns
 returns c =
     let wide = c .before .before .before .before .wide in
@@ -12,6 +12,6 @@ pub join-spec : {M : Type 1} → statement M
 join-spec =
     tie.close
     (tie.spec
-    -- by search: check-requires 92:25, wide-requires 92:52, join-checked-requires 92:5, same-length 89:1
+    -- by search: check-requires, wide-requires, join-checked-requires, same-length
     (λ c κs. search needs) (λ c κs. search needs) (λ c κs. search needs) (λ c. search needs)
     returns)

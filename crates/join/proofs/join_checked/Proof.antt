@@ -5,7 +5,7 @@ use borrow.Author.Needs.{needs}
 use Rattle.join.proofs.join_checked.Statement.{statement}
 use Rattle.join.proofs.join_checked.Tie as tie
 
--- src/lib.rt:77:53
+-- part_at::part_at(table, n)
 part-at-requires : tie.Need-part-at-requires
 unfolding join
 part-at-requires c κs =
@@ -14,7 +14,7 @@ part-at-requires c κs =
     let known = c .before .before .before .shared-slice-known .given in
     table-passes table known (accepted-none table _ (rw (c .enum-told .given .1) at (start .pre .0)))
 
--- src/lib.rt:77:32
+-- join_found(table, n, part_at::part_at(table, n), out)
 join-found-requires : tie.Need-join-found-requires
 unfolding join
 join-found-requires c κs =
@@ -25,7 +25,7 @@ join-found-requires c κs =
       pre .1,
     )
 
--- src/lib.rt:72:1
+-- Answer::Refused(k, at) => Answer::Refused(k, at)
 returns-2 : tie.Need-returns-2
 unfolding join
 returns-2 c =
@@ -40,10 +40,10 @@ unfolding join
 join-checked-spec =
     tie.close
     (tie.spec
-    -- by search: enum-told 77:53
+    -- by search: enum-told
     (λ c. search needs)
     part-at-requires
     join-found-requires
-    -- by search: enum-known-a 78:25, same-length 72:1, returns 72:1
+    -- by search: enum-known-a, same-length, returns
     (λ c. search needs) (λ c. search needs) (λ c. search needs)
     returns-2)

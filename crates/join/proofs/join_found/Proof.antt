@@ -5,13 +5,13 @@ use borrow.Author.Needs.{needs}
 use Rattle.join.proofs.join_found.Statement.{statement}
 use Rattle.join.proofs.join_found.Tie as tie
 
--- src/lib.rt:67:29
+-- join_next(table, n, x, out)
 join-next-requires : tie.Need-join-next-requires
 join-next-requires c κs =
     let pre = c .before .before .before .before .before .before .pre in
     ((pre .0, rw (c .before .before .found .given .1) at (pre .1)), pre .2)
 
--- src/lib.rt:62:1
+-- FoundPart::Missing => Answer::Refused(11, 0)
 returns-2 : tie.Need-returns-2
 returns-2 c =
     let start = c .before .before .before .before in
@@ -25,9 +25,9 @@ pub join-found-spec : {M : Type 1} → statement M
 join-found-spec =
     tie.close
     (tie.spec
-    -- by search: enum-known-found 67:23
+    -- by search: enum-known-found
     (λ c. search needs)
     join-next-requires
-    -- by search: enum-told 68:31, same-length 62:1, returns 62:1
+    -- by search: enum-told, same-length, returns
     (λ c. search needs) (λ c. search needs) (λ c. search needs)
     returns-2)

@@ -7,14 +7,14 @@ use borrow.Author.Needs.{needs}
 use Rattle.join.proofs.join_next.Statement.{statement}
 use Rattle.join.proofs.join_next.Tie as tie
 
--- src/lib.rt:56:11
+-- part_at::part_at(table, n + 1)
 part-at-requires : tie.Need-part-at-requires
 part-at-requires c κs =
     let (pl, small) = c .before .before .pre in
     let (v, st) = pl in
     table-passes (c .before .before .args .table .now) (c .before .shared-slice-known .given) v
 
--- src/lib.rt:57:29
+-- join_pair(table, x, y, out)
 join-pair-requires : tie.Need-join-pair-requires
 join-pair-requires c κs =
     let start = c .before .before .before .before .before .before .before in
@@ -28,7 +28,7 @@ join-pair-requires c κs =
     let k = next-part (args .table .now) (args .n) (args .x) (y .given .0 .0) b p a f s c2 q d g u in
     (v, k .before, k .first, k .second, k .after, k .beside)
 
--- src/lib.rt:52:1
+-- FoundPart::At(y) => join_pair(table, x, y, out)
 returns : tie.Need-returns
 returns c =
     let after-y = c .before .before .before .before .before in
@@ -44,7 +44,7 @@ returns c =
     let k = next-part (args .table .now) n (args .x) (y .given .0 .0) b p a f s c2 q d g u in
     c .before .before .join-pair .ensures n (k .before) (k .first) (k .second) (k .after) (k .is) (k .beside)
 
--- src/lib.rt:52:1
+-- FoundPart::Missing => Answer::Refused(11, 0)
 returns-2 : tie.Need-returns-2
 returns-2 c =
     let start = c .before .before .before .before .before in
@@ -62,13 +62,13 @@ pub join-next-spec : {M : Type 1} → statement M
 join-next-spec =
     tie.close
     (tie.spec
-    -- by search: add-part-at 56:35
+    -- by search: add-part-at
     (λ c. search needs)
     part-at-requires
-    -- by search: enum-known-y 57:23
+    -- by search: enum-known-y
     (λ c. search needs)
     join-pair-requires
-    -- by search: enum-told 58:31, same-length 52:1
+    -- by search: enum-told, same-length
     (λ c. search needs) (λ c. search needs)
     returns
     returns-2)

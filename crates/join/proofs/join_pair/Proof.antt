@@ -9,7 +9,7 @@ use borrow.Author.Needs.{needs}
 use Rattle.join.proofs.join_pair.Statement.{statement}
 use Rattle.join.proofs.join_pair.Tie as tie
 
--- src/lib.rt:40:9
+-- return Answer::Refused(12, 0)
 returns : tie.Need-returns
 returns c =
     let start = c .before .before .before .before in
@@ -20,7 +20,7 @@ returns c =
     (first-closed (args .table .now) n (length out) (start .pre .0) b p q a f
     (sym (c .before .is-closed .ensures b p (q ∷ a) (s .first)) ∙ c .if1 .taken))
 
--- src/lib.rt:43:9
+-- return Answer::Refused(12, 0)
 returns-2 : tie.Need-returns-2
 returns-2 c =
     let start = c .before .before .before .before .before .before in
@@ -33,7 +33,7 @@ returns-2 c =
     (sym (is-closed .ensures b p (q ∷ a) (s .first)) ∙ c .before .before .if1 .left)
     (sym (c .before .is-closed2 .ensures (b ++ (p ∷ [])) q a (s .second)) ∙ c .if2 .taken))
 
--- src/lib.rt:46:9
+-- return Answer::Refused(16, 0)
 returns-3 : tie.Need-returns-3
 returns-3 c =
     let after-is-closed = c .before .before .before .before .before in
@@ -52,7 +52,7 @@ returns-3 c =
     (sym (c .before .bad-orders .ensures table b p (q ∷ a) (b ++ (p ∷ [])) q a (s .first) (s .second))
     ∙ c .if3 .taken))
 
--- src/lib.rt:35:1
+-- join_ended(table, x, y, out)
 returns-4 : tie.Need-returns-4
 returns-4 c =
     let after-bad-orders = c .before .before .before .before .before in
@@ -79,15 +79,15 @@ pub join-pair-spec : {M : Type 1} → statement M
 join-pair-spec =
     tie.close
     (tie.spec
-    -- by search: is-closed-requires 39:8
+    -- by search: is-closed-requires
     (λ c κs. search needs)
     returns
-    -- by search: is-closed-requires-2 42:8
+    -- by search: is-closed-requires-2
     (λ c κs. search needs)
     returns-2
-    -- by search: bad-orders-requires 45:8
+    -- by search: bad-orders-requires
     (λ c κs. search needs)
     returns-3
-    -- by search: join-ended-requires 48:5, same-length 35:1
+    -- by search: join-ended-requires, same-length
     (λ c κs. search needs) (λ c. search needs)
     returns-4)

@@ -10,19 +10,19 @@ use borrow.Author.Needs.{needs}
 use Rattle.join_orders.proofs.falls_above.Statement.{statement}
 use Rattle.join_orders.proofs.falls_above.Tie as tie
 
--- src/lib.rt:49:9
+-- return x.order
 returns : tie.Need-returns
 returns c =
     let args = c .before .before .before .before .args in
     both-fall (args .t .now) (args .x) (args .y) (c .if1 .taken)
 
--- src/lib.rt:52:23
+-- n as u16
 cast-highest-unused : tie.Need-cast-highest-unused
 cast-highest-unused c =
     let start = c .before .before .before .before .before in
     omega (arith, few-parts (start .args .t .now) (start .pre), c .count-parts .ensures)
 
--- src/lib.rt:44:1
+-- highest_unused(t, n as u16)
 returns-2 : tie.Need-returns-2
 returns-2 c =
     let args = c .before .before .before .before .before .before .args in
@@ -36,9 +36,9 @@ falls-above-spec =
     tie.close
     (tie.spec
     returns
-    -- by search: count-parts-requires 51:9
+    -- by search: count-parts-requires
     (λ c κs. search needs)
     cast-highest-unused
-    -- by search: highest-unused-requires 52:5
+    -- by search: highest-unused-requires
     (λ c κs. search needs)
     returns-2)

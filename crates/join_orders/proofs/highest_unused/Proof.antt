@@ -14,7 +14,7 @@ Inv-loop t n k₀ k = join.highest-unused n (orders (unit t .parts)) ≡ join.hi
 abbrev μ-loop : tie.MeasureT-loop
 μ-loop t n k₀ k = k
 
--- src/lib.rt:36:13
+-- return k
 returns : tie.Need-returns Inv-loop μ-loop
 returns c =
     let t = c .before .before .before .before .before .args .t .now in
@@ -23,7 +23,7 @@ returns c =
     ∙ unused-here (orders (unit t .parts)) (loop .k) (c .before .before .loop-test .taken)
     (sym (c .before .is-order .ensures) ∙ not-true _ (c .if1 .taken)))
 
--- src/lib.rt:34:5
+-- the loop's step
 loop-again : tie.Need-loop-again Inv-loop μ-loop
 loop-again c =
     let t = c .before .before .before .before .before .args .t .now in
@@ -32,7 +32,7 @@ loop-again c =
     ∙ unused-below (orders (unit t .parts)) (loop .k) (c .before .before .loop-test .taken)
     (sym (c .before .is-order .ensures) ∙ not-false _ (c .if1 .left))
 
--- src/lib.rt:29:1
+-- 0
 returns-2 : tie.Need-returns-2 Inv-loop μ-loop
 returns-2 c =
     let t = c .before .before .before .args .t .now in
@@ -45,10 +45,10 @@ highest-unused-spec =
     (tie.spec
     Inv-loop
     μ-loop
-    -- by one step: loop-holds 34:5, is-order-requires 35:13
+    -- by one step: loop-holds, is-order-requires
     (λ c. refl) (λ c κs. search needs)
     returns
-    -- by search: sub-k 38:9, loop-less 34:5
+    -- by search: sub-k, loop-less
     (λ c. search needs) (λ c. search needs)
     loop-again
     returns-2)

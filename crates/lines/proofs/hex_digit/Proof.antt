@@ -5,12 +5,12 @@ use borrow.Author.Needs.{needs}
 use Rattle.lines.proofs.hex_digit.Statement.{statement}
 use Rattle.lines.proofs.hex_digit.Tie as tie
 
--- src/lib.rt:74:9
+-- return 48 + d
 returns : tie.Need-returns
 unfolding hex-digit
 returns c = rw (lt-ltb _ 10 (c .if1 .taken)) refl
 
--- src/lib.rt:69:1
+-- 55 + d
 returns-2 : tie.Need-returns-2
 unfolding hex-digit
 returns-2 c = rw (le-ltb _ 10 (c .if1 .left)) refl
@@ -20,9 +20,9 @@ unfolding hex-digit
 hex-digit-spec =
     tie.close
     (tie.spec
-    -- by search: add-result 74:16
+    -- by search: add-result
     (λ c. search needs)
     returns
-    -- by search: add-result-2 76:5
+    -- by search: add-result-2
     (λ c. search needs)
     returns-2)

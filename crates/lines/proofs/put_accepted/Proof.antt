@@ -8,7 +8,7 @@ use borrow.Author.Needs.{needs}
 use Rattle.lines.proofs.put_accepted.Statement.{statement}
 use Rattle.lines.proofs.put_accepted.Tie as tie
 
--- src/lib.rt:37:1
+-- writer::put_byte(out, a + b, b'\n')
 returns : tie.Need-returns
 unfolding line
 returns c =
@@ -37,9 +37,9 @@ unfolding line
 put-accepted-spec =
     tie.close
     (tie.spec
-    -- by search: slice-aggregate-put 41:30, put-requires 41:9, sub-put-decimal 42:25,
-    -- part-put-decimal-start 42:25, part-put-decimal-end 42:25, put-decimal-requires 42:9, add-put-byte 43:27,
-    -- put-byte-requires 43:5, same-length 37:1
+    -- by search: slice-aggregate-put, put-requires, sub-put-decimal,
+    -- part-put-decimal-start, part-put-decimal-end, put-decimal-requires, add-put-byte,
+    -- put-byte-requires, same-length
     (λ c. search needs) (λ c κs. search needs) (λ c. search needs) (λ c. search needs) (λ c. search needs)
     (λ c κs. search needs) (λ c. search needs) (λ c κs. search needs) (λ c. search needs)
     returns)

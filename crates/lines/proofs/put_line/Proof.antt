@@ -2,13 +2,13 @@ use borrow.Author.Needs.{needs}
 use Rattle.lines.proofs.put_line.Statement.{statement}
 use Rattle.lines.proofs.put_line.Tie as tie
 
--- src/lib.rt:59:1
+-- Answer::Accepted(n) => put_accepted(out, n)
 returns : tie.Need-returns
 returns c =
     let a = c .before .before .before .before .before .a in
     rw (a .given .1) (c .before .before .put-accepted .ensures)
 
--- src/lib.rt:59:1
+-- Answer::Refused(n, at) => put_refused(out, n as usize, at)
 returns-2 : tie.Need-returns-2
 returns-2 c =
     let a2 = c .before .before .before .before .before .a2 in
@@ -18,11 +18,11 @@ pub put-line-spec : {M : Type 1} → statement M
 put-line-spec =
     tie.close
     (tie.spec
-    -- by search: enum-known-a 64:26, put-accepted-requires 64:32, enum-known-a-2 65:25, cast-put-refused 65:52,
-    -- put-refused-requires 65:35, same-length 59:1
+    -- by search: enum-known-a, put-accepted-requires, enum-known-a-2, cast-put-refused,
+    -- put-refused-requires, same-length
     (λ c. search needs) (λ c κs. search needs) (λ c. search needs) (λ c. search needs) (λ c κs. search needs)
     (λ c. search needs)
     returns
-    -- by search: same-length-2 59:1
+    -- by search: same-length-2
     (λ c. search needs)
     returns-2)

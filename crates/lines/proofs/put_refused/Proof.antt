@@ -10,7 +10,7 @@ use borrow.Author.Needs.{needs}
 use Rattle.lines.proofs.put_refused.Statement.{statement}
 use Rattle.lines.proofs.put_refused.Tie as tie
 
--- src/lib.rt:47:1
+-- writer::put_byte(out, c + d, b'\n')
 returns : tie.Need-returns
 unfolding line
 returns c =
@@ -50,11 +50,11 @@ unfolding line
 put-refused-spec =
     tie.close
     (tie.spec
-    -- by search: slice-aggregate-put 51:30, put-requires 51:9, sub-put-decimal 52:25,
-    -- part-put-decimal-start 52:25, part-put-decimal-end 52:25, put-decimal-requires 52:9, add-put-byte 53:35,
-    -- put-byte-requires 53:9, sub-put-decimal-2 54:25, part-put-decimal-start-2 54:25,
-    -- part-put-decimal-end-2 54:25, put-decimal-requires-2 54:9, add-put-byte-2 55:27, put-byte-requires-2 55:5,
-    -- same-length 47:1
+    -- by search: slice-aggregate-put, put-requires, sub-put-decimal,
+    -- part-put-decimal-start, part-put-decimal-end, put-decimal-requires, add-put-byte,
+    -- put-byte-requires, sub-put-decimal-2, part-put-decimal-start-2,
+    -- part-put-decimal-end-2, put-decimal-requires-2, add-put-byte-2, put-byte-requires-2,
+    -- same-length
     (λ c. search needs) (λ c κs. search needs) (λ c. search needs) (λ c. search needs) (λ c. search needs)
     (λ c κs. search needs) (λ c. search needs) (λ c κs. search needs) (λ c. search needs) (λ c. search needs)
     (λ c. search needs) (λ c κs. search needs) (λ c. search needs) (λ c κs. search needs) (λ c. search needs)

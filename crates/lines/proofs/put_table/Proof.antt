@@ -10,7 +10,7 @@ use borrow.Author.Needs.{needs}
 use Rattle.lines.proofs.put_table.Statement.{statement}
 use Rattle.lines.proofs.put_table.Tie as tie
 
--- src/lib.rt:96:1
+-- writer::put_byte(out, n, b'\n')
 returns : tie.Need-returns
 unfolding table-line hex
 returns c =
@@ -30,6 +30,6 @@ unfolding table-line hex
 put-table-spec =
     tie.close
     (tie.spec
-    -- by search: put-hex-requires 100:9, put-byte-requires 101:5, same-length 96:1
+    -- by search: put-hex-requires, put-byte-requires, same-length
     (λ c κs. search needs) (λ c κs. search needs) (λ c. search needs)
     returns)

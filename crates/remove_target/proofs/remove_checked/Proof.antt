@@ -5,7 +5,7 @@ use borrow.Author.Needs.{needs}
 use Rattle.remove_target.proofs.remove_checked.Statement.{statement}
 use Rattle.remove_target.proofs.remove_checked.Tie as tie
 
--- src/lib.rt:60:55
+-- part_at::part_at(table, n)
 part-at-requires : tie.Need-part-at-requires
 unfolding remove-target
 part-at-requires c κs =
@@ -14,7 +14,7 @@ part-at-requires c κs =
     let known = c .before .before .before .shared-slice-known .given in
     table-passes table known (accepted-none table _ (rw (c .enum-told .given .1) at (start .pre)))
 
--- src/lib.rt:60:32
+-- remove_found(table, n, part_at::part_at(table, n), out)
 remove-found-requires : tie.Need-remove-found-requires
 unfolding remove-target
 remove-found-requires c κs =
@@ -23,7 +23,7 @@ remove-found-requires c κs =
       c .before .part-at .ensures,
     )
 
--- src/lib.rt:55:1
+-- Answer::Refused(k, at) => Answer::Refused(k, at)
 returns-2 : tie.Need-returns-2
 unfolding remove-target
 returns-2 c =
@@ -38,10 +38,10 @@ unfolding remove-target
 remove-checked-spec =
     tie.close
     (tie.spec
-    -- by search: enum-told 60:55
+    -- by search: enum-told
     (λ c. search needs)
     part-at-requires
     remove-found-requires
-    -- by search: enum-known-a 61:25, same-length 55:1, returns 55:1
+    -- by search: enum-known-a, same-length, returns
     (λ c. search needs) (λ c. search needs) (λ c. search needs)
     returns-2)

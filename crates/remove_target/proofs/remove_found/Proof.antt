@@ -5,13 +5,13 @@ use borrow.Author.Needs.{needs}
 use Rattle.remove_target.proofs.remove_found.Statement.{statement}
 use Rattle.remove_target.proofs.remove_found.Tie as tie
 
--- src/lib.rt:50:33
+-- remove_there(table, n, place, out)
 remove-there-requires : tie.Need-remove-there-requires
 remove-there-requires c κs =
     let pre = c .before .before .before .before .before .before .pre in
     (pre .0, rw (c .before .before .found .given .1) at (pre .1))
 
--- src/lib.rt:45:1
+-- FoundPart::Missing => Answer::Refused(11, 0)
 returns-2 : tie.Need-returns-2
 returns-2 c =
     let start = c .before .before .before .before in
@@ -25,9 +25,9 @@ pub remove-found-spec : {M : Type 1} → statement M
 remove-found-spec =
     tie.close
     (tie.spec
-    -- by search: enum-known-found 50:23
+    -- by search: enum-known-found
     (λ c. search needs)
     remove-there-requires
-    -- by search: enum-told 51:31, same-length 45:1, returns 45:1
+    -- by search: enum-told, same-length, returns
     (λ c. search needs) (λ c. search needs) (λ c. search needs)
     returns-2)

@@ -2,7 +2,7 @@ use borrow.Author.Needs.{needs}
 use Rattle.remove_target.proofs.remove_target.Statement.{statement}
 use Rattle.remove_target.proofs.remove_target.Tie as tie
 
--- src/lib.rt:72:1
+-- remove_checked(table, table_check::check(table), wide(part), out)
 returns : tie.Need-returns
 returns c =
     let wide = c .before .before .before .before .wide in
@@ -12,6 +12,6 @@ pub remove-target-spec : {M : Type 1} → statement M
 remove-target-spec =
     tie.close
     (tie.spec
-    -- by search: check-requires 75:27, wide-requires 75:54, remove-checked-requires 75:5, same-length 72:1
+    -- by search: check-requires, wide-requires, remove-checked-requires, same-length
     (λ c κs. search needs) (λ c κs. search needs) (λ c κs. search needs) (λ c. search needs)
     returns)

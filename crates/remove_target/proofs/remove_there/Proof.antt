@@ -8,7 +8,7 @@ use borrow.Author.Needs.{needs}
 use Rattle.remove_target.proofs.remove_there.Statement.{statement}
 use Rattle.remove_target.proofs.remove_there.Tie as tie
 
--- src/lib.rt:40:9
+-- return Answer::Refused(20, 0)
 returns : tie.Need-returns
 returns c =
     let start = c .before .before .before .before in
@@ -21,7 +21,7 @@ returns c =
     (refused-20 table (args .n) (length out) v b p a f
     (lacks-is table (args .place) (p .target) (s .target) ∙ c .if1 .taken))
 
--- src/lib.rt:42:5
+-- remove_ended(table, place, out)
 remove-ended-requires : tie.Need-remove-ended-requires
 remove-ended-requires c κs =
     let pre = c .before .before .before .before .before .pre in
@@ -29,7 +29,7 @@ remove-ended-requires c κs =
     let (b, p, a, f, s) = st in
     (v, (b, p, a, s))
 
--- src/lib.rt:35:1
+-- remove_ended(table, place, out)
 returns-2 : tie.Need-returns-2
 returns-2 c =
     let start = c .before .before .before .before .before .before .before .before in
@@ -50,6 +50,6 @@ remove-there-spec =
     (tie.spec
     returns
     remove-ended-requires
-    -- by search: same-length 35:1
+    -- by search: same-length
     (λ c. search needs)
     returns-2)

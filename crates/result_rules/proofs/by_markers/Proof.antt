@@ -4,13 +4,13 @@ use borrow.Author.Needs.{needs}
 use Rattle.result_rules.proofs.by_markers.Statement.{statement}
 use Rattle.result_rules.proofs.by_markers.Tie as tie
 
--- src/lib.rt:31:9
+-- return 7
 returns : tie.Need-returns
 returns c =
     let rule-7 = c .before .before .rule-7 in
     seven-broken (rule-7 .result) _ _ (rule-7 .ensures) (sym (c .before .is-at .ensures) ∙ c .if1 .taken)
 
--- src/lib.rt:34:9
+-- return 0
 returns-2 : tie.Need-returns-2
 returns-2 c =
     let also-9 = c .before .before .before .before .before .before .before .before .before .args .also-9 in
@@ -18,7 +18,7 @@ returns-2 c =
     not-asked (rule-7 .result) _ _ (rule-7 .ensures)
     (sym (c .before .before .is-at .ensures) ∙ c .before .if1 .left) also-9 (c .if2 .taken)
 
--- src/lib.rt:37:9
+-- return 9
 returns-3 : tie.Need-returns-3
 returns-3 c =
     let after-is-at = c .before .before .before .before .before in
@@ -31,7 +31,7 @@ returns-3 c =
     nine-broken (rule-7 .result) _ _ (rule-7 .ensures) (sym (is-at .ensures) ∙ if1 .left) also-9 (if2 .left)
     (rule-9 .result) (rule-9 .ensures) (sym (c .before .is-at2 .ensures) ∙ c .if3 .taken)
 
--- src/lib.rt:26:1
+-- 0
 returns-4 : tie.Need-returns-4
 returns-4 c =
     let after-is-at = c .before .before .before .before .before in
@@ -48,11 +48,11 @@ pub by-markers-spec : {M : Type 1} → statement M
 by-markers-spec =
     tie.close
     (tie.spec
-    -- by search: rule-7-requires 30:14, is-at-requires 30:8
+    -- by search: rule-7-requires, is-at-requires
     (λ c κs. search needs) (λ c κs. search needs)
     returns
     returns-2
-    -- by search: rule-9-requires 36:14, is-at-requires-2 36:8
+    -- by search: rule-9-requires, is-at-requires-2
     (λ c κs. search needs) (λ c κs. search needs)
     returns-3
     returns-4)

@@ -3,7 +3,7 @@ use borrow.Author.Needs.{needs}
 use Rattle.result_rules.proofs.rules_6_to_10.Statement.{statement}
 use Rattle.result_rules.proofs.rules_6_to_10.Tie as tie
 
--- src/lib.rt:91:1
+-- number_of(table_check::rules_6_to_10(t))
 returns : tie.Need-returns
 returns c =
     let t = c .before .before .before .args .t .now in
@@ -15,6 +15,6 @@ pub rules-6-to-10-spec : {M : Type 1} → statement M
 rules-6-to-10-spec =
     tie.close
     (tie.spec
-    -- by search: rules-6-to-10-requires 95:15, number-of-requires 95:5
+    -- by search: rules-6-to-10-requires, number-of-requires
     (λ c κs. search needs) (λ c κs. search needs)
     returns)

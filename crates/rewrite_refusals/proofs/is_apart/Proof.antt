@@ -7,14 +7,14 @@ use borrow.Author.Needs.{needs}
 use Rattle.rewrite_refusals.proofs.is_apart.Statement.{statement}
 use Rattle.rewrite_refusals.proofs.is_apart.Tie as tie
 
--- src/lib.rt:13:9
+-- rewrite_marks::put_rewritten(&mut work, t, side, id, b'P')
 put-rewritten-requires : tie.Need-put-rewritten-requires
 put-rewritten-requires c κs =
     let t = c .before .before .args .t .now in
     let (p, a, u) = c .before .before .pre in
     (checked-passes t (a .bytes) (a .valid), small-table t (a .valid))
 
--- src/lib.rt:14:28
+-- &work[..n]
 array-share-prefix-work : tie.Need-array-share-prefix-work
 array-share-prefix-work c =
     let start = c .before .before .before .before in
@@ -24,7 +24,7 @@ array-share-prefix-work c =
     fits-aside (args .t .now) (args .side) (args .id) p a u (put-rewritten .result) _ (put-rewritten .last .0)
     (put-rewritten .ensures .0) (put-rewritten .ensures .1)
 
--- src/lib.rt:14:28
+-- &work[..n]
 slice-aggregate-breaks-7 : tie.Need-slice-aggregate-breaks-7
 slice-aggregate-breaks-7 c =
     let start = c .before .before .before .before .before in
@@ -35,7 +35,7 @@ slice-aggregate-breaks-7 c =
     (fits-aside (args .t .now) (args .side) (args .id) p a u (put-rewritten .result) _ (put-rewritten .last .0)
     (put-rewritten .ensures .0) (put-rewritten .ensures .1)))
 
--- src/lib.rt:14:5
+-- result_rules::breaks_7(&work[..n])
 breaks-7-requires : tie.Need-breaks-7-requires
 breaks-7-requires c κs =
     let start = c .before .before .before .before .before in
@@ -45,7 +45,7 @@ breaks-7-requires c κs =
     aside-passes (args .t .now) (args .side) (args .id) p a u (put-rewritten .result) _ (put-rewritten .last .0)
     (put-rewritten .ensures .0) (put-rewritten .ensures .1)
 
--- src/lib.rt:8:1
+-- result_rules::breaks_7(&work[..n])
 returns : tie.Need-returns
 returns c =
     let start = c .before .before .before .before .before .before in
@@ -60,7 +60,7 @@ pub is-apart-spec : {M : Type 1} → statement M
 is-apart-spec =
     tie.close
     (tie.spec
-    -- by search: slice-aggregate-put-rewritten 13:42
+    -- by search: slice-aggregate-put-rewritten
     (λ c. search needs)
     put-rewritten-requires
     array-share-prefix-work

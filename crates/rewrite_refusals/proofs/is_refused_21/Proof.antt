@@ -2,7 +2,7 @@ use Rattle.rewrite_refusals.proofs.TestLaws.{unfit-refused, fitting, ap
 use Rattle.rewrite_refusals.proofs.is_refused_21.Statement.{statement}
 use Rattle.rewrite_refusals.proofs.is_refused_21.Tie as tie
 
--- src/lib.rt:24:13
+-- return true
 returns : tie.Need-returns
 returns c =
     let start = c .before .before .before in
@@ -10,7 +10,7 @@ returns c =
     unfit-refused (args .t .now) (args .side) (args .id) (args .form) (args .unfit) (start .pre)
     (c .before .if1 .taken) (c .if2 .taken)
 
--- src/lib.rt:26:9
+-- is_apart(t, side, id)
 is-apart-requires : tie.Need-is-apart-requires
 is-apart-requires c κs =
     let start = c .before .before .before in
@@ -18,7 +18,7 @@ is-apart-requires c κs =
     fitting (args .t .now) (args .side) (args .id) (args .form) (args .unfit) (start .pre) (c .before .if1 .taken)
     (c .if2 .left)
 
--- src/lib.rt:26:9
+-- return is_apart(t, side, id)
 returns-2 : tie.Need-returns-2
 returns-2 c =
     let start = c .before .before .before .before in
@@ -26,7 +26,7 @@ returns-2 c =
     apart-refused (args .t .now) (args .side) (args .id) (args .form) (args .unfit) (start .pre)
     (c .before .before .if1 .taken) (c .before .if2 .left) (c .is-apart .result) (c .is-apart .ensures)
 
--- src/lib.rt:18:1
+-- false
 returns-3 : tie.Need-returns-3
 returns-3 c =
     let args = c .before .before .args in

@@ -2,7 +2,7 @@ use borrow.Author.Needs.{needs}
 use Rattle.split.proofs.split.Statement.{statement}
 use Rattle.split.proofs.split.Tie as tie
 
--- src/lib.rt:96:1
+-- split_checked(table, table_check::check(table), wide(part), wide(source_cut), wide(target_cut), new_id, out)
 returns : tie.Need-returns
 returns c =
     let after-wide2 = c .before .before .before .before .before in
@@ -15,8 +15,8 @@ pub split-spec : {M : Type 1} → statement M
 split-spec =
     tie.close
     (tie.spec
-    -- by search: check-requires 108:9, wide-requires 109:9, wide-requires-2 110:9, wide-requires-3 111:9,
-    -- split-checked-requires 106:5, same-length 96:1
+    -- by search: check-requires, wide-requires, wide-requires-2, wide-requires-3,
+    -- split-checked-requires, same-length
     (λ c κs. search needs) (λ c κs. search needs) (λ c κs. search needs) (λ c κs. search needs)
     (λ c κs. search needs) (λ c. search needs)
     returns)

@@ -5,7 +5,7 @@ use borrow.Author.Needs.{needs}
 use Rattle.split.proofs.split_checked.Statement.{statement}
 use Rattle.split.proofs.split_checked.Tie as tie
 
--- src/lib.rt:79:13
+-- part_at::part_at(table, n)
 part-at-requires : tie.Need-part-at-requires
 unfolding split
 part-at-requires c κs =
@@ -14,7 +14,7 @@ part-at-requires c κs =
     let known = c .before .before .before .shared-slice-known .given in
     table-passes table known (accepted-none table _ (rw (c .enum-told .given .1) at (start .pre)))
 
--- src/lib.rt:76:32
+-- split_found(table, n, part_at::part_at(table, n), cut, tcut, id, out)
 split-found-requires : tie.Need-split-found-requires
 unfolding split
 split-found-requires c κs =
@@ -23,7 +23,7 @@ split-found-requires c κs =
       c .before .part-at .ensures,
     )
 
--- src/lib.rt:63:1
+-- Answer::Refused(k, at) => Answer::Refused(k, at)
 returns-2 : tie.Need-returns-2
 unfolding split
 returns-2 c =
@@ -38,10 +38,10 @@ unfolding split
 split-checked-spec =
     tie.close
     (tie.spec
-    -- by search: enum-told 79:13
+    -- by search: enum-told
     (λ c. search needs)
     part-at-requires
     split-found-requires
-    -- by search: enum-known-a 85:25, same-length 63:1, returns 63:1
+    -- by search: enum-known-a, same-length, returns
     (λ c. search needs) (λ c. search needs) (λ c. search needs)
     returns-2)

@@ -5,13 +5,13 @@ use borrow.Author.Needs.{needs}
 use Rattle.split.proofs.split_found.Statement.{statement}
 use Rattle.split.proofs.split_found.Tie as tie
 
--- src/lib.rt:58:33
+-- split_there(table, n, place, cut, tcut, id, out)
 split-there-requires : tie.Need-split-there-requires
 split-there-requires c κs =
     let pre = c .before .before .before .before .before .before .pre in
     (pre .0, rw (c .before .before .found .given .1) at (pre .1))
 
--- src/lib.rt:45:1
+-- FoundPart::Missing => Answer::Refused(11, 0)
 returns-2 : tie.Need-returns-2
 returns-2 c =
     let start = c .before .before .before .before in
@@ -26,9 +26,9 @@ pub split-found-spec : {M : Type 1} → statement M
 split-found-spec =
     tie.close
     (tie.spec
-    -- by search: enum-known-found 58:23
+    -- by search: enum-known-found
     (λ c. search needs)
     split-there-requires
-    -- by search: enum-told 59:31, same-length 45:1, returns 45:1
+    -- by search: enum-told, same-length, returns
     (λ c. search needs) (λ c. search needs) (λ c. search needs)
     returns-2)

@@ -18,7 +18,7 @@ Inv-loop t n q₀ left₀ q left =
 abbrev μ-loop : tie.MeasureT-loop
 μ-loop t n q₀ left₀ q left = left
 
--- src/lib.rt:20:13
+-- return q
 returns : tie.Need-returns Inv-loop μ-loop
 returns c =
     let t = c .before .before .before .before .before .args .t .now in
@@ -27,14 +27,14 @@ returns c =
     ∙ lowest-here (orders (unit t .parts)) (loop .q) (loop .left) (c .before .before .loop-test .taken)
     (sym (c .before .is-order .ensures) ∙ not-true _ (c .if1 .taken)))
 
--- src/lib.rt:22:9
+-- q += 1
 add-q : tie.Need-add-q Inv-loop μ-loop
 add-q c =
     let pre = c .before .before .before .before .before .pre in
     let loop = c .before .before .before .loop in
     omega (arith, pre .1, loop .inv .1)
 
--- src/lib.rt:18:5
+-- the loop's step
 loop-again : tie.Need-loop-again Inv-loop μ-loop
 loop-again c =
     let t = c .before .before .before .before .before .args .t .now in
@@ -45,7 +45,7 @@ loop-again c =
       omega (arith, loop .inv .1),
     )
 
--- src/lib.rt:12:1
+-- q
 returns-2 : tie.Need-returns-2 Inv-loop μ-loop
 returns-2 c =
     let t = c .before .before .before .args .t .now in
@@ -58,11 +58,11 @@ lowest-unused-spec =
     (tie.spec
     Inv-loop
     μ-loop
-    -- by one step: loop-holds 18:5, is-order-requires 19:13
+    -- by one step: loop-holds, is-order-requires
     (λ c. (refl, omega arith)) (λ c κs. search needs)
     returns
     add-q
-    -- by one step: sub-left 23:9, loop-less 18:5
+    -- by one step: sub-left, loop-less
     (λ c. search needs) (λ c. omega arith)
     loop-again
     returns-2)

@@ -8,14 +8,14 @@ use borrow.Author.Needs.{needs}
 use Rattle.target_order.proofs.new_order.Statement.{statement}
 use Rattle.target_order.proofs.new_order.Tie as tie
 
--- src/lib.rt:34:9
+-- return place.order
 returns : tie.Need-returns
 returns c =
     let args = c .before .before .args in
     let t = args .t .now in
     λ b p a s. order-kept t (args .place) (unit t .parts) (args .n) (p .target) (s .target) (c .if1 .taken)
 
--- src/lib.rt:37:9
+-- return n
 returns-2 : tie.Need-returns-2
 returns-2 c =
     let args = c .before .before .before .before .args in
@@ -24,20 +24,20 @@ returns-2 c =
     position-unused t (args .place) (unit t .parts) (args .n) (c .before .before .if1 .left) (p .target) (s .target)
     (sym (c .before .is-order .ensures) ∙ not-true _ (c .if2 .taken))
 
--- src/lib.rt:40:22
+-- k as u16
 cast-lowest-unused : tie.Need-cast-lowest-unused
 cast-lowest-unused c =
     let start = c .before .before .before .before .before in
     omega (arith, few-parts (start .args .t .now) (start .pre), c .count-parts .ensures)
 
--- src/lib.rt:40:5
+-- lowest_unused(t, k as u16)
 lowest-unused-requires : tie.Need-lowest-unused-requires
 lowest-unused-requires c κs =
     let start = c .before .before .before .before .before in
     let pre = start .pre in
     (pre, omega (arith, few-parts (start .args .t .now) pre, c .count-parts .ensures))
 
--- src/lib.rt:29:1
+-- lowest_unused(t, k as u16)
 returns-3 : tie.Need-returns-3
 returns-3 c =
     let args = c .before .before .before .before .before .before .args in
@@ -54,10 +54,10 @@ new-order-spec =
     tie.close
     (tie.spec
     returns
-    -- by search: is-order-requires 36:9
+    -- by search: is-order-requires
     (λ c κs. search needs)
     returns-2
-    -- by search: count-parts-requires 39:9
+    -- by search: count-parts-requires
     (λ c κs. search needs)
     cast-lowest-unused
     lowest-unused-requires
