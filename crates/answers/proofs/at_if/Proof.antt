@@ -2,7 +2,7 @@ use borrow.Author.Needs.{needs}
 use Rattle.answers.proofs.at_if.Statement.{statement}
 use Rattle.answers.proofs.at_if.Tie as tie
 
--- src/lib.rt:18:1
+-- if bad { Place::At(at) } else { Place::Nowhere }
 returns : tie.Need-returns
 returns c = simp (c .if1 .taken)
 
@@ -11,5 +11,5 @@ at-if-spec =
     tie.close
     (tie.spec
     returns
-    -- by search: returns-2 18:1
+    -- by search: returns-2
     (λ c. search needs))

@@ -18,11 +18,9 @@ lower-second true true at a e = absurd (true≢false e)
 lower-second true false at a e = refl
 lower-second false c at a e = refl
 
--- src/lib.rt:25:1
 returns : tie.Need-returns
 returns c = rw (c .before .enum-told .given .1) (c .at-if .ensures)
 
--- src/lib.rt:25:1
 returns-2 : tie.Need-returns-2
 returns-2 c =
     let args = c .before .before .before .before .args in
@@ -31,7 +29,7 @@ returns-2 c =
     rw (best .given .1)
     (lower-first (args .bad) (ltb at₀ (best .given .0 .0)) at₀ (best .given .0 .0) (c .if1 .taken))
 
--- src/lib.rt:25:1
+-- the end
 returns-3 : tie.Need-returns-3
 returns-3 c =
     let args = c .before .before .before .before .args in
@@ -44,7 +42,7 @@ pub lower-if-spec : {M : Type 1} → statement M
 lower-if-spec =
     tie.close
     (tie.spec
-    -- by search: enum-told 29:33, at-if-requires 29:27, enum-known-best 30:19
+    -- by search: enum-told, at-if-requires, enum-known-best
     (λ c. search needs) (λ c κs. search needs) (λ c. search needs)
     returns
     returns-2

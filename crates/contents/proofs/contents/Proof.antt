@@ -13,21 +13,21 @@ Inv-loop t targets out₀ at₀ inside₀ m₀ out at inside m = Walk t targets 
 abbrev μ-loop : tie.MeasureT-loop
 μ-loop t targets out₀ at₀ inside₀ m₀ out at inside m = length t - at
 
--- src/lib.rt:34:5
+-- the loop's start
 loop-holds : tie.Need-loop-holds Inv-loop μ-loop
 loop-holds c =
     let args = c .before .before .args in
     let pre = c .before .before .pre in
     walk-start (args .t .now) (args .targets) _ (pre .0) (pre .2)
 
--- src/lib.rt:36:75
+-- at as u16
 cast-put-if : tie.Need-cast-put-if Inv-loop μ-loop
 cast-put-if c =
     let pre = c .before .before .before .before .before .before .before .pre in
     let loop-test = c .before .before .before .loop-test in
     omega (arith, loop-test .taken, pre .1)
 
--- src/lib.rt:36:9
+-- sequences::put_if(is_found(g.head, inside, g.marker), out, m, at as u16)
 put-if-requires : tie.Need-put-if-requires Inv-loop μ-loop
 put-if-requires c κs =
     let pre = c .before .before .before .before .before .before .before .pre in
@@ -44,7 +44,7 @@ put-if-requires c κs =
       omega (arith, inv .sized),
     )
 
--- src/lib.rt:38:9
+-- at += g.width
 add-at : tie.Need-add-at Inv-loop μ-loop
 add-at c =
     let after-is-found = c .before .before .before .before .before .before in
@@ -57,7 +57,7 @@ add-at c =
       walk-fits (loop .inv) (glance-at .result) (loop-test .taken) (glance-at .ensures) (is-found .ensures) .1,
     )
 
--- src/lib.rt:34:5
+-- the loop ends
 loop-less : tie.Need-loop-less Inv-loop μ-loop
 loop-less c =
     let after-is-found = c .before .before .before .before .before .before in
@@ -68,7 +68,7 @@ loop-less c =
     omega
     (arith, walk-fits (loop .inv) (glance-at .result) (loop-test .taken) (glance-at .ensures) (is-found .ensures))
 
--- src/lib.rt:34:5
+-- the loop's step
 loop-again : tie.Need-loop-again Inv-loop μ-loop
 loop-again c =
     let after-is-found = c .before .before .before .before .before .before in
@@ -80,13 +80,13 @@ loop-again c =
     walk-on (loop .inv) (glance-at .result) (loop-test .taken) (glance-at .ensures) (is-found .ensures)
     (c .before .inside-after .ensures) (put-if .ensures)
 
--- src/lib.rt:27:1
+-- m
 same-length : tie.Need-same-length Inv-loop μ-loop
 same-length c =
     let pre = c .before .before .before .before .pre in
     c .before .loop .inv .sized ∙ sym (pre .2)
 
--- src/lib.rt:27:1
+-- m
 returns : tie.Need-returns Inv-loop μ-loop
 returns c =
     let pre = c .before .before .before .before .pre in
@@ -99,11 +99,11 @@ contents-spec =
     Inv-loop
     μ-loop
     loop-holds
-    -- by search: glance-at-requires 35:13, is-found-requires 36:31
+    -- by search: glance-at-requires, is-found-requires
     (λ c κs. search needs) (λ c κs. search needs)
     cast-put-if
     put-if-requires
-    -- by search: inside-after-requires 37:9
+    -- by search: inside-after-requires
     (λ c κs. search needs)
     add-at
     loop-less

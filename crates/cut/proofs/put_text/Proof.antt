@@ -5,7 +5,7 @@ use borrow.Author.Needs.{needs}
 use Rattle.cut.proofs.put_text.Statement.{statement}
 use Rattle.cut.proofs.put_text.Tie as tie
 
--- src/lib.rt:70:1
+-- j + n
 returns : tie.Need-returns
 returns c =
     let after-put-number = c .before .before .before .before .before .before in
@@ -23,8 +23,8 @@ pub put-text-spec : {M : Type 1} → statement M
 put-text-spec =
     tie.close
     (tie.spec
-    -- by search: put-mark-requires 74:9, cast-put-number 75:40, put-number-requires 75:9, sub-put 76:25,
-    -- part-put-start 76:25, part-put-end 76:25, put-requires 76:9, add-result 77:5, same-length 70:1
+    -- by search: put-mark-requires, cast-put-number, put-number-requires, sub-put,
+    -- part-put-start, part-put-end, put-requires, add-result, same-length
     (λ c κs. search needs) (λ c. search needs) (λ c κs. search needs) (λ c. search needs) (λ c. search needs)
     (λ c. search needs) (λ c κs. search needs) (λ c. search needs) (λ c. search needs)
     returns)

@@ -3,11 +3,9 @@ use borrow.Author.Needs.{needs}
 use Rattle.desk_library.proofs.tell.Statement.{statement}
 use Rattle.desk_library.proofs.tell.Tie as tie
 
--- Answer::Accepted(n) =>
 returns : tie.Need-returns
 returns c = rw (c .before .a .given .1) (refl, refl, refl)
 
--- Answer::Refused(n, at) =>
 returns-2 : tie.Need-returns-2
 returns-2 c = rw (c .before .a2 .given .1) (refl, refl, refl)
 

@@ -15,14 +15,14 @@ Inv-loop keys links i key j₀ j = FollowedAfter keys i j
 abbrev μ-loop : tie.MeasureT-loop
 μ-loop keys links i key j₀ j = length keys - j
 
--- src/lib.rt:82:17
+-- keys.len()
 sub-j : tie.Need-sub-j Inv-loop μ-loop
 sub-j c =
     let start = c .before .before .before .before .before in
     let pre = start .pre in
     omega (arith, pre .0 (start .args .i) (pre .3), c .wide .ensures .0)
 
--- src/lib.rt:83:5
+-- the loop's start
 loop-holds : tie.Need-loop-holds Inv-loop μ-loop
 loop-holds c =
     let start = c .before .before .before .before .before in
@@ -31,7 +31,7 @@ loop-holds c =
     after-start (args .keys .now) (args .links .now) (args .i) (pre .3) (c .wide .result) (pre .0)
     (c .wide .ensures .0)
 
--- src/lib.rt:85:13
+-- return j
 returns : tie.Need-returns Inv-loop μ-loop
 returns c =
     let args = c .before .before .before .before .before .before .before .before .before .before .args in
@@ -46,7 +46,7 @@ returns c =
       inv .1,
     )
 
--- src/lib.rt:87:13
+-- keys.len()
 sub-j-2 : tie.Need-sub-j-2 Inv-loop μ-loop
 sub-j-2 c =
     let after-loop-test = c .before .before .before .before .before in
@@ -55,7 +55,7 @@ sub-j-2 c =
     let loop-test = after-loop-test .loop-test in
     omega (arith, pre .0 (loop .j) (loop-test .taken), c .wide2 .ensures .0)
 
--- src/lib.rt:83:5
+-- the loop ends
 loop-less : tie.Need-loop-less Inv-loop μ-loop
 loop-less c =
     let after-loop-test = c .before .before .before .before .before in
@@ -73,7 +73,7 @@ loop-less c =
           (c .wide2 .ensures .0) .0,
     )
 
--- src/lib.rt:83:5
+-- the loop's step
 loop-again : tie.Need-loop-again Inv-loop μ-loop
 loop-again c =
     let after-loop-test = c .before .before .before .before .before in
@@ -87,7 +87,7 @@ loop-again c =
     (loop-test .taken) (loop .inv) (sym (is-other .ensures) ∙ c .before .before .if1 .left) (c .wide2 .ensures .0)
     .1
 
--- src/lib.rt:77:1
+-- j
 returns-2 : tie.Need-returns-2 Inv-loop μ-loop
 returns-2 c =
     let args = c .before .before .before .before .before .before .before .args in
@@ -102,15 +102,15 @@ follow-after-spec =
     (tie.spec
     Inv-loop
     μ-loop
-    -- by search: mul-key 81:15, shared-slice-read-key 81:15, mul-wide 82:42, shared-slice-read-wide 82:42,
-    -- wide-requires 82:30
+    -- by search: mul-key, shared-slice-read-key, mul-wide, shared-slice-read-wide,
+    -- wide-requires
     (λ c. search needs) (λ c. search needs) (λ c. search needs) (λ c. search needs) (λ c κs. search needs)
     sub-j
     loop-holds
-    -- by search: mul-is-other 84:32, shared-slice-read-is-other 84:32, is-other-requires 84:12
+    -- by search: mul-is-other, shared-slice-read-is-other, is-other-requires
     (λ c. search needs) (λ c. search needs) (λ c κs. search needs)
     returns
-    -- by search: mul-wide-2 87:38, shared-slice-read-wide-2 87:38, wide-requires-2 87:26
+    -- by search: mul-wide-2, shared-slice-read-wide-2, wide-requires-2
     (λ c. search needs) (λ c. search needs) (λ c κs. search needs)
     sub-j-2
     loop-less

@@ -14,7 +14,7 @@ Inv-loop keys links i key j₀ j = FollowedBefore keys i j
 abbrev μ-loop : tie.MeasureT-loop
 μ-loop keys links i key j₀ j = j
 
--- src/lib.rt:67:5
+-- the loop's start
 loop-holds : tie.Need-loop-holds Inv-loop μ-loop
 loop-holds c =
     let start = c .before .before .before .before .before in
@@ -23,7 +23,7 @@ loop-holds c =
     before-start (args .keys .now) (args .links .now) (args .i) (pre .3) (c .wide .result) (pre .0)
     (c .wide .ensures .0)
 
--- src/lib.rt:69:13
+-- return j
 returns : tie.Need-returns Inv-loop μ-loop
 returns c =
     let args = c .before .before .before .before .before .before .before .before .before .before .args in
@@ -35,7 +35,7 @@ returns c =
       loop .inv .0,
     )
 
--- src/lib.rt:67:5
+-- the loop ends
 loop-less : tie.Need-loop-less Inv-loop μ-loop
 loop-less c =
     let after-loop-test = c .before .before .before .before .before in
@@ -49,7 +49,7 @@ loop-less c =
     (loop-test .taken) (loop .inv) (sym (is-other .ensures) ∙ c .before .before .if1 .left) (c .wide2 .ensures .0)
     .0
 
--- src/lib.rt:67:5
+-- the loop's step
 loop-again : tie.Need-loop-again Inv-loop μ-loop
 loop-again c =
     let after-loop-test = c .before .before .before .before .before in
@@ -63,7 +63,7 @@ loop-again c =
     (loop-test .taken) (loop .inv) (sym (is-other .ensures) ∙ c .before .before .if1 .left) (c .wide2 .ensures .0)
     .1
 
--- src/lib.rt:61:1
+-- 0
 returns-2 : tie.Need-returns-2 Inv-loop μ-loop
 returns-2 c =
     let args = c .before .before .before .before .before .before .before .args in
@@ -82,14 +82,14 @@ follow-before-spec =
     (tie.spec
     Inv-loop
     μ-loop
-    -- by search: mul-key 65:15, shared-slice-read-key 65:15, mul-wide 66:29, shared-slice-read-wide 66:29,
-    -- wide-requires 66:9
+    -- by search: mul-key, shared-slice-read-key, mul-wide, shared-slice-read-wide,
+    -- wide-requires
     (λ c. search needs) (λ c. search needs) (λ c. search needs) (λ c. search needs) (λ c κs. search needs)
     loop-holds
-    -- by search: sub-is-other 68:37, mul-is-other 68:32, shared-slice-read-is-other 68:32, is-other-requires 68:12
+    -- by search: sub-is-other, mul-is-other, shared-slice-read-is-other, is-other-requires
     (λ c. search needs) (λ c. search needs) (λ c. search needs) (λ c κs. search needs)
     returns
-    -- by search: sub-wide 71:31, mul-wide-2 71:25, shared-slice-read-wide-2 71:25, wide-requires-2 71:9
+    -- by search: sub-wide, mul-wide-2, shared-slice-read-wide-2, wide-requires-2
     (λ c. search needs) (λ c. search needs) (λ c. search needs) (λ c κs. search needs)
     loop-less
     loop-again

@@ -5,7 +5,7 @@ use borrow.Author.Needs.{needs}
 use Rattle.halves.proofs.half_after.Statement.{statement}
 use Rattle.halves.proofs.half_after.Tie as tie
 
--- src/lib.rt:55:9
+-- return keys.len()
 returns : tie.Need-returns
 returns c =
     let start = c .before .before .before .before in
@@ -16,7 +16,7 @@ returns c =
       omega arith,
     )
 
--- src/lib.rt:50:1
+-- scan_after(keys, i)
 returns-2 : tie.Need-returns-2
 returns-2 c = c .scan-after .ensures
 
@@ -24,9 +24,9 @@ pub half-after-spec : {M : Type 1} → statement M
 half-after-spec =
     tie.close
     (tie.spec
-    -- by search: mul-half-of 54:22, shared-slice-read-half-of 54:22, half-of-requires 54:8
+    -- by search: mul-half-of, shared-slice-read-half-of, half-of-requires
     (λ c. search needs) (λ c. search needs) (λ c κs. search needs)
     returns
-    -- by search: scan-after-requires 57:5
+    -- by search: scan-after-requires
     (λ c κs. search needs)
     returns-2)

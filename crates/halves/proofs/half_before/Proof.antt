@@ -5,7 +5,7 @@ use borrow.Author.Needs.{needs}
 use Rattle.halves.proofs.half_before.Statement.{statement}
 use Rattle.halves.proofs.half_before.Tie as tie
 
--- src/lib.rt:44:9
+-- return 0
 returns : tie.Need-returns
 returns c =
     let args = c .before .before .before .before .args in (
@@ -13,7 +13,7 @@ returns c =
       omega arith,
     )
 
--- src/lib.rt:39:1
+-- scan_before(keys, i)
 returns-2 : tie.Need-returns-2
 returns-2 c = c .scan-before .ensures
 
@@ -21,9 +21,9 @@ pub half-before-spec : {M : Type 1} → statement M
 half-before-spec =
     tie.close
     (tie.spec
-    -- by search: mul-half-of 43:22, shared-slice-read-half-of 43:22, half-of-requires 43:8
+    -- by search: mul-half-of, shared-slice-read-half-of, half-of-requires
     (λ c. search needs) (λ c. search needs) (λ c κs. search needs)
     returns
-    -- by search: scan-before-requires 46:5
+    -- by search: scan-before-requires
     (λ c κs. search needs)
     returns-2)

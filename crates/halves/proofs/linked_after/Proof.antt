@@ -5,7 +5,7 @@ use borrow.Author.Needs.{needs}
 use Rattle.halves.proofs.linked_after.Statement.{statement}
 use Rattle.halves.proofs.linked_after.Tie as tie
 
--- src/lib.rt:109:9
+-- return keys.len()
 returns : tie.Need-returns
 returns c =
     let start = c .before .before .before .before .before in
@@ -20,8 +20,8 @@ pub linked-after-spec : {M : Type 1} → statement M
 linked-after-spec =
     tie.close
     (tie.spec
-    -- by search: mul-half-of 108:22, shared-slice-read-half-of 108:22, half-of-requires 108:8
+    -- by search: mul-half-of, shared-slice-read-half-of, half-of-requires
     (λ c. search needs) (λ c. search needs) (λ c κs. search needs)
     returns
-    -- by search: follow-after-requires 111:5, returns-2 104:1
+    -- by search: follow-after-requires, returns-2
     (λ c κs. search needs) (λ c. search needs))

@@ -5,7 +5,7 @@ use borrow.Author.Needs.{needs}
 use Rattle.halves.proofs.linked_before.Statement.{statement}
 use Rattle.halves.proofs.linked_before.Tie as tie
 
--- src/lib.rt:98:9
+-- return 0
 returns : tie.Need-returns
 returns c =
     let args = c .before .before .before .before .before .args in (
@@ -17,8 +17,8 @@ pub linked-before-spec : {M : Type 1} → statement M
 linked-before-spec =
     tie.close
     (tie.spec
-    -- by search: mul-half-of 97:22, shared-slice-read-half-of 97:22, half-of-requires 97:8
+    -- by search: mul-half-of, shared-slice-read-half-of, half-of-requires
     (λ c. search needs) (λ c. search needs) (λ c κs. search needs)
     returns
-    -- by search: follow-before-requires 100:5, returns-2 93:1
+    -- by search: follow-before-requires, returns-2
     (λ c κs. search needs) (λ c. search needs))

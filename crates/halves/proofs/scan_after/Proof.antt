@@ -15,7 +15,7 @@ Inv-loop keys i j₀ j = (i < j) × (j ≤ length keys) × (half-after keys i �
 abbrev μ-loop : tie.MeasureT-loop
 μ-loop keys i j₀ j = length keys - j
 
--- src/lib.rt:29:5
+-- the loop's start
 loop-holds : tie.Need-loop-holds Inv-loop μ-loop
 unfolding half-after
 loop-holds c =
@@ -27,7 +27,7 @@ loop-holds c =
       ap (λ (k : ℕ). next (others keys i) k (length keys - k)) (let z : suc i ≡ i + 1 = omega arith in z),
     )
 
--- src/lib.rt:31:13
+-- return j
 returns : tie.Need-returns Inv-loop μ-loop
 unfolding half-after
 returns c =
@@ -44,7 +44,7 @@ returns c =
       inv .1,
     )
 
--- src/lib.rt:29:5
+-- the loop's step
 loop-again : tie.Need-loop-again Inv-loop μ-loop
 unfolding half-after
 loop-again c =
@@ -60,7 +60,7 @@ loop-again c =
           (sym (c .before .is-other .ensures) ∙ c .if1 .left),
     )
 
--- src/lib.rt:24:1
+-- j
 returns-2 : tie.Need-returns-2 Inv-loop μ-loop
 unfolding half-after
 returns-2 c =
@@ -77,14 +77,14 @@ scan-after-spec =
     (tie.spec
     Inv-loop
     μ-loop
-    -- by search: add-j 28:17
+    -- by search: add-j
     (λ c. search needs)
     loop-holds
-    -- by search: mul-is-other 30:27, shared-slice-read-is-other 30:27, mul-is-other-2 30:36,
-    -- shared-slice-read-is-other-2 30:36, is-other-requires 30:12
+    -- by search: mul-is-other, shared-slice-read-is-other, mul-is-other-2,
+    -- shared-slice-read-is-other-2, is-other-requires
     (λ c. search needs) (λ c. search needs) (λ c. search needs) (λ c. search needs) (λ c κs. search needs)
     returns
-    -- by search: add-j-2 33:9, loop-less 29:5
+    -- by search: add-j-2, loop-less
     (λ c. search needs) (λ c. search needs)
     loop-again
     returns-2)

@@ -14,7 +14,7 @@ Inv-loop keys i j₀ j = (j ≤ i) × (half-before keys i ≡ previous (others k
 abbrev μ-loop : tie.MeasureT-loop
 μ-loop keys i j₀ j = j
 
--- src/lib.rt:16:13
+-- return j
 returns : tie.Need-returns Inv-loop μ-loop
 unfolding half-before
 returns c =
@@ -28,7 +28,7 @@ returns c =
       loop .inv .0,
     )
 
--- src/lib.rt:14:5
+-- the loop's step
 loop-again : tie.Need-loop-again Inv-loop μ-loop
 unfolding half-before
 loop-again c =
@@ -42,7 +42,7 @@ loop-again c =
           (sym (c .before .is-other .ensures) ∙ c .if1 .left),
     )
 
--- src/lib.rt:9:1
+-- 0
 returns-2 : tie.Need-returns-2 Inv-loop μ-loop
 unfolding half-before
 returns-2 c =
@@ -63,12 +63,12 @@ scan-before-spec =
     (tie.spec
     Inv-loop
     μ-loop
-    -- by one step: loop-holds 14:5, mul-is-other 15:27, shared-slice-read-is-other 15:27, sub-is-other 15:41,
-    -- mul-is-other-2 15:36, shared-slice-read-is-other-2 15:36, is-other-requires 15:12
+    -- by one step: loop-holds, mul-is-other, shared-slice-read-is-other, sub-is-other,
+    -- mul-is-other-2, shared-slice-read-is-other-2, is-other-requires
     (λ c. (search needs, refl)) (λ c. search needs) (λ c. search needs) (λ c. search needs) (λ c. search needs)
     (λ c. search needs) (λ c κs. search needs)
     returns
-    -- by search: sub-j 18:9, loop-less 14:5
+    -- by search: sub-j, loop-less
     (λ c. search needs) (λ c. search needs)
     loop-again
     returns-2)

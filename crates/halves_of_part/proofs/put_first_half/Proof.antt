@@ -5,7 +5,7 @@ use borrow.Author.Needs.{needs}
 use Rattle.halves_of_part.proofs.put_first_half.Statement.{statement}
 use Rattle.halves_of_part.proofs.put_first_half.Tie as tie
 
--- src/lib.rt:24:9
+-- writer::put(out, h)
 put-requires : tie.Need-put-requires
 put-requires c κs =
     let start = c .before .before .before .before .before in
@@ -14,7 +14,7 @@ put-requires c κs =
     first-room (first-pieces (args .k) (args .j) p (args .h .now) (args .s .now) (args .t .now) is) (args .out .now)
     room
 
--- src/lib.rt:25:28
+-- &mut out[n..]
 sub-put-first : tie.Need-sub-put-first
 sub-put-first c =
     let start = c .before .before .before .before .before .before .before .before in
@@ -23,7 +23,7 @@ sub-put-first c =
     second-start (first-pieces (args .k) (args .j) p (args .h .now) (args .s .now) (args .t .now) is)
     (args .out .now) room (c .before .before .put .ensures)
 
--- src/lib.rt:25:28
+-- &mut out[n..]
 part-put-first-start : tie.Need-part-put-first-start
 part-put-first-start c =
     let start = c .before .before .before .before .before .before .before .before in
@@ -32,7 +32,7 @@ part-put-first-start c =
     second-start (first-pieces (args .k) (args .j) p (args .h .now) (args .s .now) (args .t .now) is)
     (args .out .now) room (c .before .before .put .ensures)
 
--- src/lib.rt:25:9
+-- cut::put_first(&mut out[n..], s, k)
 put-first-requires : tie.Need-put-first-requires
 put-first-requires c κs =
     let start = c .before .before .before .before .before .before .before .before .before in
@@ -45,7 +45,7 @@ put-first-requires c κs =
           (args .out .now) room (put .ensures),
     )
 
--- src/lib.rt:26:13
+-- n + m
 add-e : tie.Need-add-e
 add-e c =
     let after-put = c .before .before .before .before .before .before in
@@ -59,7 +59,7 @@ add-e c =
           room (put .ensures) (c .before .before .put-first .ensures (p .source) (is .1)),
     )
 
--- src/lib.rt:27:30
+-- &mut out[e..]
 sub-put-target-first : tie.Need-sub-put-target-first
 sub-put-target-first c =
     let after-put = c .before .before .before .before .before .before in
@@ -70,7 +70,7 @@ sub-put-target-first c =
     third-start (first-pieces (args .k) (args .j) p (args .h .now) (args .s .now) (args .t .now) is)
     (args .out .now) room (put .ensures) (c .before .before .put-first .ensures (p .source) (is .1))
 
--- src/lib.rt:27:30
+-- &mut out[e..]
 part-put-target-first-start : tie.Need-part-put-target-first-start
 part-put-target-first-start c =
     let after-put = c .before .before .before .before .before .before in
@@ -81,7 +81,7 @@ part-put-target-first-start c =
     third-start (first-pieces (args .k) (args .j) p (args .h .now) (args .s .now) (args .t .now) is)
     (args .out .now) room (put .ensures) (c .before .before .put-first .ensures (p .source) (is .1))
 
--- src/lib.rt:27:9
+-- put_target_first(&mut out[e..], t, j)
 put-target-first-requires : tie.Need-put-target-first-requires
 put-target-first-requires c κs =
     let after-put = c .before .before .before .before .before .before .before in
@@ -97,7 +97,7 @@ put-target-first-requires c κs =
           (args .out .now) room (put .ensures) (put-first .ensures (p .source) (is .1)),
     )
 
--- src/lib.rt:28:5
+-- e + i
 add-result : tie.Need-add-result
 add-result c =
     let after-put-first = c .before .before .before .before .before .before in
@@ -113,7 +113,7 @@ add-result c =
           ((c .before .before .put-target-first .ensures (p .target) (is .2)) .0),
     )
 
--- src/lib.rt:20:1
+-- e + i
 returns : tie.Need-returns
 returns c =
     let after-put-first = c .before .before .before .before .before .before in
@@ -133,16 +133,16 @@ put-first-half-spec =
     put-requires
     sub-put-first
     part-put-first-start
-    -- by search: part-put-first-end 25:28
+    -- by search: part-put-first-end
     (λ c. search needs)
     put-first-requires
     add-e
     sub-put-target-first
     part-put-target-first-start
-    -- by search: part-put-target-first-end 27:30
+    -- by search: part-put-target-first-end
     (λ c. search needs)
     put-target-first-requires
     add-result
-    -- by search: same-length 20:1
+    -- by search: same-length
     (λ c. search needs)
     returns)

@@ -6,7 +6,7 @@ use borrow.Author.Needs.{needs}
 use Rattle.halves_of_part.proofs.put_halves.Statement.{statement}
 use Rattle.halves_of_part.proofs.put_halves.Tie as tie
 
--- src/lib.rt:77:9
+-- put_first_half(out, h, s, t, k, j)
 put-first-half-requires : tie.Need-put-first-half-requires
 put-first-half-requires c κs =
     let start = c .before .before .before .before .before in
@@ -14,7 +14,7 @@ put-first-half-requires c κs =
     let (p, is, rises, room) = start .pre in
     (p, is, rises, first-room (halves-pieces (args .k) (args .j) p (args .id)) (args .out .now) room)
 
--- src/lib.rt:78:29
+-- &mut out[n..]
 sub-put-second-half : tie.Need-sub-put-second-half
 sub-put-second-half c =
     let start = c .before .before .before .before .before .before .before .before in
@@ -23,7 +23,7 @@ sub-put-second-half c =
     second-start (halves-pieces (args .k) (args .j) p (args .id)) (args .out .now) room
     (c .before .before .put-first-half .ensures p is)
 
--- src/lib.rt:78:29
+-- &mut out[n..]
 part-put-second-half-start : tie.Need-part-put-second-half-start
 part-put-second-half-start c =
     let start = c .before .before .before .before .before .before .before .before in
@@ -32,7 +32,7 @@ part-put-second-half-start c =
     second-start (halves-pieces (args .k) (args .j) p (args .id)) (args .out .now) room
     (c .before .before .put-first-half .ensures p is)
 
--- src/lib.rt:78:9
+-- put_second_half(&mut out[n..], h, s, t, k, j, id)
 put-second-half-requires : tie.Need-put-second-half-requires
 put-second-half-requires c κs =
     let start = c .before .before .before .before .before .before .before .before .before in
@@ -46,7 +46,7 @@ put-second-half-requires c κs =
           (put-first-half .ensures p is),
     )
 
--- src/lib.rt:79:5
+-- n + m
 add-result : tie.Need-add-result
 add-result c =
     let after-put-first-half = c .before .before .before .before .before .before in
@@ -60,7 +60,7 @@ add-result c =
           (c .before .before .put-second-half .ensures p is),
     )
 
--- src/lib.rt:65:1
+-- n + m
 returns : tie.Need-returns
 returns c =
     let after-put-first-half = c .before .before .before .before .before .before in
@@ -77,10 +77,10 @@ put-halves-spec =
     put-first-half-requires
     sub-put-second-half
     part-put-second-half-start
-    -- by search: part-put-second-half-end 78:29
+    -- by search: part-put-second-half-end
     (λ c. search needs)
     put-second-half-requires
     add-result
-    -- by search: same-length 65:1
+    -- by search: same-length
     (λ c. search needs)
     returns)

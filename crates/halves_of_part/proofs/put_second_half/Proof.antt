@@ -5,7 +5,7 @@ use borrow.Author.Needs.{needs}
 use Rattle.halves_of_part.proofs.put_second_half.Statement.{statement}
 use Rattle.halves_of_part.proofs.put_second_half.Tie as tie
 
--- src/lib.rt:57:9
+-- heads::put_with_id(out, h, id)
 put-with-id-requires : tie.Need-put-with-id-requires
 put-with-id-requires c κs =
     let start = c .before .before .before .before .before in
@@ -18,7 +18,7 @@ put-with-id-requires c κs =
     room-with-id k j p id (args .h .now) (args .s .now) (args .t .now) out is
     (first-room (second-pieces k j p id) out room)
 
--- src/lib.rt:58:29
+-- &mut out[n..]
 sub-put-second : tie.Need-sub-put-second
 sub-put-second c =
     let start = c .before .before .before .before .before .before .before .before in
@@ -27,7 +27,7 @@ sub-put-second c =
     second-start (second-pieces (args .k) (args .j) p (args .id)) (args .out .now) room
     (c .before .before .put-with-id .ensures (p .head) (is .0))
 
--- src/lib.rt:58:29
+-- &mut out[n..]
 part-put-second-start : tie.Need-part-put-second-start
 part-put-second-start c =
     let start = c .before .before .before .before .before .before .before .before in
@@ -36,7 +36,7 @@ part-put-second-start c =
     second-start (second-pieces (args .k) (args .j) p (args .id)) (args .out .now) room
     (c .before .before .put-with-id .ensures (p .head) (is .0))
 
--- src/lib.rt:58:9
+-- cut::put_second(&mut out[n..], s, k)
 put-second-requires : tie.Need-put-second-requires
 put-second-requires c κs =
     let start = c .before .before .before .before .before .before .before .before .before in
@@ -49,7 +49,7 @@ put-second-requires c κs =
           (put-with-id .ensures (p .head) (is .0)),
     )
 
--- src/lib.rt:59:13
+-- n + m
 add-e : tie.Need-add-e
 add-e c =
     let after-put-with-id = c .before .before .before .before .before .before in
@@ -63,7 +63,7 @@ add-e c =
           (put-with-id .ensures (p .head) (is .0)) (c .before .before .put-second .ensures (p .source) (is .1)),
     )
 
--- src/lib.rt:60:31
+-- &mut out[e..]
 sub-put-target-second : tie.Need-sub-put-target-second
 sub-put-target-second c =
     let after-put-with-id = c .before .before .before .before .before .before in
@@ -74,7 +74,7 @@ sub-put-target-second c =
     third-start (second-pieces (args .k) (args .j) p (args .id)) (args .out .now) room
     (put-with-id .ensures (p .head) (is .0)) (c .before .before .put-second .ensures (p .source) (is .1))
 
--- src/lib.rt:60:31
+-- &mut out[e..]
 part-put-target-second-start : tie.Need-part-put-target-second-start
 part-put-target-second-start c =
     let after-put-with-id = c .before .before .before .before .before .before in
@@ -85,7 +85,7 @@ part-put-target-second-start c =
     third-start (second-pieces (args .k) (args .j) p (args .id)) (args .out .now) room
     (put-with-id .ensures (p .head) (is .0)) (c .before .before .put-second .ensures (p .source) (is .1))
 
--- src/lib.rt:60:9
+-- put_target_second(&mut out[e..], t, j)
 put-target-second-requires : tie.Need-put-target-second-requires
 put-target-second-requires c κs =
     let after-put-with-id = c .before .before .before .before .before .before .before in
@@ -101,7 +101,7 @@ put-target-second-requires c κs =
           (put-with-id .ensures (p .head) (is .0)) (put-second .ensures (p .source) (is .1)),
     )
 
--- src/lib.rt:61:5
+-- e + i
 add-result : tie.Need-add-result
 add-result c =
     let after-put-second = c .before .before .before .before .before .before in
@@ -117,7 +117,7 @@ add-result c =
           ((c .before .before .put-target-second .ensures (p .target) (is .2)) .0),
     )
 
--- src/lib.rt:45:1
+-- e + i
 returns : tie.Need-returns
 returns c =
     let after-put-second = c .before .before .before .before .before .before in
@@ -137,16 +137,16 @@ put-second-half-spec =
     put-with-id-requires
     sub-put-second
     part-put-second-start
-    -- by search: part-put-second-end 58:29
+    -- by search: part-put-second-end
     (λ c. search needs)
     put-second-requires
     add-e
     sub-put-target-second
     part-put-target-second-start
-    -- by search: part-put-target-second-end 60:31
+    -- by search: part-put-target-second-end
     (λ c. search needs)
     put-target-second-requires
     add-result
-    -- by search: same-length 45:1
+    -- by search: same-length
     (λ c. search needs)
     returns)

@@ -7,13 +7,13 @@ use borrow.Author.Needs.{needs}
 use Rattle.halves_of_part.proofs.put_target_first.Statement.{statement}
 use Rattle.halves_of_part.proofs.put_target_first.Tie as tie
 
--- src/lib.rt:12:9
+-- return 0
 returns : tie.Need-returns
 returns c =
     let args = c .before .before .before .args in
     λ g is. no-first (args .t .now) (args .k) (args .out .now) g (c .if1 .taken) is
 
--- src/lib.rt:14:41
+-- heads::order_of(t)
 order-of-requires : tie.Need-order-of-requires
 order-of-requires c κs =
     let start = c .before .before .before .before in
@@ -21,7 +21,7 @@ order-of-requires c κs =
     let (g, is, rises, room) = start .pre in
     some-target t g (present t g (c .before .if1 .left) is)
 
--- src/lib.rt:14:9
+-- heads::put_target_head(out, heads::order_of(t))
 put-target-head-requires : tie.Need-put-target-head-requires
 put-target-head-requires c κs =
     let start = c .before .before .before .before .before in
@@ -31,7 +31,7 @@ put-target-head-requires c κs =
     let p = present t g (c .before .before .if1 .left) is in
     first-room (target-first t g p (args .k) (c .order-of .result) (c .order-of .ensures)) (args .out .now) room
 
--- src/lib.rt:15:28
+-- &mut out[n..]
 sub-put-first : tie.Need-sub-put-first
 sub-put-first c =
     let after-if1 = c .before .before .before .before .before in
@@ -45,7 +45,7 @@ sub-put-first c =
     second-start (target-first t g p (args .k) (order-of .result) (order-of .ensures)) (args .out .now) room
     (c .before .before .put-target-head .ensures)
 
--- src/lib.rt:15:28
+-- &mut out[n..]
 part-put-first-start : tie.Need-part-put-first-start
 part-put-first-start c =
     let after-if1 = c .before .before .before .before .before in
@@ -59,7 +59,7 @@ part-put-first-start c =
     second-start (target-first t g p (args .k) (order-of .result) (order-of .ensures)) (args .out .now) room
     (c .before .before .put-target-head .ensures)
 
--- src/lib.rt:15:43
+-- &t[marks::TARGET_WIDTH..]
 sub-put-first-2 : tie.Need-sub-put-first-2
 sub-put-first-2 c =
     let after-if1 = c .before .before .before .before .before .before in
@@ -69,7 +69,7 @@ sub-put-first-2 c =
     let p = present (start .args .t .now) g (if1 .left) is in
     p .least
 
--- src/lib.rt:15:43
+-- &t[marks::TARGET_WIDTH..]
 part-put-first-start-2 : tie.Need-part-put-first-start-2
 part-put-first-start-2 c =
     let after-if1 = c .before .before .before .before .before .before in
@@ -79,7 +79,7 @@ part-put-first-start-2 c =
     let p = present (start .args .t .now) g (if1 .left) is in
     omega (arith, p .least)
 
--- src/lib.rt:15:9
+-- cut::put_first(&mut out[n..], &t[marks::TARGET_WIDTH..], k)
 put-first-requires : tie.Need-put-first-requires
 put-first-requires c κs =
     let after-order-of = c .before .before .before .before .before in
@@ -97,7 +97,7 @@ put-first-requires c κs =
           (put-target-head .ensures),
     )
 
--- src/lib.rt:16:5
+-- n + m
 add-result : tie.Need-add-result
 add-result c =
     let after-put-target-head = c .before .before .before .before .before .before .before in
@@ -115,7 +115,7 @@ add-result c =
           (put-target-head .ensures) (c .before .before .put-first .ensures (p .items) (p .holds)),
     )
 
--- src/lib.rt:7:1
+-- n + m
 returns-2 : tie.Need-returns-2
 returns-2 c =
     let after-put-target-head = c .before .before .before .before .before .before .before in
@@ -138,14 +138,14 @@ put-target-first-spec =
     put-target-head-requires
     sub-put-first
     part-put-first-start
-    -- by search: part-put-first-end 15:28
+    -- by search: part-put-first-end
     (λ c. search needs)
     sub-put-first-2
     part-put-first-start-2
-    -- by search: part-put-first-end-2 15:43
+    -- by search: part-put-first-end-2
     (λ c. search needs)
     put-first-requires
     add-result
-    -- by search: same-length 7:1
+    -- by search: same-length
     (λ c. search needs)
     returns-2)

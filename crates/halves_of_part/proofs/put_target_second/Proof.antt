@@ -7,13 +7,13 @@ use borrow.Author.Needs.{needs}
 use Rattle.halves_of_part.proofs.put_target_second.Statement.{statement}
 use Rattle.halves_of_part.proofs.put_target_second.Tie as tie
 
--- src/lib.rt:37:9
+-- return 0
 returns : tie.Need-returns
 returns c =
     let args = c .before .before .before .args in
     λ g is. no-second (args .t .now) (args .k) (args .out .now) g (c .if1 .taken) is
 
--- src/lib.rt:39:41
+-- heads::order_of(t)
 order-of-requires : tie.Need-order-of-requires
 order-of-requires c κs =
     let start = c .before .before .before .before in
@@ -21,7 +21,7 @@ order-of-requires c κs =
     let (g, is, rises, room) = start .pre in
     some-target t g (present t g (c .before .if1 .left) is)
 
--- src/lib.rt:39:41
+-- heads::order_of(t)
 add-put-target-head : tie.Need-add-put-target-head
 add-put-target-head c =
     let start = c .before .before .before .before .before in
@@ -31,7 +31,7 @@ add-put-target-head c =
     let p = present t g (c .before .before .if1 .left) is in
     omega (arith, order-rises t g p (args .k) (c .order-of .result) (c .order-of .ensures) rises)
 
--- src/lib.rt:39:9
+-- heads::put_target_head(out, heads::order_of(t) + 1)
 put-target-head-requires : tie.Need-put-target-head-requires
 put-target-head-requires c κs =
     let start = c .before .before .before .before .before in
@@ -41,7 +41,7 @@ put-target-head-requires c κs =
     let p = present t g (c .before .before .if1 .left) is in
     first-room (target-second t g p (args .k) (c .order-of .result) (c .order-of .ensures)) (args .out .now) room
 
--- src/lib.rt:40:29
+-- &mut out[n..]
 sub-put-second : tie.Need-sub-put-second
 sub-put-second c =
     let after-if1 = c .before .before .before .before .before in
@@ -55,7 +55,7 @@ sub-put-second c =
     second-start (target-second t g p (args .k) (order-of .result) (order-of .ensures)) (args .out .now) room
     (c .before .before .put-target-head .ensures)
 
--- src/lib.rt:40:29
+-- &mut out[n..]
 part-put-second-start : tie.Need-part-put-second-start
 part-put-second-start c =
     let after-if1 = c .before .before .before .before .before in
@@ -69,7 +69,7 @@ part-put-second-start c =
     second-start (target-second t g p (args .k) (order-of .result) (order-of .ensures)) (args .out .now) room
     (c .before .before .put-target-head .ensures)
 
--- src/lib.rt:40:44
+-- &t[marks::TARGET_WIDTH..]
 sub-put-second-2 : tie.Need-sub-put-second-2
 sub-put-second-2 c =
     let after-if1 = c .before .before .before .before .before .before in
@@ -79,7 +79,7 @@ sub-put-second-2 c =
     let p = present (start .args .t .now) g (if1 .left) is in
     p .least
 
--- src/lib.rt:40:44
+-- &t[marks::TARGET_WIDTH..]
 part-put-second-start-2 : tie.Need-part-put-second-start-2
 part-put-second-start-2 c =
     let after-if1 = c .before .before .before .before .before .before in
@@ -89,7 +89,7 @@ part-put-second-start-2 c =
     let p = present (start .args .t .now) g (if1 .left) is in
     omega (arith, p .least)
 
--- src/lib.rt:40:9
+-- cut::put_second(&mut out[n..], &t[marks::TARGET_WIDTH..], k)
 put-second-requires : tie.Need-put-second-requires
 put-second-requires c κs =
     let after-order-of = c .before .before .before .before .before in
@@ -107,7 +107,7 @@ put-second-requires c κs =
           (put-target-head .ensures),
     )
 
--- src/lib.rt:41:5
+-- n + m
 add-result : tie.Need-add-result
 add-result c =
     let after-put-target-head = c .before .before .before .before .before .before .before in
@@ -125,7 +125,7 @@ add-result c =
           (put-target-head .ensures) (c .before .before .put-second .ensures (p .items) (p .holds)),
     )
 
--- src/lib.rt:32:1
+-- n + m
 returns-2 : tie.Need-returns-2
 returns-2 c =
     let after-put-target-head = c .before .before .before .before .before .before .before in
@@ -149,14 +149,14 @@ put-target-second-spec =
     put-target-head-requires
     sub-put-second
     part-put-second-start
-    -- by search: part-put-second-end 40:29
+    -- by search: part-put-second-end
     (λ c. search needs)
     sub-put-second-2
     part-put-second-start-2
-    -- by search: part-put-second-end-2 40:44
+    -- by search: part-put-second-end-2
     (λ c. search needs)
     put-second-requires
     add-result
-    -- by search: same-length 32:1
+    -- by search: same-length
     (λ c. search needs)
     returns-2)

@@ -6,13 +6,11 @@ use borrow.Author.Needs.{needs}
 use Rattle.heads.proofs.is_segment.Statement.{statement}
 use Rattle.heads.proofs.is_segment.Tie as tie
 
--- src/lib.rt:42:5
 marked-by-requires : tie.Need-marked-by-requires
 marked-by-requires c κs =
     let pre = c .before .before .pre in
     omega (arith, ap length (pre .1), head-long (pre .0))
 
--- src/lib.rt:38:1
 returns : tie.Need-returns
 returns c =
     let head = c .before .before .before .args .head .now in

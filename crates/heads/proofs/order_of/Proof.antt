@@ -4,11 +4,11 @@ use borrow.Author.Needs.{needs}
 use Rattle.heads.proofs.order_of.Statement.{statement}
 use Rattle.heads.proofs.order_of.Tie as tie
 
--- src/lib.rt:104:5
+-- marks::number_at(t, TARGET_ORDER)
 number-at-requires : tie.Need-number-at-requires
 number-at-requires c κs = target-least (c .before .args .t .now) (c .before .pre)
 
--- src/lib.rt:100:1
+-- marks::number_at(t, TARGET_ORDER)
 returns : tie.Need-returns
 returns c = λ q s e. (c .number-at) .ensures ∙ order-read (c .before .before .args .t .now) q s e
 

@@ -5,20 +5,20 @@ use borrow.Author.Needs.{needs}
 use Rattle.heads.proofs.put_segment.Statement.{statement}
 use Rattle.heads.proofs.put_segment.Tie as tie
 
--- src/lib.rt:64:9
+-- writer::put_mark(out, 0, b"SG")
 put-mark-requires : tie.Need-put-mark-requires
 put-mark-requires c κs =
     let f = c .before .before .before .args .f in
     omega (arith, segment-long (segment-meaning f))
 
--- src/lib.rt:65:9
+-- writer::put_number(out, m, f.id)
 put-number-requires : tie.Need-put-number-requires
 put-number-requires c κs =
     let f = c .before .before .before .before .before .before .before .args .f in
     let put-mark = c .before .before .before .put-mark in
     omega (arith, put-mark .ensures .0, segment-long (segment-meaning f))
 
--- src/lib.rt:66:9
+-- writer::put_byte(out, n, f.can_resegment)
 put-byte-requires : tie.Need-put-byte-requires
 put-byte-requires c κs =
     let after-put-mark = c .before .before .before .before .before .before .before in
@@ -27,7 +27,7 @@ put-byte-requires c κs =
     let put-number = c .before .before .before .put-number in
     omega (arith, put-mark .ensures .0, put-number .ensures .0, segment-long (segment-meaning f))
 
--- src/lib.rt:67:5
+-- writer::put_byte(out, k, f.state)
 put-byte-requires-2 : tie.Need-put-byte-requires-2
 put-byte-requires-2 c κs =
     let after-put-number = c .before .before .before .before .before .before .before in
@@ -37,7 +37,7 @@ put-byte-requires-2 c κs =
     let put-byte = c .before .before .before .put-byte in
     omega (arith, put-mark .ensures .0, put-number .ensures .0, put-byte .ensures .0, segment-long (segment-meaning f))
 
--- src/lib.rt:60:1
+-- writer::put_byte(out, k, f.state)
 returns : tie.Need-returns
 returns c =
     let after-put-byte = c .before .before .before .before .before .before in
@@ -70,6 +70,6 @@ put-segment-spec =
     put-number-requires
     put-byte-requires
     put-byte-requires-2
-    -- by search: same-length 60:1
+    -- by search: same-length
     (λ c. search needs)
     returns)

@@ -6,14 +6,14 @@ use borrow.Author.Needs.{needs}
 use Rattle.heads.proofs.put_target.Statement.{statement}
 use Rattle.heads.proofs.put_target.Tie as tie
 
--- src/lib.rt:121:9
+-- put_target_head(out, order)
 put-target-head-requires : tie.Need-put-target-head-requires
 put-target-head-requires c κs =
     let start = c .before .before .before in
     let args = start .args in
     first-room (target-pieces (args .order) (args .content .now)) (args .out .now) (start .pre)
 
--- src/lib.rt:122:25
+-- &mut out[n..]
 sub-put : tie.Need-sub-put
 sub-put c =
     let start = c .before .before .before .before .before .before in
@@ -21,7 +21,7 @@ sub-put c =
     second-start (target-pieces (args .order) (args .content .now)) (args .out .now) (start .pre)
     (c .before .before .put-target-head .ensures)
 
--- src/lib.rt:122:25
+-- &mut out[n..]
 part-put-start : tie.Need-part-put-start
 part-put-start c =
     let start = c .before .before .before .before .before .before in
@@ -29,7 +29,7 @@ part-put-start c =
     second-start (target-pieces (args .order) (args .content .now)) (args .out .now) (start .pre)
     (c .before .before .put-target-head .ensures)
 
--- src/lib.rt:122:9
+-- writer::put(&mut out[n..], content)
 put-requires : tie.Need-put-requires
 put-requires c κs =
     let start = c .before .before .before .before .before .before .before in
@@ -38,7 +38,7 @@ put-requires c κs =
     second-room (target-pieces (args .order) (args .content .now)) (args .out .now) (start .pre)
     (put-target-head .ensures)
 
--- src/lib.rt:123:5
+-- n + k
 add-result : tie.Need-add-result
 add-result c =
     let after-put-target-head = c .before .before .before .before .before .before in
@@ -51,7 +51,7 @@ add-result c =
           (put-target-head .ensures) (c .before .before .put .ensures),
     )
 
--- src/lib.rt:117:1
+-- n + k
 returns : tie.Need-returns
 returns c =
     let after-put-target-head = c .before .before .before .before .before .before in
@@ -67,10 +67,10 @@ put-target-spec =
     put-target-head-requires
     sub-put
     part-put-start
-    -- by search: part-put-end 122:25
+    -- by search: part-put-end
     (λ c. search needs)
     put-requires
     add-result
-    -- by search: same-length 117:1
+    -- by search: same-length
     (λ c. search needs)
     returns)

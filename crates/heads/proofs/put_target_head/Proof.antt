@@ -4,20 +4,20 @@ use borrow.Author.Needs.{needs}
 use Rattle.heads.proofs.put_target_head.Statement.{statement}
 use Rattle.heads.proofs.put_target_head.Tie as tie
 
--- src/lib.rt:112:9
+-- writer::put_mark(out, 0, b"TG")
 put-mark-requires : tie.Need-put-mark-requires
 put-mark-requires c κs =
     let order = c .before .before .before .args .order in
     omega (arith, target-long order)
 
--- src/lib.rt:113:5
+-- writer::put_number(out, m, order)
 put-number-requires : tie.Need-put-number-requires
 put-number-requires c κs =
     let order = c .before .before .before .before .before .before .before .args .order in
     let put-mark = c .before .before .before .put-mark in
     omega (arith, put-mark .ensures .0, target-long order)
 
--- src/lib.rt:108:1
+-- writer::put_number(out, m, order)
 returns : tie.Need-returns
 returns c =
     let after-put-mark = c .before .before .before .before .before .before in
@@ -36,6 +36,6 @@ put-target-head-spec =
     (tie.spec
     put-mark-requires
     put-number-requires
-    -- by search: same-length 108:1
+    -- by search: same-length
     (λ c. search needs)
     returns)

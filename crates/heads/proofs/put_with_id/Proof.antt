@@ -6,13 +6,11 @@ use borrow.Author.Needs.{needs}
 use Rattle.heads.proofs.put_with_id.Statement.{statement}
 use Rattle.heads.proofs.put_with_id.Tie as tie
 
--- src/lib.rt:96:9
 put-number-requires : tie.Need-put-number-requires
 put-number-requires c κs =
     let pre = c .before .before .before .before .before .before .before .pre in
     omega (arith, ap length (pre .0 .1), head-long (pre .0 .0))
 
--- src/lib.rt:91:1
 returns : tie.Need-returns
 returns c =
     let after-put = c .before .before .before .before .before .before in
@@ -26,9 +24,9 @@ pub put-with-id-spec : {M : Type 1} → statement M
 put-with-id-spec =
     tie.close
     (tie.spec
-    -- by search: put-requires 95:9
+    -- by search: put-requires
     (λ c κs. search needs)
     put-number-requires
-    -- by search: same-length 91:1
+    -- by search: same-length
     (λ c. search needs)
     returns)

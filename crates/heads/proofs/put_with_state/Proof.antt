@@ -4,7 +4,7 @@ use borrow.Author.Needs.{needs}
 use Rattle.heads.proofs.put_with_state.Statement.{statement}
 use Rattle.heads.proofs.put_with_state.Tie as tie
 
--- src/lib.rt:76:13
+-- segment_of(head)
 segment-of-requires : tie.Need-segment-of-requires
 segment-of-requires c κs =
     let start = c .before .before .before .before in
@@ -12,7 +12,7 @@ segment-of-requires c κs =
     let (h, e) = some in
     some-segment (start .args .head .now) h e (sym (c .before .is-segment .ensures h e) ∙ c .if1 .taken)
 
--- src/lib.rt:77:9
+-- put_segment(out, Segment { id: f.id, can_resegment: f.can_resegment, state: state, })
 put-segment-requires : tie.Need-put-segment-requires
 put-segment-requires c κs =
     let start = c .before .before .before .before .before .before in
@@ -24,7 +24,7 @@ put-segment-requires c κs =
     state-room head (some-segment head h e (sym (is-segment .ensures h e) ∙ c .before .before .if1 .taken)) _
     (args .out .now) room
 
--- src/lib.rt:77:9
+-- return put_segment(
 returns : tie.Need-returns
 returns c =
     let after-if1 = c .before .before .before .before .before in
@@ -38,7 +38,7 @@ returns c =
     (segment-of .result) (segment-of .ensures) (put-segment .ensures) h e
     (sym (is-segment .ensures h e) ∙ if1 .taken)
 
--- src/lib.rt:71:1
+-- writer::put(out, head)
 returns-2 : tie.Need-returns-2
 returns-2 c =
     let after-is-segment = c .before .before .before .before .before in
@@ -54,13 +54,13 @@ pub put-with-state-spec : {M : Type 1} → statement M
 put-with-state-spec =
     tie.close
     (tie.spec
-    -- by search: is-segment-requires 75:8
+    -- by search: is-segment-requires
     (λ c κs. search needs)
     segment-of-requires
     put-segment-requires
-    -- by search: same-length 77:9
+    -- by search: same-length
     (λ c. search needs)
     returns
-    -- by search: put-requires 86:5, same-length-2 71:1
+    -- by search: put-requires, same-length-2
     (λ c κs. search needs) (λ c. search needs)
     returns-2)

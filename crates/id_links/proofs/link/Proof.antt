@@ -5,7 +5,7 @@ use borrow.Author.Needs.{needs}
 use Rattle.id_links.proofs.link.Statement.{statement}
 use Rattle.id_links.proofs.link.Tie as tie
 
--- src/lib.rt:23:1
+-- heads[g] = (n + 1) as u16
 returns : tie.Need-returns
 returns c =
     let args = c .before .before .before .before .args in
@@ -20,9 +20,9 @@ pub link-spec : {M : Type 1} → statement M
 link-spec =
     tie.close
     (tie.spec
-    -- by search: group-of-requires 27:9, mul-links 28:16, slice-read-links 28:16, mul-links-2 28:5,
-    -- slice-write-links 28:5, add-heads 29:17, cast-heads 29:16, mul-heads 29:5, slice-write-heads 29:5,
-    -- same-length 23:1, same-length-2 23:1
+    -- by search: group-of-requires, mul-links, slice-read-links, mul-links-2,
+    -- slice-write-links, add-heads, cast-heads, mul-heads, slice-write-heads,
+    -- same-length, same-length-2
     (λ c κs. search needs) (λ c. search needs) (λ c. search needs) (λ c. search needs) (λ c. search needs)
     (λ c. search needs) (λ c. search needs) (λ c. search needs) (λ c. search needs) (λ c. search needs)
     (λ c. search needs)

@@ -11,13 +11,13 @@ Inv-loop keys links₀ heads₀ n i₀ links heads i = LinkedDownTo keys i links
 abbrev μ-loop : tie.MeasureT-loop
 μ-loop keys links₀ heads₀ n i₀ links heads i = i
 
--- src/lib.rt:52:5
+-- the loop's start
 loop-holds : tie.Need-loop-holds Inv-loop μ-loop
 loop-holds c =
     let args = c .before .before .args in
     down-to-start (args .keys .now) (args .links .now) (c .before .before .pre .1)
 
--- src/lib.rt:52:5
+-- the loop's step
 loop-again : tie.Need-loop-again Inv-loop μ-loop
 loop-again c =
     let start = c .before .before .before .before .before .before in
@@ -25,7 +25,7 @@ loop-again c =
     down-to-next (start .args .keys .now) (loop .links) (loop .heads) (loop .i) (c .group-of .result)
     (c .before .before .loop-test .taken) (start .pre .0) (c .group-of .ensures) (loop .inv)
 
--- src/lib.rt:45:1
+-- the end
 returns : tie.Need-returns Inv-loop μ-loop
 returns c =
     let keys = c .before .before .before .before .args .keys .now in
@@ -41,13 +41,13 @@ link-after-spec =
     Inv-loop
     μ-loop
     loop-holds
-    -- by search: sub-i 53:9, mul-group-of 54:26, shared-slice-read-group-of 54:26, group-of-requires 54:13,
-    -- mul-links 55:20, array-read-links 55:20, mul-links-2 55:9, slice-write-links 55:9, sub-heads 56:21,
-    -- cast-heads 56:20, mul-heads 56:9, array-write-heads 56:9, loop-less 52:5
+    -- by search: sub-i, mul-group-of, shared-slice-read-group-of, group-of-requires,
+    -- mul-links, array-read-links, mul-links-2, slice-write-links, sub-heads,
+    -- cast-heads, mul-heads, array-write-heads, loop-less
     (λ c. search needs) (λ c. search needs) (λ c. search needs) (λ c κs. search needs) (λ c. search needs)
     (λ c. search needs) (λ c. search needs) (λ c. search needs) (λ c. search needs) (λ c. search needs)
     (λ c. search needs) (λ c. search needs) (λ c. search needs)
     loop-again
-    -- by search: same-length 45:1
+    -- by search: same-length
     (λ c. search needs)
     returns)

@@ -11,7 +11,7 @@ Inv-loop keys links₀ heads₀ i₀ links heads i = LinkedUpTo keys i links hea
 abbrev μ-loop : tie.MeasureT-loop
 μ-loop keys links₀ heads₀ i₀ links heads i = length keys - i
 
--- src/lib.rt:38:5
+-- the loop's step
 loop-again : tie.Need-loop-again Inv-loop μ-loop
 loop-again c =
     let start = c .before .before .before .before .before .before .before .before .before .before .before .before
@@ -22,7 +22,7 @@ loop-again c =
     up-to-next (start .args .keys .now) (loop .links) (loop .heads) (link .last .0) (link .last .1 .0) (loop .i)
     (loop-test .taken) (start .pre .0) (loop .inv) (link .ensures .0) (link .ensures .1)
 
--- src/lib.rt:33:1
+-- the end
 returns : tie.Need-returns Inv-loop μ-loop
 returns c =
     let keys = c .before .before .before .before .before .args .keys .now in
@@ -37,11 +37,11 @@ link-before-spec =
     (tie.spec
     Inv-loop
     μ-loop
-    -- by search: loop-holds 38:5, mul-link 39:31, shared-slice-read-link 39:31, link-requires 39:9, add-i 40:9,
-    -- loop-less 38:5
+    -- by search: loop-holds, mul-link, shared-slice-read-link, link-requires, add-i,
+    -- loop-less
     (λ c. search needs) (λ c. search needs) (λ c. search needs) (λ c κs. search needs) (λ c. search needs)
     (λ c. search needs)
     loop-again
-    -- by search: same-length 33:1, same-length-2 33:1
+    -- by search: same-length, same-length-2
     (λ c. search needs) (λ c. search needs)
     returns)

@@ -3,11 +3,11 @@ use borrow.Author.Needs.{needs}
 use Rattle.ids.proofs.clash_if.Statement.{statement}
 use Rattle.ids.proofs.clash_if.Tie as tie
 
--- src/lib.rt:153:9
+-- return false
 returns : tie.Need-returns
 returns c = simp (eq-eqb _ _ (c .if1 .taken))
 
--- src/lib.rt:148:1
+-- clash(keys, links, heads, k)
 returns-2 : tie.Need-returns-2
 returns-2 c = simp (ne-eqb _ _ (c .before .if1 .left), c .clash .ensures)
 
@@ -16,6 +16,6 @@ clash-if-spec =
     tie.close
     (tie.spec
     returns
-    -- by search: clash-requires 155:5
+    -- by search: clash-requires
     (λ c κs. search needs)
     returns-2)

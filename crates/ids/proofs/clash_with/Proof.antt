@@ -2,11 +2,11 @@ use borrow.Author.Tests.{eq-eqb, ne-eqb}
 use Rattle.ids.proofs.clash_with.Statement.{statement}
 use Rattle.ids.proofs.clash_with.Tie as tie
 
--- src/lib.rt:126:9
+-- return false
 returns : tie.Need-returns
 returns c = simp (ne-eqb _ _ (c .if1 .taken))
 
--- src/lib.rt:122:1
+-- !(((m == 2) & (n == 3)) | ((m == 3) & (n == 2)))
 returns-2 : tie.Need-returns-2
 returns-2 c = simp (eq-eqb _ _ (c .if1 .left))
 

@@ -4,17 +4,14 @@ use borrow.Author.Needs.{needs}
 use Rattle.ids.proofs.key_of.Statement.{statement}
 use Rattle.ids.proofs.key_of.Tie as tie
 
--- src/lib.rt:79:1
 returns : tie.Need-returns
 unfolding found-at
 returns c = rw (c .before .before .r .given .1) (λ cs at. c .record-key .ensures cs at)
 
--- src/lib.rt:79:1
 returns-2 : tie.Need-returns-2
 unfolding found-at
 returns-2 c = rw (c .enum-told .given .1) (λ cs at. named-none at)
 
--- src/lib.rt:79:1
 returns-3 : tie.Need-returns-3
 unfolding found-at
 returns-3 c = rw (c .enum-told2 .given .1) (λ cs at. named-none at)
@@ -24,7 +21,7 @@ unfolding found-at
 key-of-spec =
     tie.close
     (tie.spec
-    -- by search: enum-known-r 84:20, record-key-requires 84:29, enum-told 85:22, enum-told-2 86:28
+    -- by search: enum-known-r, record-key-requires, enum-told, enum-told-2
     (λ c. search needs) (λ c κs. search needs) (λ c. search needs) (λ c. search needs)
     returns
     returns-2

@@ -14,7 +14,7 @@ use borrow.Author.Needs.{needs}
 use Rattle.ids.proofs.name_at.Statement.{statement}
 use Rattle.ids.proofs.name_at.Tie as tie
 
--- src/lib.rt:107:9
+-- return key_of(o, walker::known_at(t, at))
 returns : tie.Need-returns
 unfolding item-at
 returns c =
@@ -27,7 +27,7 @@ returns c =
     ∙ ap (found-at of-source (λ q. of-target) head-name (λ q at. []) start-name no-name (owner (args .o)) at₀)
     (known-read t at₀ rs (known-at .result) a l (known-at .ensures) .0)
 
--- src/lib.rt:102:1
+-- name_by(o, keys::key_at(t, at))
 returns-2 : tie.Need-returns-2
 unfolding item-at
 returns-2 c =
@@ -45,9 +45,9 @@ unfolding item-at
 name-at-spec =
     tie.close
     (tie.spec
-    -- by search: known-at-requires 107:26, key-of-requires 107:9
+    -- by search: known-at-requires, key-of-requires
     (λ c κs. search needs) (λ c κs. search needs)
     returns
-    -- by search: key-at-requires 109:16, name-by-requires 109:5
+    -- by search: key-at-requires, name-by-requires
     (λ c κs. search needs) (λ c κs. search needs)
     returns-2)

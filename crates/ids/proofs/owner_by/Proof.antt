@@ -2,15 +2,14 @@ use borrow.Author.Tests.{eq-eqb, ne-eqb}
 use Rattle.ids.proofs.owner_by.Statement.{statement}
 use Rattle.ids.proofs.owner_by.Tie as tie
 
--- src/lib.rt:117:9
+-- return 2
 returns : tie.Need-returns
 returns c = simp (eq-eqb _ _ (c .if1 .taken))
 
--- src/lib.rt:113:1
 returns-2 : tie.Need-returns-2
 returns-2 c = simp (ne-eqb _ _ (c .before .if1 .left), eq-eqb _ _ (c .if2 .taken))
 
--- src/lib.rt:113:1
+-- if head == 1 { 3 } else { o }
 returns-3 : tie.Need-returns-3
 returns-3 c = simp (ne-eqb _ _ (c .before .if1 .left), ne-eqb _ _ (c .if2 .left))
 

@@ -5,7 +5,6 @@ use borrow.Author.Needs.{needs}
 use Rattle.ids.proofs.pair_key.Statement.{statement}
 use Rattle.ids.proofs.pair_key.Tie as tie
 
--- src/lib.rt:34:1
 returns : tie.Need-returns
 unfolding start-name class half id-of
 returns c =
@@ -13,7 +12,6 @@ returns c =
     rw (c .before .enum-told .given .1)
     (λ w at. named-some (start .args .o) _ (c .key .result) at (start .pre .0) (c .key .ensures))
 
--- src/lib.rt:34:1
 returns-2 : tie.Need-returns-2
 unfolding start-name class half id-of
 returns-2 c = rw (c .enum-told2 .given .1) (λ w at. named-none at)
@@ -23,7 +21,7 @@ unfolding start-name class half id-of
 pair-key-spec =
     tie.close
     (tie.spec
-    -- by search: enum-told 39:24, key-requires 39:24, enum-told-2 40:22
+    -- by search: enum-told, key-requires, enum-told-2
     (λ c. search needs) (λ c κs. search needs) (λ c. search needs)
     returns
     returns-2)

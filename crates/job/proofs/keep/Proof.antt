@@ -30,7 +30,6 @@ put-requires c κs =
       length-take-le (a .given .0 .0) (start .args .result .now) (omega (arith, f, pre .2)),
     )
 
--- Answer::Accepted(m) => writer::put(table, &result[..m])
 returns : tie.Need-returns
 returns c =
     let after-a = c .before .before .before .before .before .before in
@@ -42,7 +41,6 @@ returns c =
     rw (a .given .1) (put-keeps (start .args .table .now) (start .args .result .now) (put .last .0) (a .given .0 .0)
     (put .result) (omega (arith, f, pre .2)) (pre .2) (put .ensures .0) (put .ensures .1))
 
--- Answer::Refused(_, _) => n
 returns-2 : tie.Need-returns-2
 returns-2 c =
     let pre = c .before .before .before .before .pre in

@@ -21,7 +21,6 @@ put-accepted-requires c κs =
     let v = accepted-small (take n job) _ (rw (c .before .enum-told .given .1) at (pre .4)) in
     (pre .1, omega (arith, v, length-take-le n job (pre .1)), pre .2, pre .3)
 
--- Answer::Accepted(_) => put_accepted(job, n, out)
 returns : tie.Need-returns
 returns c =
     let start = c .before .before .before .before .before .before .before .before in
@@ -34,7 +33,6 @@ returns c =
       put-accepted .ensures .1 ∙ ap (λ (l : List ℕ). lead l (args .out .now)) (sym e),
     )
 
--- Answer::Refused(k, at) => lines::put_line(out, Answer::Refused(k, at))
 returns-2 : tie.Need-returns-2
 returns-2 c =
     let after-a = c .before .before .before .before .before in

@@ -4,11 +4,11 @@ use borrow.Author.Needs.{needs}
 use Rattle.job_table.proofs.is_end.Statement.{statement}
 use Rattle.job_table.proofs.is_end.Tie as tie
 
--- src/lib.rt:33:9
+-- return false
 returns : tie.Need-returns
 returns c = end-short (c .before .before .args .t .now) (c .if1 .taken)
 
--- src/lib.rt:29:1
+-- marks::marked_by(t, b"UE")
 returns-2 : tie.Need-returns-2
 returns-2 c =
     let t = c .before .before .before .before .args .t .now in
@@ -19,6 +19,6 @@ is-end-spec =
     tie.close
     (tie.spec
     returns
-    -- by search: marked-by-requires 35:5
+    -- by search: marked-by-requires
     (λ c κs. search needs)
     returns-2)

@@ -15,11 +15,11 @@ Inv-loop job at₀ at = (at ≤ length job) × Walk job at
 abbrev μ-loop : tie.MeasureT-loop
 μ-loop job at₀ at = length job - at
 
--- src/lib.rt:43:5
+-- the loop's start
 loop-holds : tie.Need-loop-holds Inv-loop μ-loop
 loop-holds c = (omega arith, walk-start _)
 
--- src/lib.rt:45:20
+-- at + 2
 add-result : tie.Need-add-result Inv-loop μ-loop
 add-result c =
     let job = c .before .before .before .before .before .before .args .job .now in
@@ -29,7 +29,7 @@ add-result c =
     let u : is-end .result ≡ is-UE (drop (loop .at) job) = simp tail-is at (is-end .ensures) in
     omega (arith, walk-ends job (loop .at) (loop .inv .1) (loop-test .taken) (sym u ∙ c .if1 .taken) .1)
 
--- src/lib.rt:45:13
+-- return at + 2
 returns : tie.Need-returns Inv-loop μ-loop
 returns c =
     let job = c .before .before .before .before .before .before .args .job .now in
@@ -39,7 +39,7 @@ returns c =
     let u : is-end .result ≡ is-UE (drop (loop .at) job) = simp tail-is at (is-end .ensures) in
     walk-ends job (loop .at) (loop .inv .1) (loop-test .taken) (sym u ∙ c .if1 .taken)
 
--- src/lib.rt:49:13
+-- return job.len()
 returns-2 : tie.Need-returns-2 Inv-loop μ-loop
 returns-2 c =
     let after-loop = c .before .before .before .before .before .before .before in
@@ -53,7 +53,7 @@ returns-2 c =
     let z : record-size .result ≡ whole-size (drop at-now job) = simp tail-is at (record-size .ensures) in
     (walk-stuck job at-now (loop .inv .1) (sym u ∙ if1 .left) (sym z ∙ c .if2 .taken), omega arith)
 
--- src/lib.rt:51:9
+-- at += n
 add-at : tie.Need-add-at Inv-loop μ-loop
 add-at c =
     let after-loop = c .before .before .before .before .before .before .before in
@@ -63,7 +63,7 @@ add-at c =
     let z : record-size .result ≡ whole-size (drop (loop .at) job) = simp tail-is at (record-size .ensures) in
     omega (arith, size-within job (loop .at) (record-size .result) (loop .inv .0) z)
 
--- src/lib.rt:43:5
+-- the loop ends
 loop-less : tie.Need-loop-less Inv-loop μ-loop
 loop-less c =
     let after-loop = c .before .before .before .before .before .before .before in
@@ -73,7 +73,7 @@ loop-less c =
     let z : record-size .result ≡ whole-size (drop (loop .at) job) = simp tail-is at (record-size .ensures) in
     omega (arith, size-within job (loop .at) (record-size .result) (loop .inv .0) z, c .if2 .left)
 
--- src/lib.rt:43:5
+-- the loop's step
 loop-again : tie.Need-loop-again Inv-loop μ-loop
 loop-again c =
     let after-loop-test = c .before .before .before .before .before .before in
@@ -91,7 +91,7 @@ loop-again c =
           (omega (arith, c .if2 .left)),
     )
 
--- src/lib.rt:39:1
+-- job.len()
 returns-3 : tie.Need-returns-3 Inv-loop μ-loop
 returns-3 c =
     let job = c .before .before .before .args .job .now in
@@ -105,12 +105,12 @@ table-length-spec =
     Inv-loop
     μ-loop
     loop-holds
-    -- by search: sub-is-end 44:19, part-is-end-start 44:19, part-is-end-end 44:19, is-end-requires 44:12
+    -- by search: sub-is-end, part-is-end-start, part-is-end-end, is-end-requires
     (λ c. search needs) (λ c. search needs) (λ c. search needs) (λ c κs. search needs)
     add-result
     returns
-    -- by search: sub-record-size 47:29, part-record-size-start 47:29, part-record-size-end 47:29,
-    -- record-size-requires 47:13
+    -- by search: sub-record-size, part-record-size-start, part-record-size-end,
+    -- record-size-requires
     (λ c. search needs) (λ c. search needs) (λ c. search needs) (λ c κs. search needs)
     returns-2
     add-at

@@ -2,11 +2,11 @@ use Rattle.job_table.proofs.SizeLaws.{whole-not, whole-yes}
 use Rattle.job_table.proofs.whole.Statement.{statement}
 use Rattle.job_table.proofs.whole.Tie as tie
 
--- src/lib.rt:13:9
+-- return 0
 returns : tie.Need-returns
 returns c = whole-not (c .before .args .n) (c .before .args .t .now) (c .if1 .taken)
 
--- src/lib.rt:9:1
+-- n
 returns-2 : tie.Need-returns-2
 returns-2 c = whole-yes (c .before .args .n) (c .before .args .t .now) (c .if1 .left)
 

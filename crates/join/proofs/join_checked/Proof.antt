@@ -25,7 +25,6 @@ join-found-requires c κs =
       pre .1,
     )
 
--- Answer::Refused(k, at) => Answer::Refused(k, at)
 returns-2 : tie.Need-returns-2
 unfolding join
 returns-2 c =

@@ -11,7 +11,6 @@ join-next-requires c κs =
     let pre = c .before .before .before .before .before .before .pre in
     ((pre .0, rw (c .before .before .found .given .1) at (pre .1)), pre .2)
 
--- FoundPart::Missing => Answer::Refused(11, 0)
 returns-2 : tie.Need-returns-2
 returns-2 c =
     let start = c .before .before .before .before in

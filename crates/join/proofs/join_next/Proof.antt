@@ -28,7 +28,6 @@ join-pair-requires c κs =
     let k = next-part (args .table .now) (args .n) (args .x) (y .given .0 .0) b p a f s c2 q d g u in
     (v, k .before, k .first, k .second, k .after, k .beside)
 
--- FoundPart::At(y) => join_pair(table, x, y, out)
 returns : tie.Need-returns
 returns c =
     let after-y = c .before .before .before .before .before in
@@ -44,7 +43,6 @@ returns c =
     let k = next-part (args .table .now) n (args .x) (y .given .0 .0) b p a f s c2 q d g u in
     c .before .before .join-pair .ensures n (k .before) (k .first) (k .second) (k .after) (k .is) (k .beside)
 
--- FoundPart::Missing => Answer::Refused(11, 0)
 returns-2 : tie.Need-returns-2
 returns-2 c =
     let start = c .before .before .before .before .before in

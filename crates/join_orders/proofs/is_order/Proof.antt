@@ -17,14 +17,14 @@ Inv-loop t q at₀ at = Searched t (Sets q) (among q (orders (unit t .parts))) a
 abbrev μ-loop : tie.MeasureT-loop
 μ-loop t q at₀ at = length t - at
 
--- src/lib.rt:18:5, while at < t.len()
+-- the loop's start: while at < t.len()
 loop-holds : tie.Need-loop-holds Inv-loop μ-loop
 loop-holds c =
     let args = c .before .args in
     let t = args .t .now in
     searched-start t (Sets (args .q)) (among (args .q) (orders (unit t .parts))) (c .before .pre) (unit-sets (args .q) (unit t))
 
--- src/lib.rt:21:13, return true;
+-- return true: return true;
 returns : tie.Need-returns Inv-loop μ-loop
 returns c =
     let call = c .before .before .before in
@@ -40,7 +40,7 @@ returns c =
     let same = sets-walked q t (loop .at) (loop .inv .rs) g v in
     sym (searched-found t (Sets q) told (loop .at) g seen (loop .inv) test _ same (c .if1 .taken))
 
--- src/lib.rt:23:9, at += g.width;
+-- at += g.width: at += g.width;
 add-at : tie.Need-add-at Inv-loop μ-loop
 add-at c =
     let call = c .before .before .before .before in
@@ -55,7 +55,7 @@ add-at c =
     let v = searched-here t (Sets q) told (loop .at) g seen (loop .inv) test in
     omega (arith, v .fits)
 
--- src/lib.rt:18:5, while at < t.len()
+-- the loop ends: while at < t.len()
 loop-less : tie.Need-loop-less Inv-loop μ-loop
 loop-less c =
     let call = c .before .before .before .before in
@@ -70,7 +70,7 @@ loop-less c =
     let v = searched-here t (Sets q) told (loop .at) g seen (loop .inv) test in
     omega (arith, v .fits, v .moves)
 
--- src/lib.rt:18:5, while at < t.len()
+-- the loop's step: while at < t.len()
 loop-again : tie.Need-loop-again Inv-loop μ-loop
 loop-again c =
     let call = c .before .before .before .before in
@@ -86,7 +86,7 @@ loop-again c =
     let same = sets-walked q t (loop .at) (loop .inv .rs) g v in
     searched-on t (Sets q) told (loop .at) g seen (loop .inv) test _ same (c .before .if1 .left)
 
--- src/lib.rt:25:5, false
+-- false
 returns-2 : tie.Need-returns-2 Inv-loop μ-loop
 returns-2 c =
     let args = c .before .before .before .args in

@@ -5,11 +5,11 @@ use borrow.Author.Needs.{needs}
 use Rattle.join_result.proofs.lowered.Statement.{statement}
 use Rattle.join_result.proofs.lowered.Tie as tie
 
--- src/lib.rt:11:9
+-- return n
 returns : tie.Need-returns
 returns c = moved-below false (c .before .args .q) (c .before .args .n) (c .if1 .taken)
 
--- src/lib.rt:7:1
+-- n - 1
 returns-2 : tie.Need-returns-2
 returns-2 c = moved-down false (c .before .args .q) (c .before .args .n) refl (c .if1 .left)
 
@@ -18,6 +18,6 @@ lowered-spec =
     tie.close
     (tie.spec
     returns
-    -- by search: sub-result 13:5
+    -- by search: sub-result
     (λ c. search needs)
     returns-2)

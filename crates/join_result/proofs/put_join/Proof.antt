@@ -12,12 +12,12 @@ use borrow.Author.Needs.{needs}
 use Rattle.join_result.proofs.put_join.Statement.{statement}
 use Rattle.join_result.proofs.put_join.Tie as tie
 
--- src/lib.rt:50:9
+-- join_orders::falls_above(t, x, y)
 falls-above-requires : tie.Need-falls-above-requires
 falls-above-requires c κs =
     table-passes (c .before .before .args .t .now) (c .shared-slice-known .given) (c .before .before .pre .0)
 
--- src/lib.rt:53:30
+-- &t[..marks::UNIT_WIDTH]
 slice-aggregate-put : tie.Need-slice-aggregate-put
 slice-aggregate-put c =
     let after-shared-slice-known = c .before .before .before .before .before in
@@ -27,7 +27,7 @@ slice-aggregate-put c =
     let (v, b, p, q, a, s, room) = start .pre in
     opening-long t (unit t) (table-of t (bytes-known t known) v)
 
--- src/lib.rt:53:9
+-- writer::put(out, &t[..marks::UNIT_WIDTH])
 put-requires : tie.Need-put-requires
 put-requires c κs =
     let after-shared-slice-known = c .before .before .before .before .before in
@@ -43,7 +43,7 @@ put-requires c κs =
     (lowered .result) (lowered .ensures ∙ ap (lower-above (falls-above .result)) (order-of-two .ensures))
     (table-of t (bytes-known t known) v)) (args .out .now) room
 
--- src/lib.rt:54:30
+-- &mut out[i..]
 sub-put-joined-parts : tie.Need-sub-put-joined-parts
 sub-put-joined-parts c =
     let after-lowered = c .before .before .before .before .before in
@@ -59,7 +59,7 @@ sub-put-joined-parts c =
     (lowered .result) (lowered .ensures ∙ ap (lower-above (falls-above .result)) (order-of-two .ensures))
     (table-of t (bytes-known t known) v)) (args .out .now) room (c .before .before .put .ensures)
 
--- src/lib.rt:54:30
+-- &mut out[i..]
 part-put-joined-parts-start : tie.Need-part-put-joined-parts-start
 part-put-joined-parts-start c =
     let after-lowered = c .before .before .before .before .before in
@@ -75,7 +75,7 @@ part-put-joined-parts-start c =
     (lowered .result) (lowered .ensures ∙ ap (lower-above (falls-above .result)) (order-of-two .ensures))
     (table-of t (bytes-known t known) v)) (args .out .now) room (c .before .before .put .ensures)
 
--- src/lib.rt:54:9
+-- put_joined_parts(&mut out[i..], t, x, y, q, order)
 put-joined-parts-requires : tie.Need-put-joined-parts-requires
 put-joined-parts-requires c κs =
     let after-lowered = c .before .before .before .before .before .before in
@@ -99,7 +99,7 @@ put-joined-parts-requires c κs =
           (table-of t (bytes-known t known) v)) (args .out .now) room (put .ensures),
     )
 
--- src/lib.rt:55:13
+-- i + m
 add-l : tie.Need-add-l
 add-l c =
     let after-put = c .before .before .before .before .before .before in
@@ -121,7 +121,7 @@ add-l c =
           (c .before .before .put-joined-parts .ensures b p q a s),
     )
 
--- src/lib.rt:56:25
+-- &mut out[l..]
 sub-put : tie.Need-sub-put
 sub-put c =
     let after-put = c .before .before .before .before .before .before in
@@ -140,7 +140,7 @@ sub-put c =
     (table-of t (bytes-known t known) v)) (args .out .now) room (put .ensures)
     (c .before .before .put-joined-parts .ensures b p q a s)
 
--- src/lib.rt:56:25
+-- &mut out[l..]
 part-put-start : tie.Need-part-put-start
 part-put-start c =
     let after-put = c .before .before .before .before .before .before in
@@ -159,7 +159,7 @@ part-put-start c =
     (table-of t (bytes-known t known) v)) (args .out .now) room (put .ensures)
     (c .before .before .put-joined-parts .ensures b p q a s)
 
--- src/lib.rt:56:9
+-- writer::put(&mut out[l..], &t[e..])
 put-requires-2 : tie.Need-put-requires-2
 put-requires-2 c κs =
     let after-put = c .before .before .before .before .before .before .before .before in
@@ -178,7 +178,7 @@ put-requires-2 c κs =
     (lowered .result) (lowered .ensures ∙ ap (lower-above (falls-above .result)) (order-of-two .ensures))
     (table-of t (bytes-known t known) v)) (args .out .now) room (put .ensures) (put-joined-parts .ensures b p q a s)
 
--- src/lib.rt:57:5
+-- l + r
 add-result : tie.Need-add-result
 add-result c =
     let after-put-joined-parts = c .before .before .before .before .before .before .before in
@@ -201,7 +201,7 @@ add-result c =
           (put-joined-parts .ensures b p q a s) (c .before .before .put2 .ensures .0),
     )
 
--- src/lib.rt:46:1
+-- l + r
 returns : tie.Need-returns
 returns c =
     let after-put-joined-parts = c .before .before .before .before .before .before .before in
@@ -227,22 +227,22 @@ put-join-spec =
     tie.close
     (tie.spec
     falls-above-requires
-    -- by search: order-of-two-requires 51:25, lowered-requires 51:9, sub-e 52:13
+    -- by search: order-of-two-requires, lowered-requires, sub-e
     (λ c κs. search needs) (λ c κs. search needs) (λ c. search needs)
     slice-aggregate-put
     put-requires
     sub-put-joined-parts
     part-put-joined-parts-start
-    -- by search: part-put-joined-parts-end 54:30
+    -- by search: part-put-joined-parts-end
     (λ c. search needs)
     put-joined-parts-requires
     add-l
     sub-put
     part-put-start
-    -- by search: part-put-end 56:25, sub-put-2 56:40, part-put-start-2 56:40, part-put-end-2 56:40
+    -- by search: part-put-end, sub-put-2, part-put-start-2, part-put-end-2
     (λ c. search needs) (λ c. search needs) (λ c. search needs) (λ c. search needs)
     put-requires-2
     add-result
-    -- by search: same-length 46:1
+    -- by search: same-length
     (λ c. search needs)
     returns)

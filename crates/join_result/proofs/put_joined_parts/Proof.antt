@@ -15,7 +15,7 @@ use borrow.Author.Needs.{needs}
 use Rattle.join_result.proofs.put_joined_parts.Statement.{statement}
 use Rattle.join_result.proofs.put_joined_parts.Tie as tie
 
--- src/lib.rt:38:9
+-- parts::put_parts(out, &t[marks::UNIT_WIDTH..h], q, false)
 put-parts-requires : tie.Need-put-parts-requires
 put-parts-requires c κs =
     let start = c .before .before .before .before in
@@ -29,7 +29,7 @@ put-parts-requires c κs =
     (before-in t (c .before .before .shared-slice-known .given) v b p (q ∷ a) x (s .first)) out
     (first-room (parts-pieces q₀ (args .order) b p q a) out room)
 
--- src/lib.rt:39:42
+-- &mut out[n..]
 sub-put-joined-part : tie.Need-sub-put-joined-part
 sub-put-joined-part c =
     let after-shared-slice-known = c .before .before .before .before .before in
@@ -40,7 +40,7 @@ sub-put-joined-part c =
     second-start (parts-pieces (args .q) (args .order) b p q a) (args .out .now) room
     (c .before .before .put-parts .ensures b (before-in (args .t .now) known v b p (q ∷ a) (args .x) (s .first)))
 
--- src/lib.rt:39:42
+-- &mut out[n..]
 part-put-joined-part-start : tie.Need-part-put-joined-part-start
 part-put-joined-part-start c =
     let after-shared-slice-known = c .before .before .before .before .before in
@@ -51,7 +51,7 @@ part-put-joined-part-start c =
     second-start (parts-pieces (args .q) (args .order) b p q a) (args .out .now) room
     (c .before .before .put-parts .ensures b (before-in (args .t .now) known v b p (q ∷ a) (args .x) (s .first)))
 
--- src/lib.rt:39:9
+-- joined_part::put_joined_part(&mut out[n..], t, x, y, order)
 put-joined-part-requires : tie.Need-put-joined-part-requires
 put-joined-part-requires c κs =
     let after-shared-slice-known = c .before .before .before .before .before .before in
@@ -68,7 +68,7 @@ put-joined-part-requires c κs =
           (put-parts .ensures b (before-in t known v b p (q ∷ a) x (s .first))),
     )
 
--- src/lib.rt:40:13
+-- n + m
 add-k : tie.Need-add-k
 add-k c =
     let after-put-parts = c .before .before .before .before .before .before in
@@ -86,7 +86,7 @@ add-k c =
           (c .before .before .put-joined-part .ensures (two-parts t x (args .y) b p q a s)),
     )
 
--- src/lib.rt:41:30
+-- &mut out[k..]
 sub-put-parts-2 : tie.Need-sub-put-parts-2
 sub-put-parts-2 c =
     let after-put-parts = c .before .before .before .before .before .before in
@@ -101,7 +101,7 @@ sub-put-parts-2 c =
     (put-parts .ensures b (before-in t known v b p (q ∷ a) x (s .first)))
     (c .before .before .put-joined-part .ensures (two-parts t x (args .y) b p q a s))
 
--- src/lib.rt:41:30
+-- &mut out[k..]
 part-put-parts-start-2 : tie.Need-part-put-parts-start-2
 part-put-parts-start-2 c =
     let after-put-parts = c .before .before .before .before .before .before in
@@ -116,21 +116,21 @@ part-put-parts-start-2 c =
     (put-parts .ensures b (before-in t known v b p (q ∷ a) x (s .first)))
     (c .before .before .put-joined-part .ensures (two-parts t x (args .y) b p q a s))
 
--- src/lib.rt:41:45
+-- &t[f..e]
 sub-put-parts-3 : tie.Need-sub-put-parts-3
 sub-put-parts-3 c =
     let start = c .before .before .before .before .before .before .before .before .before .before .before .before in
     let (v, b, p, q, a, s, room) = start .pre in
     omega (arith, end-within (start .args .t .now) (b ++ (p ∷ [])) q a (start .args .y) (s .second))
 
--- src/lib.rt:41:45
+-- &t[f..e]
 part-put-parts-start-3 : tie.Need-part-put-parts-start-3
 part-put-parts-start-3 c =
     let start = c .before .before .before .before .before .before .before .before .before .before .before .before in
     let (v, b, p, q, a, s, room) = start .pre in
     omega (arith, end-within (start .args .t .now) (b ++ (p ∷ [])) q a (start .args .y) (s .second))
 
--- src/lib.rt:41:9
+-- parts::put_parts(&mut out[k..], &t[f..e], q, false)
 put-parts-requires-2 : tie.Need-put-parts-requires-2
 put-parts-requires-2 c κs =
     let after-put-parts = c .before .before .before .before .before .before .before .before in
@@ -149,7 +149,7 @@ put-parts-requires-2 c κs =
     (put-parts .ensures b (before-in (start .args .t .now) known v b p (q ∷ a) (start .args .x) (s .first)))
     (put-joined-part .ensures (two-parts (start .args .t .now) (start .args .x) (start .args .y) b p q a s)))
 
--- src/lib.rt:42:5
+-- k + i
 add-result : tie.Need-add-result
 add-result c =
     let after-put-joined-part = c .before .before .before .before .before .before .before in
@@ -171,7 +171,7 @@ add-result c =
           ((c .before .before .put-parts2 .ensures a (behind-in t known v (b ++ (p ∷ [])) q a y (s .second))) .0),
     )
 
--- src/lib.rt:24:1
+-- k + i
 returns : tie.Need-returns
 returns c =
     let after-put-joined-part = c .before .before .before .before .before .before .before in
@@ -195,25 +195,25 @@ pub put-joined-parts-spec : {M : Type 1} → statement M
 put-joined-parts-spec =
     tie.close
     (tie.spec
-    -- by search: sub-e 37:13, sub-put-parts 38:35, part-put-parts-start 38:35, part-put-parts-end 38:35
+    -- by search: sub-e, sub-put-parts, part-put-parts-start, part-put-parts-end
     (λ c. search needs) (λ c. search needs) (λ c. search needs) (λ c. search needs)
     put-parts-requires
     sub-put-joined-part
     part-put-joined-part-start
-    -- by search: part-put-joined-part-end 39:42
+    -- by search: part-put-joined-part-end
     (λ c. search needs)
     put-joined-part-requires
     add-k
     sub-put-parts-2
     part-put-parts-start-2
-    -- by search: part-put-parts-end-2 41:30
+    -- by search: part-put-parts-end-2
     (λ c. search needs)
     sub-put-parts-3
     part-put-parts-start-3
-    -- by search: part-put-parts-end-3 41:45
+    -- by search: part-put-parts-end-3
     (λ c. search needs)
     put-parts-requires-2
     add-result
-    -- by search: same-length 24:1
+    -- by search: same-length
     (λ c. search needs)
     returns)

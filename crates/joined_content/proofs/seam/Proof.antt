@@ -8,19 +8,19 @@ use borrow.Author.Needs.{needs}
 use Rattle.joined_content.proofs.seam.Statement.{statement}
 use Rattle.joined_content.proofs.seam.Tie as tie
 
--- src/lib.rt:37:9
+-- return 0
 returns : tie.Need-returns
 returns c =
     let a = c .before .before .before .args .a .now in
     λ rs qs o q. seam-none a rs qs (c .if1 .taken) o (q .0)
 
--- src/lib.rt:40:9
+-- return a.len()
 returns-2 : tie.Need-returns-2
 returns-2 c =
     let args = c .before .before .before .before .args in
     λ rs qs o q. seam-last (args .a .now) (args .b .now) rs qs (c .if2 .taken) q (o .0)
 
--- src/lib.rt:42:9
+-- last_of(a)
 last-of-requires : tie.Need-last-of-requires
 last-of-requires c κs =
     let pre = c .before .before .before .before .pre in
@@ -29,7 +29,7 @@ last-of-requires c κs =
     let (qs, q) = g in
     (f, omega arith)
 
--- src/lib.rt:43:21
+-- &a[p..]
 sub-is-text : tie.Need-sub-is-text
 sub-is-text c =
     let start = c .before .before .before .before .before in
@@ -39,7 +39,7 @@ sub-is-text c =
     let m = c .last-of .ensures rs o in
     omega (arith, last-least (start .args .a .now) rs (c .last-of .result) o m .1)
 
--- src/lib.rt:43:21
+-- &a[p..]
 part-is-text-start : tie.Need-part-is-text-start
 part-is-text-start c =
     let start = c .before .before .before .before .before in
@@ -49,7 +49,7 @@ part-is-text-start c =
     let m = c .last-of .ensures rs o in
     omega (arith, last-least (start .args .a .now) rs (c .last-of .result) o m .1)
 
--- src/lib.rt:43:9
+-- is_text(&a[p..])
 is-text-requires : tie.Need-is-text-requires
 is-text-requires c κs =
     let start = c .before .before .before .before .before .before in
@@ -60,7 +60,7 @@ is-text-requires c κs =
     let m = last-of .ensures rs o in
     simp tail-is (last-least (start .args .a .now) rs (last-of .result) o m .0)
 
--- src/lib.rt:44:9
+-- is_text(b)
 is-text-requires-2 : tie.Need-is-text-requires-2
 is-text-requires-2 c κs =
     let start = c .before .before .before .before .before .before .before in
@@ -69,7 +69,7 @@ is-text-requires-2 c κs =
     let (qs, q) = g in
     first-least (start .args .b .now) qs q (omega arith)
 
--- src/lib.rt:46:9
+-- return p
 returns-3 : tie.Need-returns-3
 returns-3 c =
     let args = c .before .before .before .before .before .before .before .before .before .args in
@@ -80,7 +80,7 @@ returns-3 c =
     (sym (c .before .is-text2 .ensures))
     ∙ c .if3 .taken)
 
--- src/lib.rt:32:1
+-- a.len()
 returns-4 : tie.Need-returns-4
 returns-4 c =
     let args = c .before .before .before .before .before .before .before .before .before .args in
@@ -100,7 +100,7 @@ seam-spec =
     last-of-requires
     sub-is-text
     part-is-text-start
-    -- by search: part-is-text-end 43:21
+    -- by search: part-is-text-end
     (λ c. search needs)
     is-text-requires
     is-text-requires-2

@@ -2,12 +2,11 @@ use Rattle.xliff.specs.Join.{dash}
 use Rattle.joined_part.proofs.dash_if.Statement.{statement}
 use Rattle.joined_part.proofs.dash_if.Tie as tie
 
--- src/lib.rt:11:1
 returns : tie.Need-returns
 unfolding dash
 returns c = simp (c .if1 .taken)
 
--- src/lib.rt:11:1
+-- if all { b'-' } else { b'Y' }
 returns-2 : tie.Need-returns-2
 unfolding dash
 returns-2 c = simp (c .if1 .left)

@@ -4,12 +4,11 @@ use borrow.Author.Needs.{needs}
 use Rattle.joined_part.proofs.earliest_of.Statement.{statement}
 use Rattle.joined_part.proofs.earliest_of.Tie as tie
 
--- src/lib.rt:32:1
 returns : tie.Need-returns
 unfolding earliest
 returns c = simp (← c .before .before .rank-of .ensures, ← c .before .rank-of2 .ensures, le-leb _ _ (c .if1 .taken))
 
--- src/lib.rt:32:1
+-- if rank_of(s) <= rank_of(t) { s } else { t }
 returns-2 : tie.Need-returns-2
 unfolding earliest
 returns-2 c =
@@ -20,7 +19,7 @@ unfolding earliest
 earliest-of-spec =
     tie.close
     (tie.spec
-    -- by search: rank-of-requires 35:8, rank-of-requires-2 35:22
+    -- by search: rank-of-requires, rank-of-requires-2
     (λ c κs. search needs) (λ c κs. search needs)
     returns
     returns-2)

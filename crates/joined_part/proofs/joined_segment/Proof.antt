@@ -4,7 +4,7 @@ use borrow.Author.Needs.{needs}
 use Rattle.joined_part.proofs.joined_segment.Statement.{statement}
 use Rattle.joined_part.proofs.joined_segment.Tie as tie
 
--- src/lib.rt:37:1
+-- the end
 returns : tie.Need-returns
 returns c =
     let args = c .before .before .before .before .args in
@@ -14,6 +14,6 @@ pub joined-segment-spec : {M : Type 1} → statement M
 joined-segment-spec =
     tie.close
     (tie.spec
-    -- by search: dash-if-requires 40:9, earliest-of-requires 41:9
+    -- by search: dash-if-requires, earliest-of-requires
     (λ c κs. search needs) (λ c κs. search needs)
     returns)

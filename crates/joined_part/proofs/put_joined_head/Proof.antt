@@ -11,35 +11,35 @@ use borrow.Author.Needs.{needs}
 use Rattle.joined_part.proofs.put_joined_head.Statement.{statement}
 use Rattle.joined_part.proofs.put_joined_head.Tie as tie
 
--- src/lib.rt:54:8
+-- heads::is_segment(h)
 is-segment-requires : tie.Need-is-segment-requires
 is-segment-requires c κs =
     let pre = c .before .before .before .pre in
     let (a, b, ea, eb, room) = pre in
     (a, ea)
 
--- src/lib.rt:55:13
+-- heads::segment_of(h)
 segment-of-requires : tie.Need-segment-of-requires
 segment-of-requires c κs =
     let start = c .before .before .before .before .before in
     let (a, b, ea, eb, room) = start .pre in
     some-segment (start .args .h .now) a ea (sym (c .before .is-segment .ensures a ea) ∙ c .if1 .taken)
 
--- src/lib.rt:56:12
+-- heads::is_segment(i)
 is-segment-requires-2 : tie.Need-is-segment-requires-2
 is-segment-requires-2 c κs =
     let pre = c .before .before .before .before .before .before .pre in
     let (a, b, ea, eb, room) = pre in
     (b, eb)
 
--- src/lib.rt:57:17
+-- heads::segment_of(i)
 segment-of-requires-2 : tie.Need-segment-of-requires-2
 segment-of-requires-2 c κs =
     let start = c .before .before .before .before .before .before .before .before in
     let (a, b, ea, eb, room) = start .pre in
     some-segment (start .args .i .now) b eb (sym (c .before .is-segment2 .ensures b eb) ∙ c .if2 .taken)
 
--- src/lib.rt:58:13
+-- heads::put_segment(out, joined_segment(x, y))
 put-segment-requires : tie.Need-put-segment-requires
 put-segment-requires c κs =
     let after-segment-of = c .before .before .before .before .before in
@@ -58,7 +58,7 @@ put-segment-requires c κs =
     (c .joined-segment .result) (segment-of .ensures) (segment-of2 .ensures) (c .joined-segment .ensures))
     (args .out .now) room
 
--- src/lib.rt:58:13
+-- return heads::put_segment(out, joined_segment(x, y))
 returns : tie.Need-returns
 returns c =
     let after-segment-of2 = c .before .before .before .before .before in
@@ -79,7 +79,7 @@ returns c =
     (joined-segment .result) (segment-of .ensures) (segment-of2 .ensures) (joined-segment .ensures))
     (args .out .now) (put-segment .last .0) (put-segment .result) (put-segment .ensures)
 
--- src/lib.rt:60:9
+-- heads::put_segment(out, joined_segment(x, x))
 put-segment-requires-2 : tie.Need-put-segment-requires-2
 put-segment-requires-2 c κs =
     let after-if1 = c .before .before .before .before .before in
@@ -95,7 +95,7 @@ put-segment-requires-2 c κs =
     (sym (is-segment2 .ensures b eb) ∙ c .before .before .if2 .left) (segment-of .result)
     (c .joined-segment2 .result) (segment-of .ensures) (c .joined-segment2 .ensures)) (args .out .now) room
 
--- src/lib.rt:60:9
+-- return heads::put_segment(out, joined_segment(x, x))
 returns-2 : tie.Need-returns-2
 returns-2 c =
     let after-if2 = c .before .before .before .before .before in
@@ -114,21 +114,21 @@ returns-2 c =
     (segment-of .ensures) (joined-segment2 .ensures)) (args .out .now) (put-segment2 .last .0)
     (put-segment2 .result) (put-segment2 .ensures)
 
--- src/lib.rt:62:8
+-- heads::is_segment(i)
 is-segment-requires-3 : tie.Need-is-segment-requires-3
 is-segment-requires-3 c κs =
     let pre = c .before .before .before .before .before .pre in
     let (a, b, ea, eb, room) = pre in
     (b, eb)
 
--- src/lib.rt:63:13
+-- heads::segment_of(i)
 segment-of-requires-3 : tie.Need-segment-of-requires-3
 segment-of-requires-3 c κs =
     let start = c .before .before .before .before .before .before .before in
     let (a, b, ea, eb, room) = start .pre in
     some-segment (start .args .i .now) b eb (sym (c .before .is-segment3 .ensures b eb) ∙ c .if3 .taken)
 
--- src/lib.rt:64:9
+-- heads::put_segment(out, joined_segment(y, y))
 put-segment-requires-3 : tie.Need-put-segment-requires-3
 put-segment-requires-3 c κs =
     let after-if1 = c .before .before .before .before .before in
@@ -145,7 +145,7 @@ put-segment-requires-3 c κs =
     (sym (is-segment3 .ensures b eb) ∙ if3 .taken) (segment-of3 .result) (c .joined-segment3 .result)
     (segment-of3 .ensures) (c .joined-segment3 .ensures)) (args .out .now) room
 
--- src/lib.rt:64:9
+-- return heads::put_segment(out, joined_segment(y, y))
 returns-3 : tie.Need-returns-3
 returns-3 c =
     let after-segment-of3 = c .before .before .before .before .before in
@@ -164,7 +164,7 @@ returns-3 c =
     (segment-of3 .ensures) (joined-segment3 .ensures)) (args .out .now) (put-segment3 .last .0)
     (put-segment3 .result) (put-segment3 .ensures)
 
--- src/lib.rt:66:5
+-- writer::put(out, h)
 put-requires : tie.Need-put-requires
 put-requires c κs =
     let start = c .before .before .before .before .before .before .before .before in
@@ -178,7 +178,7 @@ put-requires c κs =
           (sym (c .before .before .is-segment3 .ensures b eb) ∙ c .before .if3 .left)),
     )
 
--- src/lib.rt:50:1
+-- writer::put(out, h)
 returns-4 : tie.Need-returns-4
 returns-4 c =
     let after-is-segment3 = c .before .before .before .before .before in
@@ -201,27 +201,27 @@ put-joined-head-spec =
     segment-of-requires
     is-segment-requires-2
     segment-of-requires-2
-    -- by search: joined-segment-requires 58:44
+    -- by search: joined-segment-requires
     (λ c κs. search needs)
     put-segment-requires
-    -- by search: same-length 58:13
+    -- by search: same-length
     (λ c. search needs)
     returns
-    -- by search: joined-segment-requires-2 60:40
+    -- by search: joined-segment-requires-2
     (λ c κs. search needs)
     put-segment-requires-2
-    -- by search: same-length-2 60:9
+    -- by search: same-length-2
     (λ c. search needs)
     returns-2
     is-segment-requires-3
     segment-of-requires-3
-    -- by search: joined-segment-requires-3 64:40
+    -- by search: joined-segment-requires-3
     (λ c κs. search needs)
     put-segment-requires-3
-    -- by search: same-length-3 64:9
+    -- by search: same-length-3
     (λ c. search needs)
     returns-3
     put-requires
-    -- by search: same-length-4 50:1
+    -- by search: same-length-4
     (λ c. search needs)
     returns-4)

@@ -22,7 +22,7 @@ use borrow.Author.Needs.{needs}
 use Rattle.joined_part.proofs.put_joined_part.Statement.{statement}
 use Rattle.joined_part.proofs.put_joined_part.Tie as tie
 
--- src/lib.rt:105:9
+-- put_joined_head(out, &t[h..s], &t[i..r])
 put-joined-head-requires : tie.Need-put-joined-head-requires
 put-joined-head-requires c κs =
     let start = c .before .before .before .before .before in
@@ -34,7 +34,7 @@ put-joined-head-requires c κs =
     heads-asked t (bytes-known t known) (args .x) (args .y) v out
     (first-room (joined-pieces (args .order) (v .first) (v .second)) out room)
 
--- src/lib.rt:106:40
+-- &mut out[n..]
 sub-put-joined : tie.Need-sub-put-joined
 sub-put-joined c =
     let after-shared-slice-known = c .before .before .before .before .before .before in
@@ -49,7 +49,7 @@ sub-put-joined c =
     (heads-wrote t (bytes-known t known) (args .x) (args .y) v out (put-joined-head .result)
     (put-joined-head .last .0) (put-joined-head .ensures))
 
--- src/lib.rt:106:40
+-- &mut out[n..]
 part-put-joined-start : tie.Need-part-put-joined-start
 part-put-joined-start c =
     let after-shared-slice-known = c .before .before .before .before .before .before in
@@ -64,7 +64,7 @@ part-put-joined-start c =
     (heads-wrote t (bytes-known t known) (args .x) (args .y) v out (put-joined-head .result)
     (put-joined-head .last .0) (put-joined-head .ensures))
 
--- src/lib.rt:106:9
+-- joined_content::put_joined(&mut out[n..], &t[s..g], &t[r..k])
 put-joined-requires : tie.Need-put-joined-requires
 put-joined-requires c κs =
     let after-put-joined-head = c .before .before .before .before .before in
@@ -82,7 +82,7 @@ put-joined-requires c κs =
     (heads-wrote t (bytes-known t known) x y v out (put-joined-head .result) (put-joined-head .last .0)
     (put-joined-head .ensures)))
 
--- src/lib.rt:107:13
+-- n + m
 add-w : tie.Need-add-w
 add-w c =
     let after-put-joined-head = c .before .before .before .before .before .before .before .before in
@@ -105,7 +105,7 @@ add-w c =
           (put-joined .result) (put-joined .last .0) (put-joined .ensures)),
     )
 
--- src/lib.rt:108:31
+-- &mut out[w..]
 sub-put-joined-target : tie.Need-sub-put-joined-target
 sub-put-joined-target c =
     let after-put-joined-head = c .before .before .before .before .before .before .before .before in
@@ -125,7 +125,7 @@ sub-put-joined-target c =
     (sources-wrote t (bytes-known t known) x y v (rest (put-joined-head .result) (put-joined-head .last .0))
     (put-joined .result) (put-joined .last .0) (put-joined .ensures))
 
--- src/lib.rt:108:31
+-- &mut out[w..]
 part-put-joined-target-start : tie.Need-part-put-joined-target-start
 part-put-joined-target-start c =
     let after-put-joined-head = c .before .before .before .before .before .before .before .before in
@@ -145,7 +145,7 @@ part-put-joined-target-start c =
     (sources-wrote t (bytes-known t known) x y v (rest (put-joined-head .result) (put-joined-head .last .0))
     (put-joined .result) (put-joined .last .0) (put-joined .ensures))
 
--- src/lib.rt:108:46
+-- &t[g..e]
 sub-put-joined-target-2 : tie.Need-sub-put-joined-target-2
 sub-put-joined-target-2 c =
     let after-shared-slice-known = c .before .before .before .before .before .before .before .before .before .before
@@ -157,7 +157,7 @@ sub-put-joined-target-2 c =
     let (v, small, room) = start .pre in
     first-ends t (bytes-known t known) (args .x) (args .y) v .0
 
--- src/lib.rt:108:46
+-- &t[g..e]
 part-put-joined-target-start-2 : tie.Need-part-put-joined-target-start-2
 part-put-joined-target-start-2 c =
     let after-shared-slice-known = c .before .before .before .before .before .before .before .before .before .before
@@ -170,7 +170,7 @@ part-put-joined-target-start-2 c =
     let (e, f) = first-ends t (bytes-known t known) (args .x) (args .y) v in
     omega (arith, e, f)
 
--- src/lib.rt:108:56
+-- &t[k..f]
 sub-put-joined-target-3 : tie.Need-sub-put-joined-target-3
 sub-put-joined-target-3 c =
     let after-shared-slice-known = c .before .before .before .before .before .before .before .before .before .before
@@ -182,7 +182,7 @@ sub-put-joined-target-3 c =
     let (v, small, room) = start .pre in
     second-ends t (bytes-known t known) (args .x) (args .y) v .0
 
--- src/lib.rt:108:56
+-- &t[k..f]
 part-put-joined-target-start-3 : tie.Need-part-put-joined-target-start-3
 part-put-joined-target-start-3 c =
     let after-shared-slice-known = c .before .before .before .before .before .before .before .before .before .before
@@ -195,7 +195,7 @@ part-put-joined-target-start-3 c =
     let (e, f) = second-ends t (bytes-known t known) (args .x) (args .y) v in
     omega (arith, e, f)
 
--- src/lib.rt:108:9
+-- put_joined_target(&mut out[w..], &t[g..e], &t[k..f], order)
 put-joined-target-requires : tie.Need-put-joined-target-requires
 put-joined-target-requires c κs =
     let after-put-joined = c .before .before .before .before .before in
@@ -220,7 +220,7 @@ put-joined-target-requires c κs =
     (sources-wrote t (bytes-known t known) x y v (rest (put-joined-head .result) (put-joined-head .last .0))
     (put-joined .result) (put-joined .last .0) (put-joined .ensures)))
 
--- src/lib.rt:109:5
+-- w + z
 add-result : tie.Need-add-result
 add-result c =
     let after-put-joined = c .before .before .before .before .before .before .before .before in
@@ -250,7 +250,7 @@ add-result c =
           (put-joined-target .result) (put-joined-target .last .0) (put-joined-target .ensures)) .0),
     )
 
--- src/lib.rt:93:1
+-- w + z
 same-length : tie.Need-same-length
 same-length c =
     let after-put-joined = c .before .before .before .before .before .before .before .before in
@@ -278,7 +278,7 @@ same-length c =
     (put-joined-target .last .0) (put-joined-target .ensures)) .1)
     ∙ lead-length (part-bytes order (v .first) (v .second)) out room
 
--- src/lib.rt:93:1
+-- w + z
 returns : tie.Need-returns
 returns c =
     let after-put-joined = c .before .before .before .before .before .before .before .before in
@@ -308,31 +308,31 @@ pub put-joined-part-spec : {M : Type 1} → statement M
 put-joined-part-spec =
     tie.close
     (tie.spec
-    -- by search: sub-put-joined-head 105:34, part-put-joined-head-start 105:34, part-put-joined-head-end 105:34,
-    -- sub-put-joined-head-2 105:44, part-put-joined-head-start-2 105:44, part-put-joined-head-end-2 105:44
+    -- by search: sub-put-joined-head, part-put-joined-head-start, part-put-joined-head-end,
+    -- sub-put-joined-head-2, part-put-joined-head-start-2, part-put-joined-head-end-2
     (λ c. search needs) (λ c. search needs) (λ c. search needs) (λ c. search needs) (λ c. search needs)
     (λ c. search needs)
     put-joined-head-requires
     sub-put-joined
     part-put-joined-start
-    -- by search: part-put-joined-end 106:40, sub-put-joined-2 106:55, part-put-joined-start-2 106:55,
-    -- part-put-joined-end-2 106:55, sub-put-joined-3 106:65, part-put-joined-start-3 106:65,
-    -- part-put-joined-end-3 106:65
+    -- by search: part-put-joined-end, sub-put-joined-2, part-put-joined-start-2,
+    -- part-put-joined-end-2, sub-put-joined-3, part-put-joined-start-3,
+    -- part-put-joined-end-3
     (λ c. search needs) (λ c. search needs) (λ c. search needs) (λ c. search needs) (λ c. search needs)
     (λ c. search needs) (λ c. search needs)
     put-joined-requires
     add-w
     sub-put-joined-target
     part-put-joined-target-start
-    -- by search: part-put-joined-target-end 108:31
+    -- by search: part-put-joined-target-end
     (λ c. search needs)
     sub-put-joined-target-2
     part-put-joined-target-start-2
-    -- by search: part-put-joined-target-end-2 108:46
+    -- by search: part-put-joined-target-end-2
     (λ c. search needs)
     sub-put-joined-target-3
     part-put-joined-target-start-3
-    -- by search: part-put-joined-target-end-3 108:56
+    -- by search: part-put-joined-target-end-3
     (λ c. search needs)
     put-joined-target-requires
     add-result

@@ -9,7 +9,7 @@ use borrow.Author.Needs.{needs}
 use Rattle.joined_part.proofs.put_joined_target.Statement.{statement}
 use Rattle.joined_part.proofs.put_joined_target.Tie as tie
 
--- src/lib.rt:76:13
+-- return 0
 returns : tie.Need-returns
 returns c =
     let args = c .before .before .before .before .before .args in
@@ -17,21 +17,21 @@ returns c =
     neither-wrote (args .order) (args .g .now) (args .k .now) g k a b (c .before .if1 .taken) (c .if2 .taken)
     (args .out .now)
 
--- src/lib.rt:78:46
+-- &k[marks::TARGET_WIDTH..]
 sub-put-target : tie.Need-sub-put-target
 sub-put-target c =
     let start = c .before .before .before .before .before .before in
     let (g, k, a, b, small, room) = start .pre in
     (present (start .args .k .now) k (c .before .if2 .left) b) .least
 
--- src/lib.rt:78:46
+-- &k[marks::TARGET_WIDTH..]
 part-put-target-start : tie.Need-part-put-target-start
 part-put-target-start c =
     let start = c .before .before .before .before .before .before in
     let (g, k, a, b, small, room) = start .pre in
     omega (arith, (present (start .args .k .now) k (c .before .if2 .left) b) .least)
 
--- src/lib.rt:78:9
+-- heads::put_target(out, order, &k[marks::TARGET_WIDTH..])
 put-target-requires : tie.Need-put-target-requires
 put-target-requires c κs =
     let start = c .before .before .before .before .before .before .before in
@@ -44,7 +44,7 @@ put-target-requires c κs =
     (second-alone order (args .g .now) k₀ g k a b (if1 .taken) (present k₀ k (c .before .before .if2 .left) b))
     (args .out .now) room
 
--- src/lib.rt:78:9
+-- return heads::put_target(out, order, &k[marks::TARGET_WIDTH..])
 returns-2 : tie.Need-returns-2
 returns-2 c =
     let after-if2 = c .before .before .before .before .before in
@@ -59,21 +59,21 @@ returns-2 c =
     (second-alone order (args .g .now) k₀ g k a b (if1 .taken) (present k₀ k (if2 .left) b)) (args .out .now)
     (put-target .last .0) (put-target .result) (put-target .ensures)
 
--- src/lib.rt:81:46
+-- &g[marks::TARGET_WIDTH..]
 sub-put-target-2 : tie.Need-sub-put-target-2
 sub-put-target-2 c =
     let start = c .before .before .before .before .before .before in
     let (g, k, a, b, small, room) = start .pre in
     (present (start .args .g .now) g (c .before .before .if1 .left) a) .least
 
--- src/lib.rt:81:46
+-- &g[marks::TARGET_WIDTH..]
 part-put-target-start-2 : tie.Need-part-put-target-start-2
 part-put-target-start-2 c =
     let start = c .before .before .before .before .before .before in
     let (g, k, a, b, small, room) = start .pre in
     omega (arith, (present (start .args .g .now) g (c .before .before .if1 .left) a) .least)
 
--- src/lib.rt:81:9
+-- heads::put_target(out, order, &g[marks::TARGET_WIDTH..])
 put-target-requires-2 : tie.Need-put-target-requires-2
 put-target-requires-2 c κs =
     let start = c .before .before .before .before .before .before .before in
@@ -86,7 +86,7 @@ put-target-requires-2 c κs =
     (first-alone order g₀ (args .k .now) g k a b (present g₀ g (if1 .left) a) (c .before .before .if3 .taken))
     (args .out .now) room
 
--- src/lib.rt:81:9
+-- return heads::put_target(out, order, &g[marks::TARGET_WIDTH..])
 returns-3 : tie.Need-returns-3
 returns-3 c =
     let after-if3 = c .before .before .before .before .before in
@@ -101,7 +101,7 @@ returns-3 c =
     (first-alone order g₀ (args .k .now) g k a b (present g₀ g (if1 .left) a) (if3 .taken)) (args .out .now)
     (put-target2 .last .0) (put-target2 .result) (put-target2 .ensures)
 
--- src/lib.rt:83:9
+-- heads::put_target_head(out, order)
 put-target-head-requires : tie.Need-put-target-head-requires
 put-target-head-requires c κs =
     let start = c .before .before .before .before .before .before in
@@ -112,7 +112,7 @@ put-target-head-requires c κs =
     first-room (both-pieces (args .order) g₀ k₀ g k (present g₀ g (c .before .before .if1 .left) a)
     (present k₀ k (c .before .if3 .left) b)) (args .out .now) room
 
--- src/lib.rt:85:9
+-- &mut out[n..]
 sub-put-joined : tie.Need-sub-put-joined
 sub-put-joined c =
     let after-if1 = c .before .before .before .before .before in
@@ -126,7 +126,7 @@ sub-put-joined c =
     second-start (both-pieces (args .order) g₀ k₀ g k (present g₀ g (if1 .left) a) (present k₀ k (if3 .left) b))
     (args .out .now) room (c .before .before .put-target-head .ensures)
 
--- src/lib.rt:85:9
+-- &mut out[n..]
 part-put-joined-start : tie.Need-part-put-joined-start
 part-put-joined-start c =
     let after-if1 = c .before .before .before .before .before in
@@ -140,7 +140,7 @@ part-put-joined-start c =
     second-start (both-pieces (args .order) g₀ k₀ g k (present g₀ g (if1 .left) a) (present k₀ k (if3 .left) b))
     (args .out .now) room (c .before .before .put-target-head .ensures)
 
--- src/lib.rt:86:9
+-- &g[marks::TARGET_WIDTH..]
 sub-put-joined-2 : tie.Need-sub-put-joined-2
 sub-put-joined-2 c =
     let after-if1 = c .before .before .before .before .before .before in
@@ -149,7 +149,7 @@ sub-put-joined-2 c =
     let (g, k, a, b, small, room) = start .pre in
     (present (start .args .g .now) g (if1 .left) a) .least
 
--- src/lib.rt:86:9
+-- &g[marks::TARGET_WIDTH..]
 part-put-joined-start-2 : tie.Need-part-put-joined-start-2
 part-put-joined-start-2 c =
     let after-if1 = c .before .before .before .before .before .before in
@@ -158,7 +158,7 @@ part-put-joined-start-2 c =
     let (g, k, a, b, small, room) = start .pre in
     omega (arith, (present (start .args .g .now) g (if1 .left) a) .least)
 
--- src/lib.rt:87:9
+-- &k[marks::TARGET_WIDTH..]
 sub-put-joined-3 : tie.Need-sub-put-joined-3
 sub-put-joined-3 c =
     let after-if3 = c .before .before .before .before .before .before in
@@ -167,7 +167,7 @@ sub-put-joined-3 c =
     let (g, k, a, b, small, room) = start .pre in
     (present (start .args .k .now) k (if3 .left) b) .least
 
--- src/lib.rt:87:9
+-- &k[marks::TARGET_WIDTH..]
 part-put-joined-start-3 : tie.Need-part-put-joined-start-3
 part-put-joined-start-3 c =
     let after-if3 = c .before .before .before .before .before .before in
@@ -176,7 +176,7 @@ part-put-joined-start-3 c =
     let (g, k, a, b, small, room) = start .pre in
     omega (arith, (present (start .args .k .now) k (if3 .left) b) .least)
 
--- src/lib.rt:84:9
+-- joined_content::put_joined(&mut out[n..], &g[marks::TARGET_WIDTH..], &k[marks::TARGET_WIDTH..])
 put-joined-requires : tie.Need-put-joined-requires
 put-joined-requires c κs =
     let after-put-target-head = c .before .before .before .before .before in
@@ -194,7 +194,7 @@ put-joined-requires c κs =
     (second-room (both-pieces order g₀ k₀ g k (present g₀ g (if1 .left) a) (present k₀ k (if3 .left) b))
     (args .out .now) room (put-target-head .ensures))
 
--- src/lib.rt:89:5
+-- n + m
 add-result : tie.Need-add-result
 add-result c =
     let after-put-target-head = c .before .before .before .before .before .before .before .before in
@@ -215,7 +215,7 @@ add-result c =
           ((present k₀ k (if3 .left) b) .holds)),
     )
 
--- src/lib.rt:70:1
+-- n + m
 returns-4 : tie.Need-returns-4
 returns-4 c =
     let after-put-target-head = c .before .before .before .before .before .before .before .before in
@@ -239,35 +239,35 @@ put-joined-target-spec =
     returns
     sub-put-target
     part-put-target-start
-    -- by search: part-put-target-end 78:46
+    -- by search: part-put-target-end
     (λ c. search needs)
     put-target-requires
-    -- by search: same-length 78:9
+    -- by search: same-length
     (λ c. search needs)
     returns-2
     sub-put-target-2
     part-put-target-start-2
-    -- by search: part-put-target-end-2 81:46
+    -- by search: part-put-target-end-2
     (λ c. search needs)
     put-target-requires-2
-    -- by search: same-length-2 81:9
+    -- by search: same-length-2
     (λ c. search needs)
     returns-3
     put-target-head-requires
     sub-put-joined
     part-put-joined-start
-    -- by search: part-put-joined-end 85:9
+    -- by search: part-put-joined-end
     (λ c. search needs)
     sub-put-joined-2
     part-put-joined-start-2
-    -- by search: part-put-joined-end-2 86:9
+    -- by search: part-put-joined-end-2
     (λ c. search needs)
     sub-put-joined-3
     part-put-joined-start-3
-    -- by search: part-put-joined-end-3 87:9
+    -- by search: part-put-joined-end-3
     (λ c. search needs)
     put-joined-requires
     add-result
-    -- by search: same-length-3 70:1
+    -- by search: same-length-3
     (λ c. search needs)
     returns-4)

@@ -3,23 +3,23 @@ use borrow.Author.Tests.{eq-eqb, ne-eqb}
 use Rattle.joined_part.proofs.rank_of.Statement.{statement}
 use Rattle.joined_part.proofs.rank_of.Tie as tie
 
--- src/lib.rt:21:9
+-- return 0
 returns : tie.Need-returns
 unfolding rank
 returns c = simp (eq-eqb _ _ (c .if1 .taken))
 
--- src/lib.rt:24:9
+-- return 1
 returns-2 : tie.Need-returns-2
 unfolding rank
 returns-2 c = simp (ne-eqb _ _ (c .before .if1 .left), eq-eqb _ _ (c .if2 .taken))
 
--- src/lib.rt:27:9
+-- return 2
 returns-3 : tie.Need-returns-3
 unfolding rank
 returns-3 c =
     simp (ne-eqb _ _ (c .before .before .if1 .left), ne-eqb _ _ (c .before .if2 .left), eq-eqb _ _ (c .if3 .taken))
 
--- src/lib.rt:17:1
+-- 3
 returns-4 : tie.Need-returns-4
 unfolding rank
 returns-4 c =

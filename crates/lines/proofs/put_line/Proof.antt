@@ -2,13 +2,11 @@ use borrow.Author.Needs.{needs}
 use Rattle.lines.proofs.put_line.Statement.{statement}
 use Rattle.lines.proofs.put_line.Tie as tie
 
--- Answer::Accepted(n) => put_accepted(out, n)
 returns : tie.Need-returns
 returns c =
     let a = c .before .before .before .before .before .a in
     rw (a .given .1) (c .before .before .put-accepted .ensures)
 
--- Answer::Refused(n, at) => put_refused(out, n as usize, at)
 returns-2 : tie.Need-returns-2
 returns-2 c =
     let a2 = c .before .before .before .before .before .a2 in

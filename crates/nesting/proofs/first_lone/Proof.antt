@@ -24,18 +24,18 @@ Inv-loop t markers keys stack₀ best₀ i₀ stack best i =
 abbrev μ-loop : tie.MeasureT-loop
 μ-loop t markers keys stack₀ best₀ i₀ stack best i = length markers - i
 
--- src/lib.rt:113:5
+-- the loop's start
 loop-holds : tie.Need-loop-holds Inv-loop μ-loop
 loop-holds c =
     let start = c .before .before .before in
     let pre = start .pre in
     (omega arith, refl, lone-start (start .args .t .now) (start .args .markers .now) (pre .0) (pre .1))
 
--- src/lib.rt:114:37
+-- &mut stack
 slice-aggregate-is-lone : tie.Need-slice-aggregate-is-lone Inv-loop μ-loop
 slice-aggregate-is-lone c = sym (c .before .before .loop .inv .1)
 
--- src/lib.rt:114:13
+-- is_lone(keys, i, &mut stack)
 is-lone-requires : tie.Need-is-lone-requires Inv-loop μ-loop
 is-lone-requires c κs =
     let start = c .before .before .before .before .before .before in
@@ -49,7 +49,7 @@ is-lone-requires c κs =
       c .before .before .loop .inv .1,
     )
 
--- src/lib.rt:113:5
+-- the loop's step
 loop-again : tie.Need-loop-again Inv-loop μ-loop
 loop-again c =
     let after-loop-test = c .before .before .before .before .before .before in
@@ -69,7 +69,7 @@ loop-again c =
           ∙ ap (λ (p : Place). toward 7 p (lone-left t markers (loop .i + 1))) (sym (c .lower-if .ensures)),
     )
 
--- src/lib.rt:106:1
+-- best
 returns : tie.Need-returns Inv-loop μ-loop
 returns c =
     let start = c .before .before .before .before .before in
@@ -87,8 +87,8 @@ first-lone-spec =
     loop-holds
     slice-aggregate-is-lone
     is-lone-requires
-    -- by search: mul-wide 115:58, shared-slice-read-wide 115:58, wide-requires 115:46, lower-if-requires 115:9,
-    -- add-i 116:9, loop-less 113:5
+    -- by search: mul-wide, shared-slice-read-wide, wide-requires, lower-if-requires,
+    -- add-i, loop-less
     (λ c. search needs) (λ c. search needs) (λ c κs. search needs) (λ c κs. search needs) (λ c. search needs)
     (λ c. search needs)
     loop-again

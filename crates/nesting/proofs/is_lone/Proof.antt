@@ -9,7 +9,7 @@ use borrow.Author.Needs.{needs}
 use Rattle.nesting.proofs.is_lone.Statement.{statement}
 use Rattle.nesting.proofs.is_lone.Tie as tie
 
--- src/lib.rt:99:9
+-- return false
 returns : tie.Need-returns
 returns c =
     let start = c .before .before .before .before .before in
@@ -21,7 +21,7 @@ returns c =
       start .pre .2,
     )
 
--- src/lib.rt:93:1
+-- !is_met(keys, !(k % 8 / 2 == 1), i, stack)
 returns-2 : tie.Need-returns-2
 returns-2 c =
     let after-is-half-p = c .before .before .before .before .before in
@@ -40,9 +40,9 @@ pub is-lone-spec : {M : Type 1} → statement M
 is-lone-spec =
     tie.close
     (tie.spec
-    -- by search: mul-k 97:13, shared-slice-read-k 97:13, is-half-p-requires 98:9
+    -- by search: mul-k, shared-slice-read-k, is-half-p-requires
     (λ c. search needs) (λ c. search needs) (λ c κs. search needs)
     returns
-    -- by search: is-met-requires 101:6, same-length 93:1
+    -- by search: is-met-requires, same-length
     (λ c κs. search needs) (λ c. search needs)
     returns-2)

@@ -13,24 +13,24 @@ Inv-loop keys back i stack₀ n depth₀ j₀ stack depth j = Scan keys back i s
 abbrev μ-loop : tie.MeasureT-loop
 μ-loop keys back i stack₀ n depth₀ j₀ stack depth j = n - j
 
--- src/lib.rt:69:5
+-- the loop's start
 loop-holds : tie.Need-loop-holds Inv-loop μ-loop
 loop-holds c =
     let start = c .before .before .before .before in
     let args = start .args in
     scan-start (args .keys .now) (args .back) (args .i) (args .stack .now) (start .pre .2)
 
--- src/lib.rt:70:13
+-- key_away(keys, back, i, j)
 key-away-requires : tie.Need-key-away-requires Inv-loop μ-loop
 key-away-requires c κs =
     let pre = c .before .before .before .before .before .before .pre in
     (pre .0, omega (arith, c .loop-test .taken, c .before .before .steps-away .ensures))
 
--- src/lib.rt:71:23
+-- depth - 1
 sub-x : tie.Need-sub-x Inv-loop μ-loop
 sub-x c = omega (arith, c .before .before .loop .inv .some-open)
 
--- src/lib.rt:71:17
+-- stack[depth - 1]
 mul-x : tie.Need-mul-x Inv-loop μ-loop
 mul-x c =
     let pre = c .before .before .before .before .before .before .before .pre in
@@ -44,7 +44,7 @@ mul-x c =
       scan-room inv (pre .0) (pre .1) (omega (arith, c .before .loop-test .taken, steps-away .ensures)),
     )
 
--- src/lib.rt:71:17
+-- stack[depth - 1]
 slice-read-x : tie.Need-slice-read-x Inv-loop μ-loop
 slice-read-x c =
     let pre = c .before .before .before .before .before .before .before .before .pre in
@@ -57,7 +57,7 @@ slice-read-x c =
           (omega (arith, c .before .before .loop-test .taken, steps-away .ensures)),
     )
 
--- src/lib.rt:73:13
+-- return false
 returns : tie.Need-returns Inv-loop μ-loop
 returns c =
     let after-loop = c .before .before .before .before .before in
@@ -71,7 +71,7 @@ returns c =
       loop .inv .sized,
     )
 
--- src/lib.rt:75:9
+-- stack[depth] = k
 mul-stack-2 : tie.Need-mul-stack-2 Inv-loop μ-loop
 mul-stack-2 c =
     let after-loop = c .before .before .before .before .before in
@@ -85,7 +85,7 @@ mul-stack-2 c =
       scan-room (loop .inv) (pre .0) (pre .1) (omega (arith, loop-test .taken, steps-away .ensures)),
     )
 
--- src/lib.rt:75:9
+-- stack[depth] = k
 slice-write-stack-2 : tie.Need-slice-write-stack-2 Inv-loop μ-loop
 slice-write-stack-2 c =
     let after-loop = c .before .before .before .before .before in
@@ -95,7 +95,7 @@ slice-write-stack-2 c =
     let loop-test = c .before .before .before .before .loop-test in
     scan-room (loop .inv) (pre .0) (pre .1) (omega (arith, loop-test .taken, steps-away .ensures))
 
--- src/lib.rt:76:9
+-- depth_after(x, k, depth)
 depth-after-requires : tie.Need-depth-after-requires Inv-loop μ-loop
 depth-after-requires c κs =
     let after-loop = c .before .before .before .before .before in
@@ -112,7 +112,7 @@ depth-after-requires c κs =
       ),
     )
 
--- src/lib.rt:78:13
+-- return true
 same-length-2 : tie.Need-same-length-2 Inv-loop μ-loop
 same-length-2 c =
     let after-key-away = c .before .before .before .before .before in
@@ -121,7 +121,7 @@ same-length-2 c =
     let key-away = after-key-away .key-away in
     length-set (loop .stack) (loop .depth) (key-away .result) ∙ loop .inv .sized ∙ sym (pre .2)
 
--- src/lib.rt:78:13
+-- return true
 returns-2 : tie.Need-returns-2 Inv-loop μ-loop
 returns-2 c =
     let after-key-away = c .before .before .before .before .before in
@@ -137,7 +137,7 @@ returns-2 c =
       simp length-set (loop .inv .sized),
     )
 
--- src/lib.rt:69:5
+-- the loop's step
 loop-again : tie.Need-loop-again Inv-loop μ-loop
 loop-again c =
     let after-key-away = c .before .before .before .before .before in
@@ -151,7 +151,7 @@ loop-again c =
     (key-away .ensures) (sym (is-apart .ensures) ∙ c .before .before .if1 .left) (c .before .depth-after .ensures)
     (c .if2 .left)
 
--- src/lib.rt:61:1
+-- false
 returns-3 : tie.Need-returns-3 Inv-loop μ-loop
 returns-3 c =
     let pre = c .before .before .before .before .before .before .pre in
@@ -167,14 +167,14 @@ is-met-spec =
     (tie.spec
     Inv-loop
     μ-loop
-    -- by search: mul-stack 65:16, shared-slice-read-stack 65:16, slice-write-stack 65:5, steps-away-requires 66:9
+    -- by search: mul-stack, shared-slice-read-stack, slice-write-stack, steps-away-requires
     (λ c. search needs) (λ c. search needs) (λ c. search needs) (λ c κs. search needs)
     loop-holds
     key-away-requires
     sub-x
     mul-x
     slice-read-x
-    -- by search: is-apart-requires 72:12, same-length 73:13
+    -- by search: is-apart-requires, same-length
     (λ c κs. search needs) (λ c. search needs)
     returns
     mul-stack-2
@@ -182,9 +182,9 @@ is-met-spec =
     depth-after-requires
     same-length-2
     returns-2
-    -- by search: add-j 80:9, loop-less 69:5
+    -- by search: add-j, loop-less
     (λ c. search needs) (λ c. search needs)
     loop-again
-    -- by search: same-length-3 61:1
+    -- by search: same-length-3
     (λ c. search needs)
     returns-3)

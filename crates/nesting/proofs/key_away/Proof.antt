@@ -5,37 +5,37 @@ use borrow.Author.Needs.{needs}
 use Rattle.nesting.proofs.key_away.Statement.{statement}
 use Rattle.nesting.proofs.key_away.Tie as tie
 
--- src/lib.rt:33:26
+-- j + 1
 add-result : tie.Need-add-result
 add-result c =
     let h : c .before .args .j < c .before .args .i = rw (c .if1 .taken) at (c .before .pre .1) in
     omega arith
 
--- src/lib.rt:33:21
+-- i - (j + 1)
 sub-result : tie.Need-sub-result
 sub-result c =
     let h : c .before .args .j < c .before .args .i = rw (c .if1 .taken) at (c .before .pre .1) in
     omega arith
 
--- src/lib.rt:33:9
+-- return keys[i - (j + 1)]
 returns : tie.Need-returns
 returns c = simp (c .before .if1 .taken)
 
--- src/lib.rt:35:10
+-- i + 1 + j
 add-result-3 : tie.Need-add-result-3
 add-result-3 c =
     let args = c .before .args in
     let h : args .j < length (args .keys .now) - (args .i + 1) = rw (c .if1 .left) at (c .before .pre .1) in
     omega arith
 
--- src/lib.rt:35:5
+-- keys[i + 1 + j]
 mul-result-2 : tie.Need-mul-result-2
 mul-result-2 c =
     let args = c .before .args in
     let h : args .j < length (args .keys .now) - (args .i + 1) = rw (c .if1 .left) at (c .before .pre .1) in
     omega arith
 
--- src/lib.rt:35:5
+-- keys[i + 1 + j]
 shared-slice-read-result-2 : tie.Need-shared-slice-read-result-2
 shared-slice-read-result-2 c =
     let args = c .before .before .args in
@@ -43,7 +43,7 @@ shared-slice-read-result-2 c =
     rw (c .before .if1 .left) at (c .before .before .pre .1) in
     omega arith
 
--- src/lib.rt:28:1
+-- keys[i + 1 + j]
 returns-2 : tie.Need-returns-2
 returns-2 c = simp (c .before .if1 .left)
 
@@ -53,10 +53,10 @@ key-away-spec =
     (tie.spec
     add-result
     sub-result
-    -- by search: mul-result 33:16, shared-slice-read-result 33:16
+    -- by search: mul-result, shared-slice-read-result
     (λ c. search needs) (λ c. search needs)
     returns
-    -- by search: add-result-2 35:10
+    -- by search: add-result-2
     (λ c. search needs)
     add-result-3
     mul-result-2

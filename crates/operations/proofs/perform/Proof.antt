@@ -15,7 +15,6 @@ set-content-requires c κs =
     let p = rw (c .before .before .r3 .given .1) at pre in
     omega (arith, p)
 
--- Request::Split(part, source, target, id) => split::split(
 returns : tie.Need-returns
 unfolding outcome
 returns c =
@@ -24,7 +23,6 @@ returns c =
     let l : length out ≡ most-bytes = search needs in
     (rw (r .given .1) (rw l at (c .split .ensures)), c .split .kept .1 .1 .1 .1 .1 .0 ∙ l)
 
--- Request::Join(part) => join::join(table, part, out)
 returns-2 : tie.Need-returns-2
 unfolding outcome
 returns-2 c =
@@ -33,7 +31,6 @@ returns-2 c =
     let l : length out ≡ most-bytes = search needs in
     (rw (r2 .given .1) (rw l at (c .join .ensures)), c .join .kept .1 .1 .0 ∙ l)
 
--- Request::SetTarget(part, state, n) => set_content(table, part, state, s, n, out)
 returns-3 : tie.Need-returns-3
 unfolding outcome
 returns-3 c =
@@ -42,7 +39,6 @@ returns-3 c =
     let l : length out ≡ most-bytes = search needs in
     (rw (r3 .given .1) (rw l at (c .set-content .ensures)), c .set-content .kept .1 .1 .1 .1 .1 .0 ∙ l)
 
--- Request::RemoveTarget(part) => remove_target::remove_target(table, part, out)
 returns-4 : tie.Need-returns-4
 unfolding outcome
 returns-4 c =
@@ -51,7 +47,6 @@ returns-4 c =
     let l : length out ≡ most-bytes = search needs in
     (rw (r4 .given .1) (rw l at (c .remove-target .ensures)), c .remove-target .kept .1 .1 .0 ∙ l)
 
--- Request::Rewrite(side, id, form) => rewrite::rewrite(table, side, id, form, out)
 returns-5 : tie.Need-returns-5
 unfolding outcome
 returns-5 c =

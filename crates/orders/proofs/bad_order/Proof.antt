@@ -4,11 +4,11 @@ use borrow.Author.Needs.{needs}
 use Rattle.orders.proofs.bad_order.Statement.{statement}
 use Rattle.orders.proofs.bad_order.Tie as tie
 
--- src/lib.rt:57:9
+-- return true
 returns : tie.Need-returns
 returns c = simp (lt-ltb _ _ (c .if1 .taken), or-true)
 
--- src/lib.rt:52:1
+-- (k == 0) | (used[k] == 1)
 returns-2 : tie.Need-returns-2
 returns-2 c = simp (le-ltb _ _ (c .before .if1 .left))
 
@@ -17,6 +17,6 @@ bad-order-spec =
     tie.close
     (tie.spec
     returns
-    -- by search: element-copy-out-result 59:17
+    -- by search: element-copy-out-result
     (λ c. search needs)
     returns-2)

@@ -19,20 +19,20 @@ Inv-loop t at₀ n₀ at n = (rs : List Record) × At t at rs × (n + part-heads
 abbrev μ-loop : tie.MeasureT-loop
 μ-loop t at₀ n₀ at n = length t - at
 
--- src/lib.rt:29:5
+-- the loop's start
 loop-holds : tie.Need-loop-holds Inv-loop μ-loop
 loop-holds c =
     let t = c .before .args .t .now in
     (unit-records (unit t), at-start t (c .before .pre), omega arith)
 
--- src/lib.rt:31:9
+-- plus_if(g.head == 0, n)
 plus-if-requires : tie.Need-plus-if-requires Inv-loop μ-loop
 plus-if-requires c κs =
     let pre = c .before .before .before .before .before .pre in
     let loop = c .before .before .before .loop in
     omega (arith, loop .inv .2, pre .few-parts)
 
--- src/lib.rt:32:9
+-- at += g.width
 add-at : tie.Need-add-at Inv-loop μ-loop
 add-at c =
     let after-loop = c .before .before .before .before .before in
@@ -44,7 +44,7 @@ add-at c =
     (glance-at .ensures) in
     omega (arith, v .fits)
 
--- src/lib.rt:29:5
+-- the loop ends
 loop-less : tie.Need-loop-less Inv-loop μ-loop
 loop-less c =
     let after-loop = c .before .before .before .before .before in
@@ -56,7 +56,7 @@ loop-less c =
     (glance-at .ensures) in
     omega (arith, v .fits, v .moves)
 
--- src/lib.rt:29:5
+-- the loop's step
 loop-again : tie.Need-loop-again Inv-loop μ-loop
 loop-again c =
     let after-loop = c .before .before .before .before .before in
@@ -71,7 +71,7 @@ loop-again c =
       omega (arith, inv .2, parts-walked t (loop .at) (inv .0) (glance-at .result) v, c .before .plus-if .ensures),
     )
 
--- src/lib.rt:23:1
+-- n
 returns : tie.Need-returns Inv-loop μ-loop
 returns c =
     let t = c .before .before .before .args .t .now in
@@ -86,7 +86,7 @@ count-parts-spec =
     Inv-loop
     μ-loop
     loop-holds
-    -- by search: glance-at-requires 30:13
+    -- by search: glance-at-requires
     (λ c κs. search needs)
     plus-if-requires
     add-at

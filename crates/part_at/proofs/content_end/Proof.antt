@@ -14,11 +14,11 @@ Inv-loop t start at₀ at = Walked t start at
 abbrev μ-loop : tie.MeasureT-loop
 μ-loop t start at₀ at = length t - at
 
--- src/lib.rt:46:5
+-- the loop's start
 loop-holds : tie.Need-loop-holds Inv-loop μ-loop
 loop-holds c = walked-start (c .before .args .t .now) (c .before .args .start)
 
--- src/lib.rt:49:13
+-- return at
 returns : tie.Need-returns Inv-loop μ-loop
 returns c =
     let args = c .before .before .before .before .before .before .args in
@@ -28,7 +28,7 @@ returns c =
     walked-off (args .t .now) (args .start) (loop .at) (known-at .result) (known-at .ensures) (loop-test .taken)
     (loop .inv) (sym (c .before .is-content .ensures) ∙ not-true _ (c .if1 .taken))
 
--- src/lib.rt:51:9
+-- at += syntax::width_of(r)
 add-at : tie.Need-add-at Inv-loop μ-loop
 add-at c =
     let after-loop = c .before .before .before .before .before in
@@ -40,7 +40,7 @@ add-at c =
     (loop-test .taken) (loop .inv) (start .pre) in
     omega (arith, f .1, c .width-of .ensures)
 
--- src/lib.rt:46:5
+-- the loop ends
 loop-less : tie.Need-loop-less Inv-loop μ-loop
 loop-less c =
     let after-loop = c .before .before .before .before .before in
@@ -52,7 +52,7 @@ loop-less c =
     (loop-test .taken) (loop .inv) (start .pre) in
     omega (arith, f .0, f .1, c .width-of .ensures)
 
--- src/lib.rt:46:5
+-- the loop's step
 loop-again : tie.Need-loop-again Inv-loop μ-loop
 loop-again c =
     let after-loop = c .before .before .before .before .before in
@@ -66,7 +66,7 @@ loop-again c =
     (walked-on t start (loop .at) (known-at .result) (known-at .ensures) (loop-test .taken) (loop .inv)
     (sym (c .before .before .is-content .ensures) ∙ not-false _ (c .before .if1 .left)))
 
--- src/lib.rt:41:1
+-- at
 returns-2 : tie.Need-returns-2 Inv-loop μ-loop
 returns-2 c =
     let args = c .before .before .before .args in
@@ -80,10 +80,10 @@ content-end-spec =
     Inv-loop
     μ-loop
     loop-holds
-    -- by search: known-at-requires 47:13, is-content-requires 48:13
+    -- by search: known-at-requires, is-content-requires
     (λ c κs. search needs) (λ c κs. search needs)
     returns
-    -- by search: width-of-requires 51:15
+    -- by search: width-of-requires
     (λ c κs. search needs)
     add-at
     loop-less

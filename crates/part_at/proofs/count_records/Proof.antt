@@ -18,13 +18,13 @@ Inv-loop t at₀ n₀ at n = (rs : List Record) × At t at rs × (n + length rs 
 abbrev μ-loop : tie.MeasureT-loop
 μ-loop t at₀ n₀ at n = length t - at
 
--- src/lib.rt:16:5, while at < t.len()
+-- while at < t.len()
 loop-holds : tie.Need-loop-holds Inv-loop μ-loop
 loop-holds c =
     let t = c .before .args .t .now in
     (unit-records (unit t), at-start t (c .before .pre), omega arith)
 
--- src/lib.rt:18:9, at += g.width;
+-- at += g.width;
 add-at : tie.Need-add-at Inv-loop μ-loop
 add-at c =
     let call = c .before in
@@ -33,11 +33,11 @@ add-at c =
     let v = walked t (loop .at) (loop .inv .0) (call .glance-at .result) (loop .inv .1) (call .before .loop-test .taken) (call .glance-at .ensures) in
     omega (arith, v .fits)
 
--- src/lib.rt:19:9, n += 1;
+-- n += 1;
 add-n : tie.Need-add-n Inv-loop μ-loop
 add-n c = omega (arith, c .before .before .before .loop .inv .2, c .before .before .before .before .before .pre .few)
 
--- src/lib.rt:16:5, while at < t.len()
+-- while at < t.len()
 loop-less : tie.Need-loop-less Inv-loop μ-loop
 loop-less c =
     let call = c .before in
@@ -46,7 +46,7 @@ loop-less c =
     let v = walked t (loop .at) (loop .inv .0) (call .glance-at .result) (loop .inv .1) (call .before .loop-test .taken) (call .glance-at .ensures) in
     omega (arith, v .fits, v .moves)
 
--- src/lib.rt:16:5, while at < t.len()
+-- while at < t.len()
 loop-again : tie.Need-loop-again Inv-loop μ-loop
 loop-again c =
     let call = c .before in
@@ -55,7 +55,7 @@ loop-again c =
     let v = walked t (loop .at) (loop .inv .0) (call .glance-at .result) (loop .inv .1) (call .before .loop-test .taken) (call .glance-at .ensures) in
     (v .step .others, v .rest, omega (arith, loop .inv .2, ap (λ (l : List Record). length l) (v .step .split)))
 
--- src/lib.rt:21:5, n
+-- n
 returns : tie.Need-returns Inv-loop μ-loop
 returns c =
     let loop = c .before .loop in
@@ -69,7 +69,7 @@ count-records-spec =
     Inv-loop
     μ-loop
     loop-holds
-    -- glance-at-requires 17:13: the table is lent
+    -- glance-at-requires: the table is lent
     (λ c κs. search needs)
     add-at
     add-n

@@ -15,19 +15,17 @@ Inv-loop t n at₀ left₀ at left = Reached t n at left
 abbrev μ-loop : tie.MeasureT-loop
 μ-loop t n at₀ left₀ at left = left
 
--- src/lib.rt:148:9
 returns : tie.Need-returns Inv-loop μ-loop
 returns c =
     let t = c .before .before .args .t .now in
     ap (λ (k : ℕ). focus (unit t .parts) k) (c .if1 .taken) ∙ focus-zero (unit t .parts)
 
--- src/lib.rt:152:5
+-- the loop's start
 loop-holds : tie.Need-loop-holds Inv-loop μ-loop
 loop-holds c =
     let args = c .before .before .args in
     reached-start (args .t .now) (c .before .before .pre) (args .n) (omega (arith, c .if1 .left))
 
--- src/lib.rt:154:13
 returns-2 : tie.Need-returns-2 Inv-loop μ-loop
 returns-2 c =
     let start = c .before .before .before .before .before .before in
@@ -35,7 +33,7 @@ returns-2 c =
     reached-missing (start .args .t .now) (start .pre) (start .args .n) (loop .at) (loop .left) (loop .inv)
     (sym (c .before .starts-part .ensures) ∙ not-true _ (c .if2 .taken))
 
--- src/lib.rt:156:13
+-- part_from(t, at)
 part-from-requires : tie.Need-part-from-requires Inv-loop μ-loop
 part-from-requires c κs =
     let start = c .before .before .before .before .before .before in
@@ -43,7 +41,7 @@ part-from-requires c κs =
     reached-part (start .args .t .now) (start .pre) (start .args .n) (loop .at) (loop .left) (loop .inv)
     (sym (c .before .starts-part .ensures) ∙ not-false _ (c .if2 .left))
 
--- src/lib.rt:152:5
+-- the loop's step
 loop-again : tie.Need-loop-again Inv-loop μ-loop
 loop-again c =
     let start = c .before .before .before .before .before .before .before in
@@ -53,7 +51,7 @@ loop-again c =
     (sym (c .before .before .starts-part .ensures) ∙ not-false _ (c .before .if2 .left)) (c .part-from .result)
     (c .part-from .ensures) (loop-test .taken)
 
--- src/lib.rt:161:9
+-- return FoundPart::Missing
 returns-3 : tie.Need-returns-3 Inv-loop μ-loop
 returns-3 c =
     let start = c .before .before .before .before .before .before in
@@ -61,7 +59,7 @@ returns-3 c =
     reached-missing (start .args .t .now) (start .pre) (start .args .n) (loop .at) (loop .left) (loop .inv)
     (sym (c .before .starts-part2 .ensures) ∙ not-true _ (c .if3 .taken))
 
--- src/lib.rt:163:19
+-- part_from(t, at)
 part-from-requires-2 : tie.Need-part-from-requires-2 Inv-loop μ-loop
 part-from-requires-2 c κs =
     let start = c .before .before .before .before .before .before in
@@ -69,7 +67,7 @@ part-from-requires-2 c κs =
     reached-part (start .args .t .now) (start .pre) (start .args .n) (loop .at) (loop .left) (loop .inv)
     (sym (c .before .starts-part2 .ensures) ∙ not-false _ (c .if3 .left))
 
--- src/lib.rt:143:1
+-- FoundPart::At(part_from(t, at))
 returns-4 : tie.Need-returns-4 Inv-loop μ-loop
 returns-4 c =
     let start = c .before .before .before .before .before .before .before in
@@ -87,14 +85,14 @@ part-at-spec =
     μ-loop
     returns
     loop-holds
-    -- by search: starts-part-requires 153:13
+    -- by search: starts-part-requires
     (λ c κs. search needs)
     returns-2
     part-from-requires
-    -- by search: sub-left 158:9, loop-less 152:5
+    -- by search: sub-left, loop-less
     (λ c. search needs) (λ c. search needs)
     loop-again
-    -- by search: starts-part-requires-2 160:9
+    -- by search: starts-part-requires-2
     (λ c κs. search needs)
     returns-3
     part-from-requires-2

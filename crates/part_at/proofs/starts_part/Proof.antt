@@ -5,7 +5,7 @@ use borrow.Author.Needs.{needs}
 use Rattle.part_at.proofs.starts_part.Statement.{statement}
 use Rattle.part_at.proofs.starts_part.Tie as tie
 
--- src/lib.rt:131:1
+-- syntax::is_part(walker::known_at(t, at))
 returns : tie.Need-returns
 returns c =
     let args = c .before .before .before .args in
@@ -16,6 +16,6 @@ pub starts-part-spec : {M : Type 1} → statement M
 starts-part-spec =
     tie.close
     (tie.spec
-    -- by search: known-at-requires 134:21, is-part-requires 134:5
+    -- by search: known-at-requires, is-part-requires
     (λ c κs. search needs) (λ c κs. search needs)
     returns)

@@ -5,7 +5,7 @@ use borrow.Author.Needs.{needs}
 use Rattle.part_at.proofs.target_place.Statement.{statement}
 use Rattle.part_at.proofs.target_place.Tie as tie
 
--- src/lib.rt:100:38
+-- target + w
 add-content-end : tie.Need-add-content-end
 add-content-end c =
     let after-known-at = c .before .before .before .before .before in
@@ -19,7 +19,7 @@ add-content-end c =
           (width-of .result) (width-of .ensures) _ (sym (order-of .ensures) ∙ c .before .q .given .1) (start .pre),
     )
 
--- src/lib.rt:100:17
+-- content_end(t, target + w)
 content-end-requires : tie.Need-content-end-requires
 content-end-requires c κs =
     let after-known-at = c .before .before .before .before .before in
@@ -30,7 +30,6 @@ content-end-requires c κs =
     target-content (start .args .t .now) (start .args .target) (known-at .result) (known-at .ensures)
     (width-of .result) (width-of .ensures) _ (sym (order-of .ensures) ∙ c .before .q .given .1) (start .pre)
 
--- src/lib.rt:92:1
 returns : tie.Need-returns
 returns c =
     let after-width-of = c .before .before .before .before .before in
@@ -47,7 +46,6 @@ returns c =
           (c .content-end .ensures),
     )
 
--- src/lib.rt:92:1
 returns-2 : tie.Need-returns-2
 returns-2 c =
     let args = c .before .before .before .before .before .before .args in
@@ -65,11 +63,11 @@ pub target-place-spec : {M : Type 1} → statement M
 target-place-spec =
     tie.close
     (tie.spec
-    -- by search: known-at-requires 96:9, width-of-requires 97:9, order-of-requires 98:11, enum-known-q 99:19
+    -- by search: known-at-requires, width-of-requires, order-of-requires, enum-known-q
     (λ c κs. search needs) (λ c κs. search needs) (λ c κs. search needs) (λ c. search needs)
     add-content-end
     content-end-requires
-    -- by search: enum-told 110:23
+    -- by search: enum-told
     (λ c. search needs)
     returns
     returns-2)

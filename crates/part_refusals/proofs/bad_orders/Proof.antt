@@ -3,7 +3,7 @@ use borrow.Author.Needs.{needs}
 use Rattle.part_refusals.proofs.bad_orders.Statement.{statement}
 use Rattle.part_refusals.proofs.bad_orders.Tie as tie
 
--- src/lib.rt:93:1
+-- x.has_target & (y.has_target & !(second == first))
 returns : tie.Need-returns
 returns c =
     let args = c .before .before .before .before .args in

@@ -4,11 +4,11 @@ use borrow.Author.Needs.{needs}
 use Rattle.part_refusals.proofs.is_closed.Statement.{statement}
 use Rattle.part_refusals.proofs.is_closed.Tie as tie
 
--- src/lib.rt:52:9
+-- heads::unit_resegment(t)
 unit-resegment-requires : tie.Need-unit-resegment-requires
 unit-resegment-requires c κs = some-unit (c .before .args .t .now) (c .before .args .place) (c .before .pre)
 
--- src/lib.rt:48:1
+-- closed_by(unit, walker::known_at(t, place.head))
 returns : tie.Need-returns
 returns c =
     let args = c .before .before .before .before .args in
@@ -24,6 +24,6 @@ is-closed-spec =
     tie.close
     (tie.spec
     unit-resegment-requires
-    -- by search: known-at-requires 53:21, closed-by-requires 53:5
+    -- by search: known-at-requires, closed-by-requires
     (λ c κs. search needs) (λ c κs. search needs)
     returns)

@@ -16,13 +16,13 @@ Inv-loop t id at₀ at = Searched t (has-record-id id) (id-taken (unit t .parts)
 abbrev μ-loop : tie.MeasureT-loop
 μ-loop t id at₀ at = length t - at
 
--- src/lib.rt:73:9, if id == 0, return false;
+-- return false: if id == 0, return false;
 returns : tie.Need-returns Inv-loop μ-loop
 returns c =
     let args = c .before .before .args in
     sym (taken-zero (unit (args .t .now) .parts) (args .id) (c .if1 .taken))
 
--- src/lib.rt:76:5, while at < t.len()
+-- the loop's start: while at < t.len()
 loop-holds : tie.Need-loop-holds Inv-loop μ-loop
 loop-holds c =
     let start = c .before .before in
@@ -30,7 +30,7 @@ loop-holds c =
     let id = start .args .id in
     searched-start t (has-record-id id) (id-taken (unit t .parts) id) (start .pre) (taken-any t id (c .if1 .left))
 
--- src/lib.rt:78:12, has_id(t, at, (g.head == 0) | g.marker, id)
+-- has_id(t, at, (g.head == 0) | g.marker, id): has_id(t, at, (g.head == 0) | g.marker, id)
 has-id-requires : tie.Need-has-id-requires Inv-loop μ-loop
 has-id-requires c κs =
     let call = c .before .before in
@@ -43,7 +43,7 @@ has-id-requires c κs =
     let v = searched-here t (has-record-id id) (id-taken (unit t .parts) id) (loop .at) g (call .glance-at .ensures) (loop .inv) test in
     id-fits t (loop .at) (loop .inv .rs) g (loop .inv .there) v
 
--- src/lib.rt:79:13, return true;
+-- return true: return true;
 returns-2 : tie.Need-returns-2 Inv-loop μ-loop
 returns-2 c =
     let call = c .before .before .before .before in
@@ -60,7 +60,7 @@ returns-2 c =
     let same = has-walked t (loop .at) (loop .inv .rs) g (loop .inv .there) v id other in
     sym (searched-found t (has-record-id id) told (loop .at) g seen (loop .inv) test _ (c .before .has-id .ensures ∙ same) (c .if2 .taken))
 
--- src/lib.rt:81:9, at += g.width;
+-- at += g.width: at += g.width;
 add-at : tie.Need-add-at Inv-loop μ-loop
 add-at c =
     let call = c .before .before .before .before .before in
@@ -73,7 +73,7 @@ add-at c =
     let v = searched-here t (has-record-id id) (id-taken (unit t .parts) id) (loop .at) g (call .glance-at .ensures) (loop .inv) test in
     omega (arith, v .fits)
 
--- src/lib.rt:76:5, while at < t.len()
+-- the loop ends: while at < t.len()
 loop-less : tie.Need-loop-less Inv-loop μ-loop
 loop-less c =
     let call = c .before .before .before .before .before in
@@ -86,7 +86,7 @@ loop-less c =
     let v = searched-here t (has-record-id id) (id-taken (unit t .parts) id) (loop .at) g (call .glance-at .ensures) (loop .inv) test in
     omega (arith, v .fits, v .moves)
 
--- src/lib.rt:76:5, while at < t.len()
+-- the loop's step: while at < t.len()
 loop-again : tie.Need-loop-again Inv-loop μ-loop
 loop-again c =
     let call = c .before .before .before .before .before in
@@ -103,7 +103,7 @@ loop-again c =
     let same = has-walked t (loop .at) (loop .inv .rs) g (loop .inv .there) v id other in
     searched-on t (has-record-id id) told (loop .at) g seen (loop .inv) test _ (c .before .before .has-id .ensures ∙ same) (c .before .if2 .left)
 
--- src/lib.rt:83:5, false
+-- false
 returns-3 : tie.Need-returns-3 Inv-loop μ-loop
 returns-3 c =
     let loop = c .before .loop in
@@ -119,7 +119,7 @@ is-taken-spec =
     μ-loop
     returns
     loop-holds
-    -- glance-at-requires 77:13: the table is lent
+    -- glance-at-requires: the table is lent
     (λ c κs. search needs)
     has-id-requires
     returns-2

@@ -2,11 +2,10 @@ use borrow.Author.Tests.{eq-eqb, ne-eqb}
 use Rattle.part_refusals.proofs.letter_or.Statement.{statement}
 use Rattle.part_refusals.proofs.letter_or.Tie as tie
 
--- src/lib.rt:17:1
 returns : tie.Need-returns
 returns c = simp (eq-eqb _ _ (c .if1 .taken))
 
--- src/lib.rt:17:1
+-- if d == b'-' { unit } else { d }
 returns-2 : tie.Need-returns-2
 returns-2 c = simp (ne-eqb _ _ (c .if1 .left))
 

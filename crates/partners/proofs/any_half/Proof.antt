@@ -14,7 +14,7 @@ Inv-loop keys id i₀ i = (i ≤ length keys) × (any (halfOfId id) keys ≡ any
 abbrev μ-loop : tie.MeasureT-loop
 μ-loop keys id i₀ i = length keys - i
 
--- src/lib.rt:74:13
+-- return true
 returns : tie.Need-returns Inv-loop μ-loop
 unfolding halfOfId
 returns c =
@@ -25,7 +25,7 @@ returns c =
     ∙ any-on (halfOfId (args .id)) (args .keys .now) (loop .i) (loop-test .taken)
     (rw (c .before .half-of .ensures) at (c .if1 .taken)))
 
--- src/lib.rt:71:5
+-- the loop's step
 loop-again : tie.Need-loop-again Inv-loop μ-loop
 unfolding halfOfId
 loop-again c =
@@ -38,7 +38,7 @@ loop-again c =
           (rw (c .before .half-of .ensures) at (c .if1 .left)),
     )
 
--- src/lib.rt:67:1
+-- false
 returns-2 : tie.Need-returns-2 Inv-loop μ-loop
 unfolding halfOfId
 returns-2 c =
@@ -53,10 +53,10 @@ any-half-spec =
     (tie.spec
     Inv-loop
     μ-loop
-    -- by one step: loop-holds 71:5, mul-k 72:17, shared-slice-read-k 72:17, half-of-requires 73:14
+    -- by one step: loop-holds, mul-k, shared-slice-read-k, half-of-requires
     (λ c. (search needs, refl)) (λ c. search needs) (λ c. search needs) (λ c κs. search needs)
     returns
-    -- by search: add-i 76:9, loop-less 71:5
+    -- by search: add-i, loop-less
     (λ c. search needs) (λ c. search needs)
     loop-again
     returns-2)

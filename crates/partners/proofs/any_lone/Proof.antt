@@ -14,7 +14,7 @@ Inv-loop keys i₀ i = (i ≤ length keys) × (someKey loneSKey [] keys ≡ some
 abbrev μ-loop : tie.MeasureT-loop
 μ-loop keys i₀ i = length keys - i
 
--- src/lib.rt:203:13
+-- return true
 returns : tie.Need-returns Inv-loop μ-loop
 returns c =
     let keys = c .before .before .before .before .before .args .keys .now in
@@ -23,7 +23,7 @@ returns c =
     ∙ some-on loneSKey keys (loop .i) (c .before .before .loop-test .taken)
     (sym (c .before .lone-s .ensures) ∙ c .if1 .taken))
 
--- src/lib.rt:201:5
+-- the loop's step
 loop-again : tie.Need-loop-again Inv-loop μ-loop
 loop-again c =
     let keys = c .before .before .before .before .before .args .keys .now in
@@ -34,7 +34,7 @@ loop-again c =
           (sym (c .before .lone-s .ensures) ∙ c .if1 .left),
     )
 
--- src/lib.rt:197:1
+-- false
 returns-2 : tie.Need-returns-2 Inv-loop μ-loop
 returns-2 c =
     let keys = c .before .before .before .args .keys .now in
@@ -47,10 +47,10 @@ any-lone-spec =
     (tie.spec
     Inv-loop
     μ-loop
-    -- by one step: loop-holds 201:5, lone-s-requires 202:12
+    -- by one step: loop-holds, lone-s-requires
     (λ c. (search needs, refl)) (λ c κs. search needs)
     returns
-    -- by search: add-i 205:9, loop-less 201:5
+    -- by search: add-i, loop-less
     (λ c. search needs) (λ c. search needs)
     loop-again
     returns-2)

@@ -14,7 +14,7 @@ Inv-loop keys i₀ i = (i ≤ length keys) × (targeted keys ≡ targeted (drop 
 abbrev μ-loop : tie.MeasureT-loop
 μ-loop keys i₀ i = length keys - i
 
--- src/lib.rt:98:13
+-- return k == 1
 returns : tie.Need-returns Inv-loop μ-loop
 returns c =
     let keys = c .before .before .before .before .before .before .args .keys .now in
@@ -23,7 +23,7 @@ returns c =
     sym (loop .inv .1
     ∙ targeted-on keys (loop .i) (loop-test .taken) (eq-eqb _ _ (sym (c .before .class-of .ensures) ∙ c .if1 .taken)))
 
--- src/lib.rt:95:5
+-- the loop's step
 loop-again : tie.Need-loop-again Inv-loop μ-loop
 loop-again c =
     let keys = c .before .before .before .before .before .before .args .keys .now in
@@ -35,7 +35,7 @@ loop-again c =
           (rw (c .before .class-of .ensures) at (ne-eqb _ _ (c .if1 .left))),
     )
 
--- src/lib.rt:91:1
+-- false
 returns-2 : tie.Need-returns-2 Inv-loop μ-loop
 returns-2 c =
     let keys = c .before .before .before .args .keys .now in
@@ -48,10 +48,10 @@ is-targeted-spec =
     (tie.spec
     Inv-loop
     μ-loop
-    -- by one step: loop-holds 95:5, mul-k 96:17, shared-slice-read-k 96:17, class-of-requires 97:12
+    -- by one step: loop-holds, mul-k, shared-slice-read-k, class-of-requires
     (λ c. (search needs, refl)) (λ c. search needs) (λ c. search needs) (λ c κs. search needs)
     returns
-    -- by search: add-i 100:9, loop-less 95:5
+    -- by search: add-i, loop-less
     (λ c. search needs) (λ c. search needs)
     loop-again
     returns-2)

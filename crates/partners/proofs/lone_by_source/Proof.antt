@@ -9,26 +9,26 @@ use borrow.Author.Needs.{needs}
 use Rattle.partners.proofs.lone_by_source.Statement.{statement}
 use Rattle.partners.proofs.lone_by_source.Tie as tie
 
--- src/lib.rt:218:27
+-- &at[..n]
 slice-aggregate-bar-keys : tie.Need-slice-aggregate-bar-keys
 slice-aggregate-bar-keys c =
     let contents = c .before .before .contents in
     sym (front-length (contents .result) (contents .last .1 .1 .0) (contents .ensures .1) (contents .ensures .2))
 
--- src/lib.rt:218:5
+-- contents::bar_keys(t, &at[..n], &mut bars)
 bar-keys-requires : tie.Need-bar-keys-requires
 bar-keys-requires c κs =
     let contents = c .before .before .before .contents in
     front-few (contents .result) (contents .last .1 .1 .0) (contents .ensures .1) (contents .ensures .2)
 
--- src/lib.rt:219:28
+-- &bars[..n]
 slice-aggregate-lone-in-target : tie.Need-slice-aggregate-lone-in-target
 slice-aggregate-lone-in-target c =
     let contents = c .before .before .before .before .before .before .contents in
     let bar-keys = c .before .before .bar-keys in
     sym (front-length (contents .result) (bar-keys .last .1 .1 .0) (contents .ensures .1) (bar-keys .ensures .1))
 
--- src/lib.rt:219:5
+-- lone_in_target(markers, keys, &bars[..n], start)
 lone-in-target-requires : tie.Need-lone-in-target-requires
 lone-in-target-requires c κs =
     let after-contents = c .before .before .before .before .before .before in
@@ -37,7 +37,7 @@ lone-in-target-requires c κs =
     let bar-keys = c .before .before .bar-keys in
     (pre .2, front-few (contents .result) (bar-keys .last .1 .1 .0) (contents .ensures .1) (bar-keys .ensures .1))
 
--- src/lib.rt:211:1
+-- lone_in_target(markers, keys, &bars[..n], start)
 returns : tie.Need-returns
 returns c =
     let after-contents = c .before .before .before .before .before .before .before in
@@ -55,13 +55,13 @@ pub lone-by-source-spec : {M : Type 1} → statement M
 lone-by-source-spec =
     tie.close
     (tie.spec
-    -- by search: slice-aggregate-contents 217:42, contents-requires 217:9, array-share-prefix-at 218:27
+    -- by search: slice-aggregate-contents, contents-requires, array-share-prefix-at
     (λ c. search needs) (λ c κs. search needs) (λ c. search needs)
     slice-aggregate-bar-keys
-    -- by search: slice-aggregate-bar-keys-2 218:37
+    -- by search: slice-aggregate-bar-keys-2
     (λ c. search needs)
     bar-keys-requires
-    -- by search: array-share-prefix-bars 219:28
+    -- by search: array-share-prefix-bars
     (λ c. search needs)
     slice-aggregate-lone-in-target
     lone-in-target-requires

@@ -5,32 +5,32 @@ use borrow.Author.Needs.{needs}
 use Rattle.partners.proofs.lone_in_contents.Statement.{statement}
 use Rattle.partners.proofs.lone_in_contents.Tie as tie
 
--- src/lib.rt:192:27
+-- &markers[..n]
 slice-aggregate-bar-keys : tie.Need-slice-aggregate-bar-keys
 slice-aggregate-bar-keys c =
     let contents = c .before .before .contents in
     sym (front-length (contents .result) (contents .last .1 .1 .0) (contents .ensures .1) (contents .ensures .2))
 
--- src/lib.rt:192:5
+-- contents::bar_keys(t, &markers[..n], &mut bars)
 bar-keys-requires : tie.Need-bar-keys-requires
 bar-keys-requires c κs =
     let contents = c .before .before .before .contents in
     front-few (contents .result) (contents .last .1 .1 .0) (contents .ensures .1) (contents .ensures .2)
 
--- src/lib.rt:193:28
+-- &markers[..n]
 slice-aggregate-first-lone : tie.Need-slice-aggregate-first-lone
 slice-aggregate-first-lone c =
     let contents = c .before .before .before .before .before .before .contents in
     sym (front-length (contents .result) (contents .last .1 .1 .0) (contents .ensures .1) (contents .ensures .2))
 
--- src/lib.rt:193:38
+-- &bars[..n]
 slice-aggregate-first-lone-2 : tie.Need-slice-aggregate-first-lone-2
 slice-aggregate-first-lone-2 c =
     let contents = c .before .before .before .before .before .before .before .contents in
     let bar-keys = c .before .before .before .bar-keys in
     sym (front-length (contents .result) (bar-keys .last .1 .1 .0) (contents .ensures .1) (bar-keys .ensures .1))
 
--- src/lib.rt:193:5
+-- nesting::first_lone(t, &markers[..n], &bars[..n])
 first-lone-requires : tie.Need-first-lone-requires
 first-lone-requires c κs =
     let after-contents = c .before .before .before .before .before .before .before in
@@ -48,18 +48,18 @@ pub lone-in-contents-spec : {M : Type 1} → statement M
 lone-in-contents-spec =
     tie.close
     (tie.spec
-    -- by search: slice-aggregate-contents 191:41, contents-requires 191:9, array-share-prefix-os 192:27
+    -- by search: slice-aggregate-contents, contents-requires, array-share-prefix-os
     (λ c. search needs) (λ c κs. search needs) (λ c. search needs)
     slice-aggregate-bar-keys
-    -- by search: slice-aggregate-bar-keys-2 192:37
+    -- by search: slice-aggregate-bar-keys-2
     (λ c. search needs)
     bar-keys-requires
-    -- by search: array-share-prefix-os-2 193:28
+    -- by search: array-share-prefix-os-2
     (λ c. search needs)
     slice-aggregate-first-lone
-    -- by search: array-share-prefix-bars 193:38
+    -- by search: array-share-prefix-bars
     (λ c. search needs)
     slice-aggregate-first-lone-2
     first-lone-requires
-    -- by search: returns 185:1
+    -- by search: returns
     (λ c. search needs))

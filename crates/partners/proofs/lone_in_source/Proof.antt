@@ -18,7 +18,7 @@ Inv-loop markers keys best₀ i₀ best i =
 abbrev μ-loop : tie.MeasureT-loop
 μ-loop markers keys best₀ i₀ best i = length markers - i
 
--- src/lib.rt:112:5
+-- the loop's step
 loop-again : tie.Need-loop-again Inv-loop μ-loop
 loop-again c =
     let after-loop = c .before .before .before .before .before in
@@ -34,7 +34,7 @@ loop-again c =
           (wide .ensures .0) (c .lower-if .ensures),
     )
 
--- src/lib.rt:106:1
+-- best
 returns : tie.Need-returns Inv-loop μ-loop
 returns c =
     let start = c .before .before .before .before in
@@ -49,8 +49,8 @@ lone-in-source-spec =
     (tie.spec
     Inv-loop
     μ-loop
-    -- by one step: loop-holds 112:5, lone-s-requires 113:34, mul-wide 113:67, shared-slice-read-wide 113:67,
-    -- wide-requires 113:55, lower-if-requires 113:9, add-i 114:9, loop-less 112:5
+    -- by one step: loop-holds, lone-s-requires, mul-wide, shared-slice-read-wide,
+    -- wide-requires, lower-if-requires, add-i, loop-less
     (λ c. (search needs, refl)) (λ c κs. search needs) (λ c. search needs) (λ c. search needs)
     (λ c κs. search needs) (λ c κs. search needs) (λ c. search needs) (λ c. search needs)
     loop-again

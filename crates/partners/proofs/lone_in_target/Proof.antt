@@ -20,11 +20,11 @@ Inv-loop markers keys bars stack₀ best₀ i₀ stack best i =
 abbrev μ-loop : tie.MeasureT-loop
 μ-loop markers keys bars stack₀ best₀ i₀ stack best i = length markers - i
 
--- src/lib.rt:173:5
+-- the loop's start
 loop-holds : tie.Need-loop-holds Inv-loop μ-loop
 loop-holds c = (search needs, search needs, refl)
 
--- src/lib.rt:173:5
+-- the loop's step
 loop-again : tie.Need-loop-again Inv-loop μ-loop
 loop-again c =
     let after-loop-test = c .before .before .before .before .before .before in
@@ -42,7 +42,7 @@ loop-again c =
           (stays-lone .ensures .0) (wide .ensures .0) (c .lower-if .ensures),
     )
 
--- src/lib.rt:166:1
+-- best
 returns : tie.Need-returns Inv-loop μ-loop
 returns c =
     let start = c .before .before .before .before .before in
@@ -59,8 +59,8 @@ lone-in-target-spec =
     Inv-loop
     μ-loop
     loop-holds
-    -- by search: slice-aggregate-stays-lone 175:37, stays-lone-requires 175:13, mul-wide 177:25,
-    -- shared-slice-read-wide 177:25, wide-requires 177:13, lower-if-requires 174:9, add-i 179:9, loop-less 173:5
+    -- by search: slice-aggregate-stays-lone, stays-lone-requires, mul-wide,
+    -- shared-slice-read-wide, wide-requires, lower-if-requires, add-i, loop-less
     (λ c. search needs) (λ c κs. search needs) (λ c. search needs) (λ c. search needs) (λ c κs. search needs)
     (λ c κs. search needs) (λ c. search needs) (λ c. search needs)
     loop-again

@@ -8,7 +8,7 @@ use borrow.Author.Needs.{needs}
 use Rattle.partners.proofs.lone_in_targets.Statement.{statement}
 use Rattle.partners.proofs.lone_in_targets.Tie as tie
 
--- src/lib.rt:223:1
+-- start
 returns-2 : tie.Need-returns-2
 returns-2 c =
     let args = c .before .before .before .before .before .args in
@@ -22,6 +22,6 @@ pub lone-in-targets-spec : {M : Type 1} → statement M
 lone-in-targets-spec =
     tie.close
     (tie.spec
-    -- by search: any-lone-requires 227:8, lone-by-source-requires 228:9, returns 228:9
+    -- by search: any-lone-requires, lone-by-source-requires, returns
     (λ c κs. search needs) (λ c κs. search needs) (λ c. search needs)
     returns-2)

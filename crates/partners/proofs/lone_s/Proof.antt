@@ -11,13 +11,13 @@ use borrow.Author.Needs.{needs}
 use Rattle.partners.proofs.lone_s.Statement.{statement}
 use Rattle.partners.proofs.lone_s.Tie as tie
 
--- src/lib.rt:58:9
+-- return false
 returns : tie.Need-returns
 returns c =
     sym
     (lone-not _ _ _ (rw (c .before .before .half-of .ensures, c .before .is-form-p .ensures) at (c .if1 .taken)))
 
--- src/lib.rt:61:9
+-- return !partner_after(&keys[i + 1..], k)
 returns-2 : tie.Need-returns-2
 returns-2 c =
     let after-is-form-p = c .before .before .before .before .before in
@@ -33,13 +33,13 @@ returns-2 c =
     (rw (half-of2 .ensures) at (eq-eqb _ _ (c .before .before .if2 .taken)))
     ∙ ap not (sym (simp tail-is at (c .partner-after .ensures))))
 
--- src/lib.rt:63:21
+-- &keys[..i]
 slice-aggregate-partner-before : tie.Need-slice-aggregate-partner-before
 slice-aggregate-partner-before c =
     let args = c .before .before .before .before .before .before .before .before .args in
     omega (arith, length-take (args .i) (args .keys .now))
 
--- src/lib.rt:52:1
+-- !partner_before(&keys[..i], k)
 returns-3 : tie.Need-returns-3
 returns-3 c =
     let after-is-form-p = c .before .before .before .before .before in
@@ -59,16 +59,16 @@ pub lone-s-spec : {M : Type 1} → statement M
 lone-s-spec =
     tie.close
     (tie.spec
-    -- by search: mul-k 56:13, shared-slice-read-k 56:13, half-of-requires 57:9, is-form-p-requires 57:34
+    -- by search: mul-k, shared-slice-read-k, half-of-requires, is-form-p-requires
     (λ c. search needs) (λ c. search needs) (λ c κs. search needs) (λ c κs. search needs)
     returns
-    -- by search: half-of-requires-2 60:8, add-partner-after 61:35, mul-partner-after 61:31,
-    -- sub-partner-after 61:31, part-partner-after-start 61:31, part-partner-after-end 61:31,
-    -- partner-after-requires 61:17
+    -- by search: half-of-requires-2, add-partner-after, mul-partner-after,
+    -- sub-partner-after, part-partner-after-start, part-partner-after-end,
+    -- partner-after-requires
     (λ c κs. search needs) (λ c. search needs) (λ c. search needs) (λ c. search needs) (λ c. search needs)
     (λ c. search needs) (λ c κs. search needs)
     returns-2
     slice-aggregate-partner-before
-    -- by search: partner-before-requires 63:6
+    -- by search: partner-before-requires
     (λ c κs. search needs)
     returns-3)

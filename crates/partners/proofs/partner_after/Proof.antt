@@ -13,7 +13,7 @@ Inv-loop keys k i₀ i = (i ≤ length keys) × (partnerSKey k keys ≡ partnerS
 abbrev μ-loop : tie.MeasureT-loop
 μ-loop keys k i₀ i = length keys - i
 
--- src/lib.rt:29:13
+-- return keys::is_other(k, y)
 returns : tie.Need-returns Inv-loop μ-loop
 returns c =
     let after-loop-test = c .before .before .before .before .before in
@@ -26,7 +26,7 @@ returns c =
     ∙ after-met (args .k) (args .keys .now) (loop .i) (loop-test .taken)
     (rw (alike .ensures, c .before .before .is-form-p .ensures) at (c .before .if1 .taken)))
 
--- src/lib.rt:26:5
+-- the loop's step
 loop-again : tie.Need-loop-again Inv-loop μ-loop
 loop-again c =
     let after-loop = c .before .before .before .before .before in
@@ -39,7 +39,7 @@ loop-again c =
           (rw (c .before .before .alike .ensures, c .before .is-form-p .ensures) at (c .if1 .left)),
     )
 
--- src/lib.rt:22:1
+-- false
 returns-2 : tie.Need-returns-2 Inv-loop μ-loop
 returns-2 c =
     let args = c .before .before .before .args in
@@ -52,12 +52,12 @@ partner-after-spec =
     (tie.spec
     Inv-loop
     μ-loop
-    -- by one step: loop-holds 26:5, mul-y 27:17, shared-slice-read-y 27:17, alike-requires 28:12,
-    -- is-form-p-requires 28:33, is-other-requires 29:13
+    -- by one step: loop-holds, mul-y, shared-slice-read-y, alike-requires,
+    -- is-form-p-requires, is-other-requires
     (λ c. (search needs, refl)) (λ c. search needs) (λ c. search needs) (λ c κs. search needs)
     (λ c κs. search needs) (λ c κs. search needs)
     returns
-    -- by search: add-i 31:9, loop-less 26:5
+    -- by search: add-i, loop-less
     (λ c. search needs) (λ c. search needs)
     loop-again
     returns-2)

@@ -16,7 +16,7 @@ Inv-loop keys k i₀ i = (i ≤ length keys) × (partnerSKey k (reverse keys) �
 abbrev μ-loop : tie.MeasureT-loop
 μ-loop keys k i₀ i = i
 
--- src/lib.rt:41:5
+-- the loop's start
 loop-holds : tie.Need-loop-holds Inv-loop μ-loop
 loop-holds c =
     let args = c .before .args in
@@ -25,7 +25,7 @@ loop-holds c =
       ap (λ (l : List ℕ). partnerSKey (args .k) (reverse l)) (sym (take-all (length keys) keys (omega arith))),
     )
 
--- src/lib.rt:45:13
+-- return keys::is_other(k, y)
 returns : tie.Need-returns Inv-loop μ-loop
 returns c =
     let after-loop-test = c .before .before .before .before .before in
@@ -38,7 +38,7 @@ returns c =
     ∙ before-met (args .k) (args .keys .now) (loop .i) (loop-test .taken) (loop .inv .0)
     (rw (alike .ensures, c .before .before .is-form-p .ensures) at (c .before .if1 .taken)))
 
--- src/lib.rt:41:5
+-- the loop's step
 loop-again : tie.Need-loop-again Inv-loop μ-loop
 loop-again c =
     let after-loop = c .before .before .before .before .before in
@@ -51,7 +51,7 @@ loop-again c =
           (rw (c .before .before .alike .ensures, c .before .is-form-p .ensures) at (c .if1 .left)),
     )
 
--- src/lib.rt:37:1
+-- false
 returns-2 : tie.Need-returns-2 Inv-loop μ-loop
 returns-2 c =
     let args = c .before .before .before .args in
@@ -65,12 +65,12 @@ partner-before-spec =
     Inv-loop
     μ-loop
     loop-holds
-    -- by search: sub-i 42:9, mul-y 43:17, shared-slice-read-y 43:17, alike-requires 44:12,
-    -- is-form-p-requires 44:33, is-other-requires 45:13
+    -- by search: sub-i, mul-y, shared-slice-read-y, alike-requires,
+    -- is-form-p-requires, is-other-requires
     (λ c. search needs) (λ c. search needs) (λ c. search needs) (λ c κs. search needs) (λ c κs. search needs)
     (λ c κs. search needs)
     returns
-    -- by search: loop-less 41:5
+    -- by search: loop-less
     (λ c. search needs)
     loop-again
     returns-2)

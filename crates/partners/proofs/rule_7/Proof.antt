@@ -5,20 +5,20 @@ use borrow.Author.Needs.{needs}
 use Rattle.partners.proofs.rule_7.Statement.{statement}
 use Rattle.partners.proofs.rule_7.Tie as tie
 
--- src/lib.rt:242:9
+-- lone_in_source(source_markers, source_keys, lone_in_contents(t))
 lone-in-source-requires : tie.Need-lone-in-source-requires
 lone-in-source-requires c κs =
     let start = c .before .before .before .before .before .before in
     ap length (start .pre .2) ∙ keys-length (start .args .t .now) (start .args .source-markers .now)
 
--- src/lib.rt:238:5
+-- lone_in_targets(t, target_markers, target_keys, lone_in_source(source_markers, source_keys, lone_in_contents ..
 lone-in-targets-requires : tie.Need-lone-in-targets-requires
 lone-in-targets-requires c κs =
     let start = c .before .before .before .before .before .before .before in
     let pre = start .pre in
     (pre .0, pre .7, ap length (pre .4) ∙ keys-length (start .args .t .now) (start .args .target-markers .now))
 
--- src/lib.rt:234:1
+-- lone_in_targets(t, target_markers, target_keys, lone_in_source(source_markers, source_keys, lone_in_contents ..
 returns : tie.Need-returns
 returns c =
     let start = c .before .before .before .before .before .before .before .before in
@@ -34,7 +34,7 @@ pub rule-7-spec : {M : Type 1} → statement M
 rule-7-spec =
     tie.close
     (tie.spec
-    -- by search: lone-in-contents-requires 242:36
+    -- by search: lone-in-contents-requires
     (λ c κs. search needs)
     lone-in-source-requires
     lone-in-targets-requires

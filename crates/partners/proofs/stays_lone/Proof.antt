@@ -5,12 +5,12 @@ use borrow.Author.Needs.{needs}
 use Rattle.partners.proofs.stays_lone.Statement.{statement}
 use Rattle.partners.proofs.stays_lone.Tie as tie
 
--- src/lib.rt:156:9
+-- return false
 returns : tie.Need-returns
 unfolding loneInTarget
 returns c = (simp (sym (c .before .lone-s .ensures) ∙ not-true _ (c .if1 .taken)), search needs)
 
--- src/lib.rt:159:9
+-- return true
 returns-2 : tie.Need-returns-2
 unfolding loneInTarget
 returns-2 c =
@@ -22,7 +22,7 @@ returns-2 c =
       search needs,
     )
 
--- src/lib.rt:151:1
+-- !waits_for(keys[i], bars, stack)
 returns-3 : tie.Need-returns-3
 unfolding loneInTarget
 returns-3 c =
@@ -44,13 +44,13 @@ unfolding loneInTarget
 stays-lone-spec =
     tie.close
     (tie.spec
-    -- by search: lone-s-requires 155:9
+    -- by search: lone-s-requires
     (λ c κs. search needs)
     returns
-    -- by search: only-half-requires 158:9
+    -- by search: only-half-requires
     (λ c κs. search needs)
     returns-2
-    -- by search: mul-waits-for 161:16, shared-slice-read-waits-for 161:16, waits-for-requires 161:6,
-    -- same-length 151:1
+    -- by search: mul-waits-for, shared-slice-read-waits-for, waits-for-requires,
+    -- same-length
     (λ c. search needs) (λ c. search needs) (λ c κs. search needs) (λ c. search needs)
     returns-3)

@@ -7,19 +7,18 @@ use borrow.Author.Needs.{needs}
 use Rattle.partners.proofs.waits.Statement.{statement}
 use Rattle.partners.proofs.waits.Tie as tie
 
--- src/lib.rt:126:9
 returns : tie.Need-returns
 unfolding waitsKey
 returns c = (simp (sym (c .before .is-other .ensures) ∙ not-true _ (c .if1 .taken)), search needs)
 
--- src/lib.rt:129:9
+-- return false
 returns-2 : tie.Need-returns-2
 unfolding waitsKey
 returns-2 c =
     let is-lone = c .before .before .before .is-lone in
     (simp (sym (is-lone .ensures .0) ∙ c .if2 .taken, and-false), search needs)
 
--- src/lib.rt:121:1
+-- !lone_s(bars, i) & !is_targeted(&bars[i + 1..])
 returns-3 : tie.Need-returns-3
 unfolding waitsKey
 returns-3 c =
@@ -43,14 +42,14 @@ unfolding waitsKey
 waits-spec =
     tie.close
     (tie.spec
-    -- by search: mul-is-other 125:27, shared-slice-read-is-other 125:27, is-other-requires 125:9
+    -- by search: mul-is-other, shared-slice-read-is-other, is-other-requires
     (λ c. search needs) (λ c. search needs) (λ c κs. search needs)
     returns
-    -- by search: is-lone-requires 128:8, same-length 129:9
+    -- by search: is-lone-requires, same-length
     (λ c κs. search needs) (λ c. search needs)
     returns-2
-    -- by search: lone-s-requires 131:6, add-is-targeted 131:43, mul-is-targeted 131:37, sub-is-targeted 131:37,
-    -- part-is-targeted-start 131:37, part-is-targeted-end 131:37, is-targeted-requires 131:25, same-length-2 121:1
+    -- by search: lone-s-requires, add-is-targeted, mul-is-targeted, sub-is-targeted,
+    -- part-is-targeted-start, part-is-targeted-end, is-targeted-requires, same-length-2
     (λ c κs. search needs) (λ c. search needs) (λ c. search needs) (λ c. search needs) (λ c. search needs)
     (λ c. search needs) (λ c κs. search needs) (λ c. search needs)
     returns-3)

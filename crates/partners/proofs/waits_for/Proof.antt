@@ -18,11 +18,11 @@ Inv-loop x bars stack₀ i₀ stack i =
 abbrev μ-loop : tie.MeasureT-loop
 μ-loop x bars stack₀ i₀ stack i = length bars - i
 
--- src/lib.rt:140:5
+-- the loop's start
 loop-holds : tie.Need-loop-holds Inv-loop μ-loop
 loop-holds c = (search needs, search needs, refl)
 
--- src/lib.rt:142:13
+-- return true
 returns : tie.Need-returns Inv-loop μ-loop
 returns c =
     let after-loop-test = c .before .before .before .before .before in
@@ -36,7 +36,7 @@ returns c =
       search needs,
     )
 
--- src/lib.rt:140:5
+-- the loop's step
 loop-again : tie.Need-loop-again Inv-loop μ-loop
 loop-again c =
     let after-loop-test = c .before .before .before .before .before in
@@ -51,7 +51,7 @@ loop-again c =
           (sym (waits-call .ensures .0) ∙ c .if1 .left),
     )
 
--- src/lib.rt:135:1
+-- false
 returns-2 : tie.Need-returns-2 Inv-loop μ-loop
 returns-2 c =
     let args = c .before .before .before .before .args in
@@ -65,12 +65,12 @@ waits-for-spec =
     Inv-loop
     μ-loop
     loop-holds
-    -- by search: waits-requires 141:12, same-length 142:13
+    -- by search: waits-requires, same-length
     (λ c κs. search needs) (λ c. search needs)
     returns
-    -- by search: add-i 144:9, loop-less 140:5
+    -- by search: add-i, loop-less
     (λ c. search needs) (λ c. search needs)
     loop-again
-    -- by search: same-length-2 135:1
+    -- by search: same-length-2
     (λ c. search needs)
     returns-2)

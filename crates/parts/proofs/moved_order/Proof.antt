@@ -3,19 +3,19 @@ use borrow.Author.Needs.{needs}
 use Rattle.parts.proofs.moved_order.Statement.{statement}
 use Rattle.parts.proofs.moved_order.Tie as tie
 
--- src/lib.rt:13:9
+-- return n
 returns : tie.Need-returns
 returns c =
     let args = c .before .args in
     moved-below (args .up) (args .q) (args .n) (c .if1 .taken)
 
--- src/lib.rt:16:9
+-- return n + 1
 returns-2 : tie.Need-returns-2
 returns-2 c =
     let args = c .before .before .args in
     moved-up (args .up) (args .q) (args .n) (c .if2 .taken) (c .before .if1 .left)
 
--- src/lib.rt:8:1
+-- n - 1
 returns-3 : tie.Need-returns-3
 returns-3 c =
     let args = c .before .before .args in
@@ -26,9 +26,9 @@ moved-order-spec =
     tie.close
     (tie.spec
     returns
-    -- by search: add-result 16:16
+    -- by search: add-result
     (λ c. search needs)
     returns-2
-    -- by search: sub-result 18:5
+    -- by search: sub-result
     (λ c. search needs)
     returns-3)

@@ -11,13 +11,13 @@ use borrow.Author.Needs.{needs}
 use Rattle.parts.proofs.put_record.Statement.{statement}
 use Rattle.parts.proofs.put_record.Tie as tie
 
--- src/lib.rt:26:8
+-- marks::marked_by(t, b"TG")
 marked-by-requires : tie.Need-marked-by-requires
 marked-by-requires c κs =
     let start = c .before .before .before in
     omega (arith, one-least (start .args .t .now) (start .pre .0))
 
--- src/lib.rt:27:57
+-- heads::order_of(t)
 order-of-requires : tie.Need-order-of-requires
 order-of-requires c κs =
     let start = c .before .before .before .before .before .before in
@@ -27,7 +27,7 @@ order-of-requires c κs =
     ∙ sym (c .before .before .marked-by .ensures)
     ∙ c .before .if1 .taken)) (start .args .t .now) e
 
--- src/lib.rt:27:45
+-- moved_order(heads::order_of(t), q, up)
 moved-order-requires : tie.Need-moved-order-requires
 moved-order-requires c κs =
     let start = c .before .before .before .before .before .before .before in
@@ -39,7 +39,7 @@ moved-order-requires c κs =
     ∙ c .before .before .if1 .taken) in
     omega (arith, order-is r b (start .args .t .now) e (c .order-of .result) (c .order-of .ensures), b .small)
 
--- src/lib.rt:27:13
+-- heads::put_target_head(out, moved_order(heads::order_of(t), q, up))
 put-target-head-requires : tie.Need-put-target-head-requires
 put-target-head-requires c κs =
     let start = c .before .before .before .before .before .before .before .before in
@@ -53,7 +53,7 @@ put-target-head-requires c κs =
     (start .args .t .now) e (order-of .result) (order-of .ensures) (c .moved-order .result) (start .args .out .now)
     (pre .1)
 
--- src/lib.rt:22:1
+-- let n = heads::put_target_head(out, moved_order(heads::order_of(t), q, up));
 returns : tie.Need-returns
 returns c =
     let after-if1 = c .before .before .before .before .before .before in
@@ -69,7 +69,7 @@ returns c =
     (order-of .result) (order-of .ensures) (moved (args .up) (args .q)) (moved-order .result) (moved-order .ensures)
     (args .out .now) (put-target-head .last .0) (put-target-head .result) (put-target-head .ensures)
 
--- src/lib.rt:22:1
+-- let n = writer::put(out, t);
 returns-2 : tie.Need-returns-2
 returns-2 c =
     let after-marked-by = c .before .before .before .before .before in
@@ -90,9 +90,9 @@ put-record-spec =
     order-of-requires
     moved-order-requires
     put-target-head-requires
-    -- by search: put-requires 29:13, same-length 22:1
+    -- by search: put-requires, same-length
     (λ c κs. search needs) (λ c. search needs)
     returns
-    -- by search: same-length-2 22:1
+    -- by search: same-length-2
     (λ c. search needs)
     returns-2)

@@ -23,7 +23,6 @@ remove-found-requires c κs =
       c .before .part-at .ensures,
     )
 
--- Answer::Refused(k, at) => Answer::Refused(k, at)
 returns-2 : tie.Need-returns-2
 unfolding remove-target
 returns-2 c =

@@ -6,7 +6,7 @@ use borrow.Author.Needs.{needs}
 use Rattle.removed_target.proofs.put_removed.Statement.{statement}
 use Rattle.removed_target.proofs.put_removed.Tie as tie
 
--- src/lib.rt:30:25
+-- &mut out[n..]
 sub-put : tie.Need-sub-put
 sub-put c =
     let start = c .before .before .before .before .before .before in
@@ -19,7 +19,7 @@ sub-put c =
     second-start (table-pieces-without t b p a place s) out (removed-room t b p a place s out room)
     (c .before .before .put-to-source .ensures b p a s)
 
--- src/lib.rt:30:25
+-- &mut out[n..]
 part-put-start : tie.Need-part-put-start
 part-put-start c =
     let start = c .before .before .before .before .before .before in
@@ -32,7 +32,7 @@ part-put-start c =
     second-start (table-pieces-without t b p a place s) out (removed-room t b p a place s out room)
     (c .before .before .put-to-source .ensures b p a s)
 
--- src/lib.rt:30:9
+-- writer::put(&mut out[n..], &t[e..])
 put-requires : tie.Need-put-requires
 put-requires c κs =
     let start = c .before .before .before .before .before .before .before .before in
@@ -46,7 +46,7 @@ put-requires c κs =
     second-room (table-pieces-without t b p a place s) out (removed-room t b p a place s out room)
     (put-to-source .ensures b p a s)
 
--- src/lib.rt:31:5
+-- n + m
 add-result : tie.Need-add-result
 add-result c =
     let after-put-to-source = c .before .before .before .before .before .before .before in
@@ -64,7 +64,7 @@ add-result c =
           (put-to-source .ensures b p a s) (c .before .before .put .ensures),
     )
 
--- src/lib.rt:24:1
+-- n + m
 returns : tie.Need-returns
 returns c =
     let after-put-to-source = c .before .before .before .before .before .before .before in
@@ -78,14 +78,14 @@ pub put-removed-spec : {M : Type 1} → statement M
 put-removed-spec =
     tie.close
     (tie.spec
-    -- by search: put-to-source-requires 29:9
+    -- by search: put-to-source-requires
     (λ c κs. search needs)
     sub-put
     part-put-start
-    -- by search: part-put-end 30:25, sub-put-2 30:40, part-put-start-2 30:40, part-put-end-2 30:40
+    -- by search: part-put-end, sub-put-2, part-put-start-2, part-put-end-2
     (λ c. search needs) (λ c. search needs) (λ c. search needs) (λ c. search needs)
     put-requires
     add-result
-    -- by search: same-length 24:1
+    -- by search: same-length
     (λ c. search needs)
     returns)

@@ -7,7 +7,7 @@ use borrow.Author.Needs.{needs}
 use Rattle.removed_target.proofs.put_to_source.Statement.{statement}
 use Rattle.removed_target.proofs.put_to_source.Tie as tie
 
--- src/lib.rt:16:30
+-- &t[..h]
 slice-aggregate-put : tie.Need-slice-aggregate-put
 slice-aggregate-put c =
     let start = c .before .before .before .before in
@@ -15,7 +15,7 @@ slice-aggregate-put c =
     let (b, p, a, s) = st in
     sym (lead-long (start .args .t .now) b p a (start .args .place) s)
 
--- src/lib.rt:16:9
+-- writer::put(out, &t[..h])
 put-requires : tie.Need-put-requires
 put-requires c κs =
     let start = c .before .before .before .before in
@@ -28,7 +28,7 @@ put-requires c κs =
     let (b, p, a, s) = st in
     first-room (source-pieces t b p a place s state) out (source-room t b p a place s state out room)
 
--- src/lib.rt:17:35
+-- &mut out[n..]
 sub-put-with-state : tie.Need-sub-put-with-state
 sub-put-with-state c =
     let start = c .before .before .before .before .before .before .before in
@@ -42,7 +42,7 @@ sub-put-with-state c =
     second-start (source-pieces t b p a place s state) out (source-room t b p a place s state out room)
     (c .before .before .put .ensures)
 
--- src/lib.rt:17:35
+-- &mut out[n..]
 part-put-with-state-start : tie.Need-part-put-with-state-start
 part-put-with-state-start c =
     let start = c .before .before .before .before .before .before .before in
@@ -56,7 +56,7 @@ part-put-with-state-start c =
     second-start (source-pieces t b p a place s state) out (source-room t b p a place s state out room)
     (c .before .before .put .ensures)
 
--- src/lib.rt:17:9
+-- heads::put_with_state(&mut out[n..], &t[h..s], state)
 put-with-state-requires : tie.Need-put-with-state-requires
 put-with-state-requires c κs =
     let start = c .before .before .before .before .before .before .before .before .before in
@@ -72,7 +72,7 @@ put-with-state-requires c κs =
     (second-room (source-pieces t b p a place s state) out (source-room t b p a place s state out room)
     (put .ensures))
 
--- src/lib.rt:18:13
+-- n + m
 add-k : tie.Need-add-k
 add-k c =
     let after-put = c .before .before .before .before .before .before .before in
@@ -91,7 +91,7 @@ add-k c =
           (c .before .before .put-with-state .ensures (p .head) (sym (s .head .is))),
     )
 
--- src/lib.rt:19:25
+-- &mut out[k..]
 sub-put : tie.Need-sub-put
 sub-put c =
     let after-put = c .before .before .before .before .before .before .before in
@@ -107,7 +107,7 @@ sub-put c =
     third-start (source-pieces t b p a place s state) out (source-room t b p a place s state out room)
     (put .ensures) (c .before .before .put-with-state .ensures (p .head) (sym (s .head .is)))
 
--- src/lib.rt:19:25
+-- &mut out[k..]
 part-put-start : tie.Need-part-put-start
 part-put-start c =
     let after-put = c .before .before .before .before .before .before .before in
@@ -123,7 +123,7 @@ part-put-start c =
     third-start (source-pieces t b p a place s state) out (source-room t b p a place s state out room)
     (put .ensures) (c .before .before .put-with-state .ensures (p .head) (sym (s .head .is)))
 
--- src/lib.rt:19:9
+-- writer::put(&mut out[k..], &t[s..g])
 put-requires-2 : tie.Need-put-requires-2
 put-requires-2 c κs =
     let after-put = c .before .before .before .before .before .before .before .before .before in
@@ -140,7 +140,7 @@ put-requires-2 c κs =
     third-room (source-pieces t b p a place s state) out (source-room t b p a place s state out room) (put .ensures)
     (put-with-state .ensures (p .head) (sym (s .head .is)))
 
--- src/lib.rt:20:5
+-- k + i
 add-result : tie.Need-add-result
 add-result c =
     let after-put-with-state = c .before .before .before .before .before .before .before in
@@ -162,7 +162,7 @@ add-result c =
           (c .before .before .put2 .ensures .0),
     )
 
--- src/lib.rt:9:1
+-- k + i
 returns : tie.Need-returns
 returns c =
     let after-put-with-state = c .before .before .before .before .before .before .before in
@@ -182,17 +182,17 @@ put-to-source-spec =
     put-requires
     sub-put-with-state
     part-put-with-state-start
-    -- by search: part-put-with-state-end 17:35, sub-put-with-state-2 17:50, part-put-with-state-start-2 17:50,
-    -- part-put-with-state-end-2 17:50
+    -- by search: part-put-with-state-end, sub-put-with-state-2, part-put-with-state-start-2,
+    -- part-put-with-state-end-2
     (λ c. search needs) (λ c. search needs) (λ c. search needs) (λ c. search needs)
     put-with-state-requires
     add-k
     sub-put
     part-put-start
-    -- by search: part-put-end 19:25, sub-put-2 19:40, part-put-start-2 19:40, part-put-end-2 19:40
+    -- by search: part-put-end, sub-put-2, part-put-start-2, part-put-end-2
     (λ c. search needs) (λ c. search needs) (λ c. search needs) (λ c. search needs)
     put-requires-2
     add-result
-    -- by search: same-length 9:1
+    -- by search: same-length
     (λ c. search needs)
     returns)

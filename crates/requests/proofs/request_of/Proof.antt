@@ -4,11 +4,11 @@ use borrow.Author.Needs.{needs}
 use Rattle.requests.proofs.request_of.Statement.{statement}
 use Rattle.requests.proofs.request_of.Tie as tie
 
--- src/lib.rt:109:9
+-- return Asked::Unreadable
 returns : tie.Need-returns
 returns c = (request-short (c .before .before .args .s .now) (c .if1 .taken), tt)
 
--- src/lib.rt:112:9
+-- return split_of(s)
 returns-2 : tie.Need-returns-2
 returns-2 c =
     let s = c .before .before .before .before .before .before .args .s .now in
@@ -18,7 +18,7 @@ returns-2 c =
       c .split-of .ensures .1,
     )
 
--- src/lib.rt:115:9
+-- return join_of(s)
 returns-3 : tie.Need-returns-3
 returns-3 c =
     let after-marked-by = c .before .before .before .before .before in
@@ -32,7 +32,7 @@ returns-3 c =
       c .join-of .ensures .1,
     )
 
--- src/lib.rt:118:9
+-- return set_of(s)
 returns-4 : tie.Need-returns-4
 returns-4 c =
     let after-marked-by2 = c .before .before .before .before .before in
@@ -49,7 +49,7 @@ returns-4 c =
       c .set-of .ensures .1,
     )
 
--- src/lib.rt:121:9
+-- return remove_of(s)
 returns-5 : tie.Need-returns-5
 returns-5 c =
     let after-marked-by3 = c .before .before .before .before .before in
@@ -69,7 +69,7 @@ returns-5 c =
       c .remove-of .ensures .1,
     )
 
--- src/lib.rt:124:9
+-- return rewrite_of(s)
 returns-6 : tie.Need-returns-6
 returns-6 c =
     let after-marked-by4 = c .before .before .before .before .before in
@@ -93,7 +93,7 @@ returns-6 c =
       c .rewrite-of .ensures .1,
     )
 
--- src/lib.rt:105:1
+-- Asked::Unreadable
 returns-7 : tie.Need-returns-7
 returns-7 c =
     let after-if4 = c .before .before .before .before .before .before in
@@ -119,19 +119,19 @@ request-of-spec =
     tie.close
     (tie.spec
     returns
-    -- by search: marked-by-requires 111:8, split-of-requires 112:9
+    -- by search: marked-by-requires, split-of-requires
     (λ c κs. search needs) (λ c κs. search needs)
     returns-2
-    -- by search: marked-by-requires-2 114:8, join-of-requires 115:9
+    -- by search: marked-by-requires-2, join-of-requires
     (λ c κs. search needs) (λ c κs. search needs)
     returns-3
-    -- by search: marked-by-requires-3 117:8, set-of-requires 118:9
+    -- by search: marked-by-requires-3, set-of-requires
     (λ c κs. search needs) (λ c κs. search needs)
     returns-4
-    -- by search: marked-by-requires-4 120:8, remove-of-requires 121:9
+    -- by search: marked-by-requires-4, remove-of-requires
     (λ c κs. search needs) (λ c κs. search needs)
     returns-5
-    -- by search: marked-by-requires-5 123:8, rewrite-of-requires 124:9
+    -- by search: marked-by-requires-5, rewrite-of-requires
     (λ c κs. search needs) (λ c κs. search needs)
     returns-6
     returns-7)

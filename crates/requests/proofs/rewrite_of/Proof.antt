@@ -5,12 +5,12 @@ use borrow.Author.Needs.{needs}
 use Rattle.requests.proofs.rewrite_of.Statement.{statement}
 use Rattle.requests.proofs.rewrite_of.Tie as tie
 
--- src/lib.rt:99:9
+-- return Asked::Unreadable
 returns : tie.Need-returns
 unfolding two-at
 returns c = (cut-short (c .before .before .args .s .now) 6 _ (c .if1 .taken), tt)
 
--- src/lib.rt:95:1
+-- Asked::Readable(Request::Rewrite(s[2], table::number_at(s, 3), s[5]))
 returns-2 : tie.Need-returns-2
 unfolding two-at
 returns-2 c =
@@ -24,6 +24,6 @@ rewrite-of-spec =
     tie.close
     (tie.spec
     returns
-    -- by search: shared-slice-read-t6 101:38, number-at-requires 101:44, shared-slice-read-t9 101:68
+    -- by search: shared-slice-read-t6, number-at-requires, shared-slice-read-t9
     (λ c. search needs) (λ c κs. search needs) (λ c. search needs)
     returns-2)

@@ -7,12 +7,11 @@ use borrow.Author.Needs.{needs}
 use Rattle.requests.proofs.set_of.Statement.{statement}
 use Rattle.requests.proofs.set_of.Tie as tie
 
--- src/lib.rt:75:9
 returns : tie.Need-returns
 unfolding two-at
 returns c = (set-short (c .before .before .args .s .now) _ (c .if1 .taken), tt)
 
--- src/lib.rt:79:9
+-- return Asked::Unreadable
 returns-2 : tie.Need-returns-2
 unfolding two-at
 returns-2 c =
@@ -24,7 +23,7 @@ returns-2 c =
       tt,
     )
 
--- src/lib.rt:71:1
+-- Asked::Readable(Request::SetTarget(table::number_at(s, 2), s[4], n))
 returns-3 : tie.Need-returns-3
 unfolding two-at
 returns-3 c =
@@ -46,9 +45,9 @@ set-of-spec =
     tie.close
     (tie.spec
     returns
-    -- by search: number-at-requires 77:9, wide-requires 78:22, add-if2 78:18
+    -- by search: number-at-requires, wide-requires, add-if2
     (λ c κs. search needs) (λ c κs. search needs) (λ c. search needs)
     returns-2
-    -- by search: number-at-requires-2 81:40, shared-slice-read-t10 81:64
+    -- by search: number-at-requires-2, shared-slice-read-t10
     (λ c κs. search needs) (λ c. search needs)
     returns-3)

@@ -5,12 +5,12 @@ use borrow.Author.Needs.{needs}
 use Rattle.requests.proofs.split_of.Statement.{statement}
 use Rattle.requests.proofs.split_of.Tie as tie
 
--- src/lib.rt:51:9
+-- return Asked::Unreadable
 returns : tie.Need-returns
 unfolding two-at
 returns c = (cut-short (c .before .before .args .s .now) 10 _ (c .if1 .taken), tt)
 
--- src/lib.rt:47:1
+-- Asked::Readable(Request::Split(part, source, target, id))
 returns-2 : tie.Need-returns-2
 unfolding two-at
 returns-2 c =
@@ -32,7 +32,7 @@ split-of-spec =
     tie.close
     (tie.spec
     returns
-    -- by search: number-at-requires 53:9, number-at-requires-2 54:9, number-at-requires-3 55:9,
-    -- number-at-requires-4 56:9
+    -- by search: number-at-requires, number-at-requires-2, number-at-requires-3,
+    -- number-at-requires-4
     (λ c κs. search needs) (λ c κs. search needs) (λ c κs. search needs) (λ c κs. search needs)
     returns-2)

@@ -11,7 +11,6 @@ rewrite-valid-requires c κs =
     let start = c .before .before .before .before .before in
     accepted-none (start .args .table .now) _ (rw (c .before .enum-told .given .1) at (start .pre))
 
--- Answer::Refused(k, at) => Answer::Refused(k, at)
 returns-2 : tie.Need-returns-2
 unfolding rewrite
 returns-2 c =

@@ -16,7 +16,6 @@ rewrite-pair-requires c κs =
     pair-complete (args .table .now) (args .side) (args .id) (args .form) (pre .0) (found .given .0 .0)
     (found .given .0 .1 .0) (rw (found .given .1) at (pre .1))
 
--- FoundPair::Missing => Answer::Refused(20, 0)
 returns-2 : tie.Need-returns-2
 returns-2 c =
     let start = c .before .before .before .before in

@@ -2,7 +2,7 @@ use borrow.Author.Needs.{needs}
 use Rattle.rewrite_marks.proofs.put_end.Statement.{statement}
 use Rattle.rewrite_marks.proofs.put_end.Tie as tie
 
--- src/lib.rt:48:13
+-- return writer::put_mark(out, at, b"PC")
 returns : tie.Need-returns
 returns c =
     let after-if2 = c .before .before .before .before .before in
@@ -11,7 +11,7 @@ returns c =
     let put-mark = c .before .before .put-mark in
     (put-mark .ensures .0, rw (if1 .taken, if2 .taken) (put-mark .ensures .1))
 
--- src/lib.rt:50:9
+-- return writer::put_mark(out, at, b"EC")
 returns-2 : tie.Need-returns-2
 returns-2 c =
     let after-if2 = c .before .before .before .before .before in
@@ -20,7 +20,7 @@ returns-2 c =
     let put-mark2 = c .before .before .put-mark2 in
     (put-mark2 .ensures .0, rw (if1 .taken, if2 .left) (put-mark2 .ensures .1))
 
--- src/lib.rt:53:9
+-- return writer::put_mark(out, at, b"MC")
 returns-3 : tie.Need-returns-3
 returns-3 c =
     let after-if3 = c .before .before .before .before .before in
@@ -29,7 +29,7 @@ returns-3 c =
     let put-mark3 = c .before .before .put-mark3 in
     (put-mark3 .ensures .0, rw (if1 .left, if3 .taken) (put-mark3 .ensures .1))
 
--- src/lib.rt:42:1
+-- writer::put_mark(out, at, b"EM")
 returns-4 : tie.Need-returns-4
 returns-4 c =
     let after-if3 = c .before .before .before .before .before in
@@ -42,15 +42,15 @@ pub put-end-spec : {M : Type 1} → statement M
 put-end-spec =
     tie.close
     (tie.spec
-    -- by search: put-mark-requires 48:13, same-length 48:13
+    -- by search: put-mark-requires, same-length
     (λ c κs. search needs) (λ c. search needs)
     returns
-    -- by search: put-mark-requires-2 50:9, same-length-2 50:9
+    -- by search: put-mark-requires-2, same-length-2
     (λ c κs. search needs) (λ c. search needs)
     returns-2
-    -- by search: put-mark-requires-3 53:9, same-length-3 53:9
+    -- by search: put-mark-requires-3, same-length-3
     (λ c κs. search needs) (λ c. search needs)
     returns-3
-    -- by search: put-mark-requires-4 55:5, same-length-4 42:1
+    -- by search: put-mark-requires-4, same-length-4
     (λ c κs. search needs) (λ c. search needs)
     returns-4)

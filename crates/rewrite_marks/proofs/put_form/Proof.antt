@@ -4,7 +4,7 @@ use borrow.Author.Needs.{needs}
 use Rattle.rewrite_marks.proofs.put_form.Statement.{statement}
 use Rattle.rewrite_marks.proofs.put_form.Tie as tie
 
--- src/lib.rt:77:17, the mark of a half of the id
+-- the mark of a half of the id
 returns : tie.Need-returns
 returns c =
     let put = c .before .before in
@@ -18,7 +18,7 @@ returns c =
     formed-half (args .inside) (args .id) (args .p) x (args .out .now) (args .at) (key .result) (half .result) (key .ensures) (half .ensures)
     (class .class-of .result) (put .put-half .last .0) (class .class-of .ensures) (outer .if1 .taken) (test .if2 .taken) (put .put-half .ensures .1)
 
--- src/lib.rt:76:9, an item that is no half of the id
+-- an item that is no half of the id
 returns-2 : tie.Need-returns-2
 returns-2 c =
     let half = c .before .half-of in
@@ -27,7 +27,7 @@ returns-2 c =
     let x = item-at (args .t .now) (args .at) in
     formed-none (args .inside) (args .id) (args .p) x (args .out .now) (args .at) (key .result) (half .result) (key .ensures) (half .ensures) (c .if2 .left)
 
--- src/lib.rt:73:5, an item outside the contents of the side
+-- an item outside the contents of the side
 returns-3 : tie.Need-returns-3
 returns-3 c =
     let args = c .before .before .before .args in
@@ -37,7 +37,7 @@ pub put-form-spec : {M : Type 1} → statement M
 put-form-spec =
     tie.close
     (tie.spec
-    -- by search: key-at-requires 74:13, half-of-requires 75:13, class-of-requires 77:39, put-half-requires 77:17, same-length 69:1
+    -- by search: key-at-requires, half-of-requires, class-of-requires, put-half-requires, same-length
     (λ c κs. search needs) (λ c κs. search needs) (λ c κs. search needs) (λ c κs. search needs) (λ c. search needs)
     returns
     returns-2

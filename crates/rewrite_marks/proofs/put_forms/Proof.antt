@@ -13,14 +13,14 @@ Inv-loop out₀ t source id p at₀ inside₀ out at inside = Written id p t sou
 abbrev μ-loop : tie.MeasureT-loop
 μ-loop out₀ t source id p at₀ inside₀ out at inside = length t - at
 
--- src/lib.rt:89:5, while at < t.len()
+-- the loop's start: while at < t.len()
 loop-holds : tie.Need-loop-holds Inv-loop μ-loop
 loop-holds c =
     let start = c .before .before in
     let args = start .args in
     written-start (args .id) (args .p) (args .t .now) (args .source) (args .out .now) (start .pre .0) (start .pre .1)
 
--- src/lib.rt:91:9, put_form(out, t, at, inside, id, p);
+-- put_form(out, t, at, inside, id, p): put_form(out, t, at, inside, id, p);
 put-form-requires : tie.Need-put-form-requires Inv-loop μ-loop
 put-form-requires c κs =
     let call = c .before in
@@ -36,7 +36,7 @@ put-form-requires c κs =
       two-left (args .id) (args .p) t (args .source) (args .out .now) (loop .at) (loop .inside) (loop .out) (loop .inv) (v .step),
     )
 
--- src/lib.rt:93:9, at += g.width;
+-- at += g.width: at += g.width;
 add-at : tie.Need-add-at Inv-loop μ-loop
 add-at c =
     let call = c .before .before .before .before .before .before in
@@ -45,7 +45,7 @@ add-at c =
     let v = walked t (loop .at) (loop .inv .left) (call .glance-at .result) (loop .inv .here) (call .before .loop-test .taken) (call .glance-at .ensures) in
     omega (arith, v .fits)
 
--- src/lib.rt:89:5, while at < t.len()
+-- the loop ends: while at < t.len()
 loop-less : tie.Need-loop-less Inv-loop μ-loop
 loop-less c =
     let call = c .before .before .before .before .before .before in
@@ -54,7 +54,7 @@ loop-less c =
     let v = walked t (loop .at) (loop .inv .left) (call .glance-at .result) (loop .inv .here) (call .before .loop-test .taken) (call .glance-at .ensures) in
     omega (arith, v .fits, v .moves)
 
--- src/lib.rt:89:5, while at < t.len()
+-- the loop's step: while at < t.len()
 loop-again : tie.Need-loop-again Inv-loop μ-loop
 loop-again c =
     let form = c .before .before .before .before .put-form in
@@ -67,7 +67,7 @@ loop-again c =
     rw (c .before .inside-of .ensures)
     (written-on (args .id) (args .p) t (args .source) (args .out .now) (loop .at) (loop .inside) (loop .out) (loop .inv) g v (form .last .0) (form .ensures))
 
--- src/lib.rt:83:1, the output keeps its length
+-- the end: the output keeps its length
 same-length : tie.Need-same-length Inv-loop μ-loop
 same-length c =
     let loop = c .before .loop in
@@ -75,7 +75,7 @@ same-length c =
     let args = start .args in
     written-length (args .id) (args .p) (args .t .now) (args .source) (args .out .now) (loop .at) (loop .inside) (loop .out) (loop .inv) (start .pre .2)
 
--- src/lib.rt:83:1, at the end all marks are written
+-- the end: at the end all marks are written
 returns : tie.Need-returns Inv-loop μ-loop
 returns c =
     let loop = c .before .loop in
@@ -89,10 +89,10 @@ put-forms-spec =
     Inv-loop
     μ-loop
     loop-holds
-    -- glance-at-requires 90:13: the table is lent
+    -- glance-at-requires: the table is lent
     (λ c κs. search needs)
     put-form-requires
-    -- inside-of-requires 92:9: nothing is asked
+    -- inside-of-requires: nothing is asked
     (λ c κs. search needs)
     add-at
     loop-less

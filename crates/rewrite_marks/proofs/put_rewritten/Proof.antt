@@ -7,7 +7,7 @@ use borrow.Author.Needs.{needs}
 use Rattle.rewrite_marks.proofs.put_rewritten.Statement.{statement}
 use Rattle.rewrite_marks.proofs.put_rewritten.Tie as tie
 
--- src/lib.rt:103:5
+-- put_forms(out, t, side == b'S', id as u32, form == b'P')
 put-forms-requires : tie.Need-put-forms-requires
 put-forms-requires c κs =
     let start = c .before .before .before .before .before .before .before in
@@ -18,7 +18,7 @@ put-forms-requires c κs =
       omega (arith, pre .1, put .kept .0),
     )
 
--- src/lib.rt:98:1
+-- n
 returns : tie.Need-returns
 returns c =
     let after-put = c .before .before .before .before .before .before in
@@ -40,9 +40,9 @@ pub put-rewritten-spec : {M : Type 1} → statement M
 put-rewritten-spec =
     tie.close
     (tie.spec
-    -- by search: put-requires 102:9
+    -- by search: put-requires
     (λ c κs. search needs)
     put-forms-requires
-    -- by search: same-length 98:1
+    -- by search: same-length
     (λ c. search needs)
     returns)

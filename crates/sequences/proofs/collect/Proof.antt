@@ -21,7 +21,7 @@ Inv-loop t heads orders q out₀ n m₀ i₀ out m i =
 abbrev μ-loop : tie.MeasureT-loop
 μ-loop t heads orders q out₀ n m₀ i₀ out m i = length heads - i
 
--- src/lib.rt:131:5
+-- the loop's start
 loop-holds : tie.Need-loop-holds Inv-loop μ-loop
 loop-holds c =
     let args = c .before .before .before .before .args in
@@ -32,7 +32,7 @@ loop-holds c =
       count = omega (arith, ap length e);
     }
 
--- src/lib.rt:132:9
+-- markers_of(t, heads, orders, i, q, out, m)
 markers-of-requires : tie.Need-markers-of-requires Inv-loop μ-loop
 markers-of-requires c κs =
     let start = c .before .before .before .before .before .before .before in
@@ -53,7 +53,7 @@ markers-of-requires c κs =
       pre .6,
     )
 
--- src/lib.rt:131:5
+-- the loop's step
 loop-again : tie.Need-loop-again Inv-loop μ-loop
 loop-again c =
     let after-loop = c .before .before .before .before .before in
@@ -67,11 +67,11 @@ loop-again c =
     let e = heads-more t (args .heads .now) (loop .i) (pre .0) (pre .2) (loop-test .taken) q in
     fill-on (of-order q (head-number t (loop .i))) _ (loop .inv) e (c .before .before .markers-of .ensures)
 
--- src/lib.rt:125:1
+-- m
 same-length : tie.Need-same-length Inv-loop μ-loop
 same-length c = c .before .loop .inv .sized
 
--- src/lib.rt:125:1
+-- m
 returns : tie.Need-returns Inv-loop μ-loop
 returns c =
     let start = c .before .before .before .before .before .before in
@@ -89,7 +89,7 @@ collect-spec =
     μ-loop
     loop-holds
     markers-of-requires
-    -- by search: add-i 133:9, loop-less 131:5
+    -- by search: add-i, loop-less
     (λ c. search needs) (λ c. search needs)
     loop-again
     same-length

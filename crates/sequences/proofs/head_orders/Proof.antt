@@ -14,11 +14,11 @@ Inv-loop t heads out₀ i₀ out i = (i ≤ length heads) × (length out ≡ len
 abbrev μ-loop : tie.MeasureT-loop
 μ-loop t heads out₀ i₀ out i = length heads - i
 
--- src/lib.rt:98:5
+-- the loop's start
 loop-holds : tie.Need-loop-holds Inv-loop μ-loop
 loop-holds c = (omega arith, refl, λ k l. absurd (omega arith))
 
--- src/lib.rt:100:9
+-- out[i] = g.order
 slice-write-out : tie.Need-slice-write-out Inv-loop μ-loop
 slice-write-out c =
     let pre = c .before .before .before .before .before .before .before .before .pre in
@@ -26,7 +26,7 @@ slice-write-out c =
     let loop-test = c .before .before .before .loop-test in
     omega (arith, loop-test .taken, pre .2, loop .inv .1)
 
--- src/lib.rt:98:5
+-- the loop's step
 loop-again : tie.Need-loop-again Inv-loop μ-loop
 loop-again c =
     let start = c .before .before .before .before .before .before .before .before in
@@ -45,11 +45,11 @@ loop-again c =
           (wide .ensures .0) (c .glance-at .result) (c .glance-at .ensures) .order),
     )
 
--- src/lib.rt:93:1
+-- the end
 same-length : tie.Need-same-length Inv-loop μ-loop
 same-length c = c .before .loop .inv .1
 
--- src/lib.rt:93:1
+-- the end
 returns : tie.Need-returns Inv-loop μ-loop
 returns c =
     let loop = c .before .loop in
@@ -62,11 +62,11 @@ head-orders-spec =
     Inv-loop
     μ-loop
     loop-holds
-    -- by search: mul-wide 99:43, shared-slice-read-wide 99:43, wide-requires 99:38, glance-at-requires 99:13,
-    -- mul-out 100:9
+    -- by search: mul-wide, shared-slice-read-wide, wide-requires, glance-at-requires,
+    -- mul-out
     (λ c. search needs) (λ c. search needs) (λ c κs. search needs) (λ c κs. search needs) (λ c. search needs)
     slice-write-out
-    -- by search: add-i 101:9, loop-less 98:5
+    -- by search: add-i, loop-less
     (λ c. search needs) (λ c. search needs)
     loop-again
     same-length

@@ -6,7 +6,7 @@ use borrow.Author.Needs.{needs}
 use Rattle.sequences.proofs.markers_of.Statement.{statement}
 use Rattle.sequences.proofs.markers_of.Tie as tie
 
--- src/lib.rt:119:9
+-- return n
 returns : tie.Need-returns
 returns c =
     let start = c .before .before .before .before .before .before in
@@ -22,8 +22,8 @@ pub markers-of-spec : {M : Type 1} → statement M
 markers-of-spec =
     tie.close
     (tie.spec
-    -- by search: mul-if1 118:13, shared-slice-read-if1 118:13
+    -- by search: mul-if1, shared-slice-read-if1
     (λ c. search needs) (λ c. search needs)
     returns
-    -- by search: target-markers-requires 121:5, same-length 106:1, returns-2 106:1
+    -- by search: target-markers-requires, same-length, returns-2
     (λ c κs. search needs) (λ c. search needs) (λ c. search needs))

@@ -3,15 +3,15 @@ use borrow.Author.Needs.{needs}
 use Rattle.sequences.proofs.put_if.Statement.{statement}
 use Rattle.sequences.proofs.put_if.Tie as tie
 
--- src/lib.rt:18:9
+-- out[m] = at
 slice-write-out : tie.Need-slice-write-out
 slice-write-out c = put-room _ _ _ _ (c .if1 .taken) (c .before .pre .0)
 
--- src/lib.rt:19:9
+-- return 1 + m
 returns : tie.Need-returns
 returns c = put-more _ _ _ _ (c .if1 .taken) (put-room _ _ _ _ (c .if1 .taken) (c .before .pre .0))
 
--- src/lib.rt:13:1
+-- m
 returns-2 : tie.Need-returns-2
 returns-2 c = put-none _ _ _ _ (c .if1 .left)
 
@@ -19,10 +19,10 @@ pub put-if-spec : {M : Type 1} → statement M
 put-if-spec =
     tie.close
     (tie.spec
-    -- by search: mul-out 18:9
+    -- by search: mul-out
     (λ c. search needs)
     slice-write-out
-    -- by search: add-result 19:16, same-length 19:9
+    -- by search: add-result, same-length
     (λ c. search needs) (λ c. search needs)
     returns
     returns-2)

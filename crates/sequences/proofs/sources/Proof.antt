@@ -26,7 +26,7 @@ Inv-loop t out₀ at₀ inside₀ m₀ out at inside m =
 abbrev μ-loop : tie.MeasureT-loop
 μ-loop t out₀ at₀ inside₀ m₀ out at inside m = length t - at
 
--- src/lib.rt:39:5
+-- the loop's start
 loop-holds : tie.Need-loop-holds Inv-loop μ-loop
 unfolding offsets
 loop-holds c =
@@ -34,7 +34,7 @@ loop-holds c =
     let pre = c .before .before .pre in
     (unit-records (unit t), at-start t (pre .0), record { sized = pre .2; all = refl; count = omega arith })
 
--- src/lib.rt:41:47
+-- at as u16
 cast-put-if : tie.Need-cast-put-if Inv-loop μ-loop
 unfolding offsets
 cast-put-if c =
@@ -42,7 +42,7 @@ cast-put-if c =
     let loop-test = c .before .before .before .loop-test in
     omega (arith, loop-test .taken, pre .1)
 
--- src/lib.rt:41:9
+-- put_if(inside & g.marker, out, m, at as u16)
 put-if-requires : tie.Need-put-if-requires Inv-loop μ-loop
 unfolding offsets
 put-if-requires c κs =
@@ -60,7 +60,7 @@ put-if-requires c κs =
       omega (arith, inv .2 .sized),
     )
 
--- src/lib.rt:43:9
+-- at += g.width
 add-at : tie.Need-add-at Inv-loop μ-loop
 unfolding offsets
 add-at c =
@@ -73,7 +73,7 @@ add-at c =
     (glance-at .ensures) in
     omega (arith, v .fits)
 
--- src/lib.rt:39:5
+-- the loop ends
 loop-less : tie.Need-loop-less Inv-loop μ-loop
 unfolding offsets
 loop-less c =
@@ -86,7 +86,7 @@ loop-less c =
     (glance-at .ensures) in
     omega (arith, v .fits, v .moves)
 
--- src/lib.rt:39:5
+-- the loop's step
 loop-again : tie.Need-loop-again Inv-loop μ-loop
 unfolding offsets
 loop-again c =
@@ -109,14 +109,14 @@ loop-again c =
           (sym (c .before .inside-source .ensures))) (put-if .ensures),
     )
 
--- src/lib.rt:32:1
+-- m
 same-length : tie.Need-same-length Inv-loop μ-loop
 unfolding offsets
 same-length c =
     let pre = c .before .before .before .before .pre in
     c .before .loop .inv .2 .sized ∙ sym (pre .2)
 
--- src/lib.rt:32:1
+-- m
 returns : tie.Need-returns Inv-loop μ-loop
 unfolding offsets
 returns c =
@@ -136,11 +136,11 @@ sources-spec =
     Inv-loop
     μ-loop
     loop-holds
-    -- by search: glance-at-requires 40:13
+    -- by search: glance-at-requires
     (λ c κs. search needs)
     cast-put-if
     put-if-requires
-    -- by search: inside-source-requires 42:9
+    -- by search: inside-source-requires
     (λ c κs. search needs)
     add-at
     loop-less

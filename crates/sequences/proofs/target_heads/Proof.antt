@@ -27,7 +27,7 @@ Inv-loop t heads₀ at₀ m₀ heads at m =
 abbrev μ-loop : tie.MeasureT-loop
 μ-loop t heads₀ at₀ m₀ heads at m = length t - at
 
--- src/lib.rt:55:5
+-- the loop's start
 loop-holds : tie.Need-loop-holds Inv-loop μ-loop
 unfolding head-offsets heads-of
 loop-holds c =
@@ -35,7 +35,7 @@ loop-holds c =
     let pre = c .before .before .pre in
     (unit-records (unit t), at-start t (pre .0), record { sized = pre .2; all = refl; count = omega arith })
 
--- src/lib.rt:57:43
+-- at as u16
 cast-put-if : tie.Need-cast-put-if Inv-loop μ-loop
 unfolding head-offsets heads-of
 cast-put-if c =
@@ -43,7 +43,7 @@ cast-put-if c =
     let loop-test = c .before .before .before .loop-test in
     omega (arith, loop-test .taken, pre .1)
 
--- src/lib.rt:57:9
+-- put_if(g.head == 1, heads, m, at as u16)
 put-if-requires : tie.Need-put-if-requires Inv-loop μ-loop
 unfolding head-offsets heads-of
 put-if-requires c κs =
@@ -61,7 +61,7 @@ put-if-requires c κs =
       omega (arith, inv .2 .sized),
     )
 
--- src/lib.rt:58:9
+-- at += g.width
 add-at : tie.Need-add-at Inv-loop μ-loop
 unfolding head-offsets heads-of
 add-at c =
@@ -74,7 +74,7 @@ add-at c =
     (glance-at .ensures) in
     omega (arith, v .fits)
 
--- src/lib.rt:55:5
+-- the loop ends
 loop-less : tie.Need-loop-less Inv-loop μ-loop
 unfolding head-offsets heads-of
 loop-less c =
@@ -87,7 +87,7 @@ loop-less c =
     (glance-at .ensures) in
     omega (arith, v .fits, v .moves)
 
--- src/lib.rt:55:5
+-- the loop's step
 loop-again : tie.Need-loop-again Inv-loop μ-loop
 unfolding head-offsets heads-of
 loop-again c =
@@ -106,14 +106,14 @@ loop-again c =
       fill-on (cond (eqb (glance-at .result .head) 1) (at-now ∷ []) []) _ (inv .2) e (put-if .ensures),
     )
 
--- src/lib.rt:49:1
+-- m
 same-length : tie.Need-same-length Inv-loop μ-loop
 unfolding head-offsets heads-of
 same-length c =
     let pre = c .before .before .before .before .pre in
     c .before .loop .inv .2 .sized ∙ sym (pre .2)
 
--- src/lib.rt:49:1
+-- m
 returns : tie.Need-returns Inv-loop μ-loop
 unfolding head-offsets heads-of
 returns c =
@@ -132,7 +132,7 @@ target-heads-spec =
     Inv-loop
     μ-loop
     loop-holds
-    -- by search: glance-at-requires 56:13
+    -- by search: glance-at-requires
     (λ c κs. search needs)
     cast-put-if
     put-if-requires

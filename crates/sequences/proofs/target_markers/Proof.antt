@@ -25,7 +25,7 @@ Inv-loop t heads i q out₀ n head at₀ m₀ out at m =
 abbrev μ-loop : tie.MeasureT-loop
 μ-loop t heads i q out₀ n head at₀ m₀ out at m = length t - at
 
--- src/lib.rt:77:9
+-- return n
 returns : tie.Need-returns Inv-loop μ-loop
 returns c =
     let start = c .before .before .before .before .before .before .before .before in
@@ -39,7 +39,7 @@ returns c =
     (glance-at .result) (glance-at .ensures) in
     fill-none (args .out .now) (of-order (args .q) (head-number t i)) (args .n) (order-other b (c .if1 .taken))
 
--- src/lib.rt:79:18
+-- head + first.width
 add-at : tie.Need-add-at Inv-loop μ-loop
 add-at c =
     let start = c .before .before .before .before .before .before .before .before .before in
@@ -51,7 +51,7 @@ add-at c =
     (wide .ensures .0) (glance-at .result) (glance-at .ensures) in
     omega (arith, b .fits)
 
--- src/lib.rt:81:5
+-- the loop's start
 loop-holds : tie.Need-loop-holds Inv-loop μ-loop
 loop-holds c =
     let start = c .before .before .before .before .before .before .before .before .before in
@@ -73,13 +73,13 @@ loop-holds c =
       },
     )
 
--- src/lib.rt:84:13
+-- return m
 same-length : tie.Need-same-length Inv-loop μ-loop
 same-length c =
     let loop = c .before .before .before .before .loop in
     loop .inv .2 .sized
 
--- src/lib.rt:84:13
+-- return m
 returns-2 : tie.Need-returns-2 Inv-loop μ-loop
 returns-2 c =
     let t = c .before .before .before .before .before .before .before .before .before .before .before .before
@@ -92,7 +92,7 @@ returns-2 c =
     let f = fill-end (inv .2) (content-off t (loop .at) (inv .0) (glance-at2 .result) v (c .if2 .taken)) in
     (f .0, f .1, inv .2 .sized)
 
--- src/lib.rt:86:38
+-- at as u16
 cast-put-if : tie.Need-cast-put-if Inv-loop μ-loop
 cast-put-if c =
     let pre = c .before .before .before .before .before .before .before .before .before .before .before .before
@@ -100,7 +100,7 @@ cast-put-if c =
     let loop-test = c .before .before .before .before .loop-test in
     omega (arith, loop-test .taken, pre .1)
 
--- src/lib.rt:86:9
+-- put_if(g.marker, out, m, at as u16)
 put-if-requires : tie.Need-put-if-requires Inv-loop μ-loop
 put-if-requires c κs =
     let after-loop = c .before .before .before .before .before in
@@ -118,7 +118,7 @@ put-if-requires c κs =
       omega (arith, inv .2 .sized, pre .5),
     )
 
--- src/lib.rt:87:9
+-- at += g.width
 add-at-2 : tie.Need-add-at-2 Inv-loop μ-loop
 add-at-2 c =
     let after-glance-at2 = c .before .before .before .before .before .before .before in
@@ -131,7 +131,7 @@ add-at-2 c =
     (loop-test .taken) (glance-at2 .ensures) in
     omega (arith, v .fits, start .pre .1)
 
--- src/lib.rt:81:5
+-- the loop ends
 loop-less : tie.Need-loop-less Inv-loop μ-loop
 loop-less c =
     let after-glance-at2 = c .before .before .before .before .before .before .before in
@@ -144,7 +144,7 @@ loop-less c =
     (glance-at2 .ensures) in
     omega (arith, v .fits, v .moves)
 
--- src/lib.rt:81:5
+-- the loop's step
 loop-again : tie.Need-loop-again Inv-loop μ-loop
 loop-again c =
     let after-if2 = c .before .before .before .before .before in
@@ -164,11 +164,11 @@ loop-again c =
       fill-on (cond (glance-at2 .result .marker) (at-now ∷ []) []) _ (inv .2) e (put-if .ensures),
     )
 
--- src/lib.rt:70:1
+-- m
 same-length-2 : tie.Need-same-length-2 Inv-loop μ-loop
 same-length-2 c = c .before .loop .inv .2 .sized
 
--- src/lib.rt:70:1
+-- m
 returns-3 : tie.Need-returns-3 Inv-loop μ-loop
 returns-3 c =
     let t = c .before .before .before .before .before .before .before .before .before .before .before .args .t
@@ -184,12 +184,12 @@ target-markers-spec =
     (tie.spec
     Inv-loop
     μ-loop
-    -- by search: mul-wide 74:21, shared-slice-read-wide 74:21, wide-requires 74:9, glance-at-requires 75:9
+    -- by search: mul-wide, shared-slice-read-wide, wide-requires, glance-at-requires
     (λ c. search needs) (λ c. search needs) (λ c κs. search needs) (λ c κs. search needs)
     returns
     add-at
     loop-holds
-    -- by search: glance-at-requires-2 82:13
+    -- by search: glance-at-requires-2
     (λ c κs. search needs)
     same-length
     returns-2

@@ -24,24 +24,24 @@ Inv-loop t parts out₀ heads orders k q₀ n₀ out q n =
 abbrev μ-loop : tie.MeasureT-loop
 μ-loop t parts out₀ heads orders k q₀ n₀ out q n = parts - q
 
--- src/lib.rt:145:9
+-- target_heads(t, &mut heads)
 target-heads-requires : tie.Need-target-heads-requires Inv-loop μ-loop
 target-heads-requires c κs =
     let pre = c .before .before .before .pre in
     (pre .0, pre .1, refl)
 
--- src/lib.rt:146:20
+-- &heads[..k]
 array-share-prefix-heads : tie.Need-array-share-prefix-heads Inv-loop μ-loop
 array-share-prefix-heads c = omega (arith, c .before .target-heads .ensures .1)
 
--- src/lib.rt:146:20
+-- &heads[..k]
 slice-aggregate-head-orders : tie.Need-slice-aggregate-head-orders Inv-loop μ-loop
 slice-aggregate-head-orders c =
     let target-heads = c .before .before .target-heads in
     sym (length-take-le (target-heads .result) (target-heads .last .1 .0)
     (omega (arith, target-heads .ensures .1, target-heads .ensures .2)))
 
--- src/lib.rt:146:5
+-- head_orders(t, &heads[..k], &mut orders)
 head-orders-requires : tie.Need-head-orders-requires Inv-loop μ-loop
 head-orders-requires c κs =
     let pre = c .before .before .before .before .before .before .before .pre in
@@ -56,33 +56,33 @@ head-orders-requires c κs =
       ),
     )
 
--- src/lib.rt:149:5
+-- the loop's start
 loop-holds : tie.Need-loop-holds Inv-loop μ-loop
 loop-holds c =
     let start = c .before .before .before .before .before .before .before .before .before in
     let e = order-start (start .args .t .now) (start .args .parts) in
     (omega arith, record { sized = start .pre .2; all = e; count = omega (arith, ap length e) })
 
--- src/lib.rt:150:24
+-- &heads[..k]
 array-share-prefix-heads-2 : tie.Need-array-share-prefix-heads-2 Inv-loop μ-loop
 array-share-prefix-heads-2 c =
     let target-heads = c .before .before .before .before .before .before .before .target-heads in
     omega (arith, target-heads .ensures .1)
 
--- src/lib.rt:150:24
+-- &heads[..k]
 slice-aggregate-collect : tie.Need-slice-aggregate-collect Inv-loop μ-loop
 slice-aggregate-collect c =
     let target-heads = c .before .before .before .before .before .before .before .before .target-heads in
     sym (length-take-le (target-heads .result) (target-heads .last .1 .0)
     (omega (arith, target-heads .ensures .1, target-heads .ensures .2)))
 
--- src/lib.rt:150:37
+-- &orders
 slice-aggregate-collect-2 : tie.Need-slice-aggregate-collect-2 Inv-loop μ-loop
 slice-aggregate-collect-2 c =
     let head-orders = c .before .before .before .before .before .head-orders in
     sym (head-orders .ensures .0)
 
--- src/lib.rt:150:9
+-- collect(t, &heads[..k], &orders, q + 1, out, n)
 collect-requires : tie.Need-collect-requires Inv-loop μ-loop
 collect-requires c κs =
     let after-head-orders = c .before .before .before .before .before .before in
@@ -111,7 +111,7 @@ collect-requires c κs =
       head-orders .ensures .1,
     )
 
--- src/lib.rt:149:5
+-- the loop's step
 loop-again : tie.Need-loop-again Inv-loop μ-loop
 loop-again c =
     let after-loop-test = c .before .before .before .before .before .before in
@@ -125,13 +125,13 @@ loop-again c =
       fill-on (offsets false (loop .q + 1) t) _ (loop .inv .1) e (c .before .before .collect .ensures),
     )
 
--- src/lib.rt:139:1
+-- n
 same-length : tie.Need-same-length Inv-loop μ-loop
 same-length c =
     let pre = c .before .before .before .before .before .before .before .before .before .before .before .pre in
     c .before .loop .inv .1 .sized ∙ sym (pre .2)
 
--- src/lib.rt:139:1
+-- n
 returns : tie.Need-returns Inv-loop μ-loop
 returns c =
     let start = c .before .before .before .before .before .before .before .before .before .before .before in
@@ -148,22 +148,22 @@ targets-spec =
     (tie.spec
     Inv-loop
     μ-loop
-    -- by search: slice-aggregate-target-heads 145:29
+    -- by search: slice-aggregate-target-heads
     (λ c. search needs)
     target-heads-requires
     array-share-prefix-heads
     slice-aggregate-head-orders
-    -- by search: slice-aggregate-head-orders-2 146:33
+    -- by search: slice-aggregate-head-orders-2
     (λ c. search needs)
     head-orders-requires
     loop-holds
     array-share-prefix-heads-2
     slice-aggregate-collect
     slice-aggregate-collect-2
-    -- by search: add-collect 150:46
+    -- by search: add-collect
     (λ c. search needs)
     collect-requires
-    -- by search: add-q 151:9, loop-less 149:5
+    -- by search: add-q, loop-less
     (λ c. search needs) (λ c. search needs)
     loop-again
     same-length

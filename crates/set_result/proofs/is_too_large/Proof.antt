@@ -9,7 +9,7 @@ use Rattle.set_result.proofs.is_too_large.Statement.{statement}
 use Rattle.set_result.proofs.is_too_large.Tie as tie
 use Rattle.part_at.proofs.count_records.Reads as count-records-reads′
 
--- src/lib.rt:75:9
+-- return true
 returns : tie.Need-returns
 returns c =
     let start = c .before .before .before in
@@ -21,7 +21,7 @@ returns c =
     long-content t (table-passes t (c .before .before .shared-slice-known .given) (ck .0)) (args .place) b p a s
     content xs (holds-bytes content xs o) st q (args .room) (c .if1 .taken)
 
--- src/lib.rt:78:19
+-- part_at::count_records(t)
 count-records-requires : tie.Need-count-records-requires
 count-records-requires c κs =
     let start = c .before .before .before .before in
@@ -31,7 +31,7 @@ count-records-requires c κs =
     let k = table-passes (start .args .t .now) known v in
     k
 
--- src/lib.rt:78:19
+-- part_at::count_records(t)
 add-records : tie.Need-add-records
 add-records c =
     let start = c .before .before .before .before .before in
@@ -43,7 +43,7 @@ add-records c =
     let k = table-passes (start .args .t .now) known v in
     omega (arith, c .count-records .ensures, k .few)
 
--- src/lib.rt:78:19
+-- part_at::count_records(t)
 add-records-2 : tie.Need-add-records-2
 add-records-2 c =
     let after-shared-slice-known = c .before .before .before .before .before in
@@ -56,7 +56,7 @@ add-records-2 c =
     let k = table-passes (start .args .t .now) known v in
     omega (arith, c .before .count-records .ensures, k .few, c .count-records2 .ensures .0)
 
--- src/lib.rt:78:19
+-- part_at::count_records(t)
 sub-records : tie.Need-sub-records
 sub-records c =
     let after-shared-slice-known = c .before .before .before .before .before in
@@ -75,7 +75,7 @@ sub-records c =
       old-within (unit t) 0 0 xs b p a (s .all),
     )
 
--- src/lib.rt:79:17
+-- place.target + 4 + content.len()
 add-bytes-3 : tie.Need-add-bytes-3
 add-bytes-3 c =
     let after-shared-slice-known = c .before .before .before .before .before .before .before in
@@ -91,7 +91,7 @@ add-bytes-3 c =
     let z = in-order t b p a (args .place) s in
     omega (arith, small-table t v)
 
--- src/lib.rt:70:1
+-- (room < bytes) | ((8192 < bytes) | (1024 < records))
 returns-2 : tie.Need-returns-2
 returns-2 c =
     let after-shared-slice-known = c .before .before .before .before .before .before .before in
@@ -114,15 +114,15 @@ is-too-large-spec =
     tie.close
     (tie.spec
     returns
-    -- by search: old-records-requires 77:9
+    -- by search: old-records-requires
     (λ c κs. search needs)
     count-records-requires
     add-records
-    -- by search: count-records-requires-2 78:56
+    -- by search: count-records-requires-2
     (λ c κs. search needs)
     add-records-2
     sub-records
-    -- by search: add-bytes 79:17, add-bytes-2 79:17, sub-bytes 79:53
+    -- by search: add-bytes, add-bytes-2, sub-bytes
     (λ c. search needs) (λ c. search needs) (λ c. search needs)
     add-bytes-3
     returns-2)

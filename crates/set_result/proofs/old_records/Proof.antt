@@ -7,7 +7,7 @@ use borrow.Author.Needs.{needs}
 use Rattle.set_result.proofs.old_records.Statement.{statement}
 use Rattle.set_result.proofs.old_records.Tie as tie
 
--- src/lib.rt:64:34
+-- &t[from..to]
 sub-count-records : tie.Need-sub-count-records
 sub-count-records c =
     let start = c .before .before .before in
@@ -19,7 +19,7 @@ sub-count-records c =
     (c .before .if1 .taken) in
     omega (arith, h .ordered)
 
--- src/lib.rt:64:34
+-- &t[from..to]
 part-count-records-start : tie.Need-part-count-records-start
 part-count-records-start c =
     let start = c .before .before .before in
@@ -31,7 +31,7 @@ part-count-records-start c =
     (c .before .if1 .taken) in
     omega (arith, h .ordered)
 
--- src/lib.rt:64:20
+-- count_records(&t[from..to])
 count-records-requires : tie.Need-count-records-requires
 count-records-requires c κs =
     let start = c .before .before .before .before in
@@ -43,7 +43,7 @@ count-records-requires c κs =
     let h = target-there t (bytes-known t known) b p a (args .place) s (c .before .before .if1 .taken) in
     (target-items (p .target), h .holds)
 
--- src/lib.rt:64:9
+-- return 1 + count_records(&t[from..to])
 returns : tie.Need-returns
 returns c =
     let args = c .before .before .before .before .before .args in
@@ -56,7 +56,7 @@ returns c =
     (c .count-records .ensures .1 (target-items (p .target))
     (target-there t (bytes-known t known) b p a place s (if1 .taken) .holds))
 
--- src/lib.rt:57:1
+-- 0
 returns-2 : tie.Need-returns-2
 returns-2 c =
     let args = c .before .before .args in
@@ -66,14 +66,14 @@ pub old-records-spec : {M : Type 1} → statement M
 old-records-spec =
     tie.close
     (tie.spec
-    -- by search: add-from 62:20
+    -- by search: add-from
     (λ c. search needs)
     sub-count-records
     part-count-records-start
-    -- by search: part-count-records-end 64:34
+    -- by search: part-count-records-end
     (λ c. search needs)
     count-records-requires
-    -- by search: add-result 64:16
+    -- by search: add-result
     (λ c. search needs)
     returns
     returns-2)

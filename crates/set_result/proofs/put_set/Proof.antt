@@ -6,7 +6,7 @@ use borrow.Author.Needs.{needs}
 use Rattle.set_result.proofs.put_set.Statement.{statement}
 use Rattle.set_result.proofs.put_set.Tie as tie
 
--- src/lib.rt:24:31
+-- &mut out[n..]
 sub-put-target : tie.Need-sub-put-target
 sub-put-target c =
     let start = c .before .before .before .before .before .before .before in
@@ -22,7 +22,7 @@ sub-put-target c =
     second-start (pieces-by t b p a place s state order content refl) out
     (set-room t b p a place s state order content out room) (c .before .before .put-to-source .ensures b p a s)
 
--- src/lib.rt:24:31
+-- &mut out[n..]
 part-put-target-start : tie.Need-part-put-target-start
 part-put-target-start c =
     let start = c .before .before .before .before .before .before .before in
@@ -38,7 +38,7 @@ part-put-target-start c =
     second-start (pieces-by t b p a place s state order content refl) out
     (set-room t b p a place s state order content out room) (c .before .before .put-to-source .ensures b p a s)
 
--- src/lib.rt:24:9
+-- heads::put_target(&mut out[n..], order, content)
 put-target-requires : tie.Need-put-target-requires
 put-target-requires c κs =
     let start = c .before .before .before .before .before .before .before .before in
@@ -55,7 +55,7 @@ put-target-requires c κs =
     second-room (pieces-by t b p a place s state order content refl) out
     (set-room t b p a place s state order content out room) (put-to-source .ensures b p a s)
 
--- src/lib.rt:25:13
+-- n + m
 add-k : tie.Need-add-k
 add-k c =
     let after-put-to-source = c .before .before .before .before .before .before in
@@ -77,7 +77,7 @@ add-k c =
           (c .before .before .put-target .ensures),
     )
 
--- src/lib.rt:26:25
+-- &mut out[k..]
 sub-put : tie.Need-sub-put
 sub-put c =
     let after-put-to-source = c .before .before .before .before .before .before in
@@ -96,7 +96,7 @@ sub-put c =
     (set-room t b p a place s state order content out room) (put-to-source .ensures b p a s)
     (c .before .before .put-target .ensures)
 
--- src/lib.rt:26:25
+-- &mut out[k..]
 part-put-start : tie.Need-part-put-start
 part-put-start c =
     let after-put-to-source = c .before .before .before .before .before .before in
@@ -115,7 +115,7 @@ part-put-start c =
     (set-room t b p a place s state order content out room) (put-to-source .ensures b p a s)
     (c .before .before .put-target .ensures)
 
--- src/lib.rt:26:9
+-- writer::put(&mut out[k..], &t[e..])
 put-requires : tie.Need-put-requires
 put-requires c κs =
     let after-put-to-source = c .before .before .before .before .before .before .before .before in
@@ -134,7 +134,7 @@ put-requires c κs =
     third-room (pieces-by t b p a place s state order content refl) out
     (set-room t b p a place s state order content out room) (put-to-source .ensures b p a s) (put-target .ensures)
 
--- src/lib.rt:27:5
+-- k + i
 add-result : tie.Need-add-result
 add-result c =
     let after-put-target = c .before .before .before .before .before .before .before in
@@ -157,7 +157,7 @@ add-result c =
           (put-target .ensures) (c .before .before .put .ensures .0),
     )
 
--- src/lib.rt:11:1
+-- k + i
 returns : tie.Need-returns
 returns c =
     let after-put-target = c .before .before .before .before .before .before .before in
@@ -177,20 +177,20 @@ pub put-set-spec : {M : Type 1} → statement M
 put-set-spec =
     tie.close
     (tie.spec
-    -- by search: put-to-source-requires 23:9
+    -- by search: put-to-source-requires
     (λ c κs. search needs)
     sub-put-target
     part-put-target-start
-    -- by search: part-put-target-end 24:31
+    -- by search: part-put-target-end
     (λ c. search needs)
     put-target-requires
     add-k
     sub-put
     part-put-start
-    -- by search: part-put-end 26:25, sub-put-2 26:40, part-put-start-2 26:40, part-put-end-2 26:40
+    -- by search: part-put-end, sub-put-2, part-put-start-2, part-put-end-2
     (λ c. search needs) (λ c. search needs) (λ c. search needs) (λ c. search needs)
     put-requires
     add-result
-    -- by search: same-length 11:1
+    -- by search: same-length
     (λ c. search needs)
     returns)

@@ -5,7 +5,7 @@ use borrow.Author.Needs.{needs}
 use Rattle.set_target.proofs.set_checked.Statement.{statement}
 use Rattle.set_target.proofs.set_checked.Tie as tie
 
--- src/lib.rt:175:17
+-- part_at::part_at(table, wide(n))
 part-at-requires : tie.Need-part-at-requires
 unfolding set-target
 part-at-requires c κs =
@@ -15,7 +15,7 @@ part-at-requires c κs =
     let known = after-shared-slice-known .shared-slice-known .given in
     table-passes table known (accepted-none table _ (rw (c .before .enum-told .given .1) at (start .pre)))
 
--- src/lib.rt:176:13
+-- set_found(table, n, found, state, content, out)
 set-found-requires : tie.Need-set-found-requires
 unfolding set-target
 set-found-requires c κs =
@@ -25,7 +25,6 @@ set-found-requires c κs =
       simp (c .before .before .wide .ensures .0) at (c .before .part-at .ensures),
     )
 
--- src/lib.rt:169:1
 returns-2 : tie.Need-returns-2
 unfolding set-target
 returns-2 c =
@@ -40,10 +39,10 @@ unfolding set-target
 set-checked-spec =
     tie.close
     (tie.spec
-    -- by search: enum-told 175:49, wide-requires 175:49
+    -- by search: enum-told, wide-requires
     (λ c. search needs) (λ c κs. search needs)
     part-at-requires
     set-found-requires
-    -- by search: enum-known-a 178:25, same-length 169:1, returns 169:1
+    -- by search: enum-known-a, same-length, returns
     (λ c. search needs) (λ c. search needs) (λ c. search needs)
     returns-2)

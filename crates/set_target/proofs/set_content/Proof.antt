@@ -13,7 +13,7 @@ use borrow.Author.Needs.{needs}
 use Rattle.set_target.proofs.set_content.Statement.{statement}
 use Rattle.set_target.proofs.set_content.Tie as tie
 
--- src/lib.rt:79:9
+-- old_from(place)
 old-from-requires : tie.Need-old-from-requires
 old-from-requires c κs =
     let start = c .before .before .before in
@@ -23,7 +23,7 @@ old-from-requires c κs =
     target-small (start .args .table .now) (c .before .before .shared-slice-known .given) w (start .args .place) b p
     a s
 
--- src/lib.rt:81:28
+-- &table[from..to]
 sub-is-lost : tie.Need-sub-is-lost
 sub-is-lost c =
     let start = c .before .before .before .before .before in
@@ -35,7 +35,7 @@ sub-is-lost c =
     old-there (start .args .table .now) known w (start .args .place) b p a s (old-from .result) (c .old-to .result)
     (old-from .ensures) (c .old-to .ensures) .ordered
 
--- src/lib.rt:81:28
+-- &table[from..to]
 part-is-lost-start : tie.Need-part-is-lost-start
 part-is-lost-start c =
     let start = c .before .before .before .before .before in
@@ -47,7 +47,7 @@ part-is-lost-start c =
     old-there (start .args .table .now) known w (start .args .place) b p a s (old-from .result) (c .old-to .result)
     (old-from .ensures) (c .old-to .ensures) .ordered
 
--- src/lib.rt:81:28
+-- &table[from..to]
 part-is-lost-end : tie.Need-part-is-lost-end
 part-is-lost-end c =
     let start = c .before .before .before .before .before in
@@ -59,7 +59,7 @@ part-is-lost-end c =
     old-there (start .args .table .now) known w (start .args .place) b p a s (old-from .result) (c .old-to .result)
     (old-from .ensures) (c .old-to .ensures) .within
 
--- src/lib.rt:81:8
+-- kept_codes::is_lost(&table[from..to], content)
 is-lost-requires : tie.Need-is-lost-requires
 is-lost-requires c κs =
     let after-shared-slice-known = c .before .before .before .before .before in
@@ -80,7 +80,7 @@ is-lost-requires c κs =
       content-holds content₀ known2 cf,
     )
 
--- src/lib.rt:82:9
+-- return Answer::Refused(18, 0)
 returns : tie.Need-returns
 returns c =
     let after-shared-slice-known2 = c .before .before .before .before .before .before in
@@ -103,7 +103,7 @@ returns c =
     (old-to .ensures) .holds) (content-holds content₀ known2 cf))
     ∙ c .if1 .taken))
 
--- src/lib.rt:84:29
+-- &table[from..to]
 sub-differs : tie.Need-sub-differs
 sub-differs c =
     let after-shared-slice-known = c .before .before .before .before .before .before .before in
@@ -117,7 +117,7 @@ sub-differs c =
     old-there (start .args .table .now) known w (start .args .place) b p a s (old-from .result) (old-to .result)
     (old-from .ensures) (old-to .ensures) .ordered
 
--- src/lib.rt:84:29
+-- &table[from..to]
 part-differs-start : tie.Need-part-differs-start
 part-differs-start c =
     let after-shared-slice-known = c .before .before .before .before .before .before .before in
@@ -131,7 +131,7 @@ part-differs-start c =
     old-there (start .args .table .now) known w (start .args .place) b p a s (old-from .result) (old-to .result)
     (old-from .ensures) (old-to .ensures) .ordered
 
--- src/lib.rt:84:29
+-- &table[from..to]
 part-differs-end : tie.Need-part-differs-end
 part-differs-end c =
     let after-shared-slice-known = c .before .before .before .before .before .before .before in
@@ -145,7 +145,7 @@ part-differs-end c =
     old-there (start .args .table .now) known w (start .args .place) b p a s (old-from .result) (old-to .result)
     (old-from .ensures) (old-to .ensures) .within
 
--- src/lib.rt:84:8
+-- fixed_codes::differs(&table[from..to], content)
 differs-requires : tie.Need-differs-requires
 differs-requires c κs =
     let after-old-from = c .before .before .before .before .before in
@@ -166,7 +166,7 @@ differs-requires c κs =
       content-holds content₀ known2 cf,
     )
 
--- src/lib.rt:85:9
+-- return Answer::Refused(19, 0)
 returns-2 : tie.Need-returns-2
 returns-2 c =
     let after-old-to = c .before .before .before .before .before .before in
@@ -195,7 +195,7 @@ returns-2 c =
     (sym (c .before .differs .ensures the-old-content (content content₀) the-old-there the-content-holds)
     ∙ c .if2 .taken))
 
--- src/lib.rt:87:9
+-- target_order::new_order(table, n, place)
 new-order-requires : tie.Need-new-order-requires
 new-order-requires c κs =
     let after-shared-slice-known = c .before .before .before .before .before .before .before .before .before
@@ -206,7 +206,7 @@ new-order-requires c κs =
     let (w, pl) = ft in
     table-passes (start .args .table .now) known w
 
--- src/lib.rt:68:1
+-- set_ended(table, place, order, state, content, out)
 returns-3 : tie.Need-returns-3
 returns-3 c =
     let after-if2 = c .before .before .before .before .before in
@@ -245,7 +245,7 @@ set-content-spec =
     tie.close
     (tie.spec
     old-from-requires
-    -- by search: old-to-requires 80:9
+    -- by search: old-to-requires
     (λ c κs. search needs)
     sub-is-lost
     part-is-lost-start
@@ -258,6 +258,6 @@ set-content-spec =
     differs-requires
     returns-2
     new-order-requires
-    -- by search: set-ended-requires 88:5, same-length 68:1
+    -- by search: set-ended-requires, same-length
     (λ c κs. search needs) (λ c. search needs)
     returns-3)

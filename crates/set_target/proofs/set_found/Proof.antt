@@ -5,13 +5,12 @@ use borrow.Author.Needs.{needs}
 use Rattle.set_target.proofs.set_found.Statement.{statement}
 use Rattle.set_target.proofs.set_found.Tie as tie
 
--- src/lib.rt:158:33
+-- set_there(table, n, place, state, content, out)
 set-there-requires : tie.Need-set-there-requires
 set-there-requires c κs =
     let pre = c .before .before .before .before .before .before .before .pre in
     (pre .0, rw (c .before .before .found .given .1) at (pre .1))
 
--- src/lib.rt:146:1
 returns-2 : tie.Need-returns-2
 returns-2 c =
     let start = c .before .before .before .before .before in
@@ -26,9 +25,9 @@ pub set-found-spec : {M : Type 1} → statement M
 set-found-spec =
     tie.close
     (tie.spec
-    -- by search: enum-known-found 158:23
+    -- by search: enum-known-found
     (λ c. search needs)
     set-there-requires
-    -- by search: enum-told 159:31, same-length 146:1, returns 146:1
+    -- by search: enum-told, same-length, returns
     (λ c. search needs) (λ c. search needs) (λ c. search needs)
     returns-2)

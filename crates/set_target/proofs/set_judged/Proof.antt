@@ -6,7 +6,7 @@ use borrow.Author.Needs.{needs}
 use Rattle.set_target.proofs.set_judged.Statement.{statement}
 use Rattle.set_target.proofs.set_judged.Tie as tie
 
--- src/lib.rt:105:32
+-- set_content(table, n, place, state, content, out)
 set-content-requires : tie.Need-set-content-requires
 set-content-requires c κs =
     let start = c .before .before .before .before .before .before in
@@ -14,7 +14,6 @@ set-content-requires c κs =
     let (ft, an) = start .pre in
     (ft, accepted-without (content-fault content) content _ (rw (c .before .enum-told .given .1) at an))
 
--- src/lib.rt:92:1
 returns-2 : tie.Need-returns-2
 returns-2 c =
     let start = c .before .before .before .before .before .before in
@@ -32,9 +31,9 @@ pub set-judged-spec : {M : Type 1} → statement M
 set-judged-spec =
     tie.close
     (tie.spec
-    -- by search: enum-told 105:77
+    -- by search: enum-told
     (λ c. search needs)
     set-content-requires
-    -- by search: enum-known-a 106:25, same-length 92:1, returns 92:1
+    -- by search: enum-known-a, same-length, returns
     (λ c. search needs) (λ c. search needs) (λ c. search needs)
     returns-2)

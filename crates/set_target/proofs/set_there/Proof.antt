@@ -7,7 +7,7 @@ use borrow.Author.Needs.{needs}
 use Rattle.set_target.proofs.set_there.Statement.{statement}
 use Rattle.set_target.proofs.set_there.Tie as tie
 
--- src/lib.rt:133:9
+-- return Answer::Refused(2, 0)
 returns : tie.Need-returns
 returns c =
     let start = c .before .before .before .before .before in
@@ -20,7 +20,7 @@ returns c =
     (refused-2 table (args .n) (args .state) (args .content .now) (length out) w b p a e
     (sym (c .before .state-fits .ensures table b p a s) ∙ not-true _ (c .if1 .taken)))
 
--- src/lib.rt:135:5
+-- set_judged(table, n, place, state, content, syntax::content(content), out)
 set-judged-requires : tie.Need-set-judged-requires
 set-judged-requires c κs =
     let start = c .before .before .before .before .before .before .before in
@@ -46,11 +46,11 @@ pub set-there-spec : {M : Type 1} → statement M
 set-there-spec =
     tie.close
     (tie.spec
-    -- by search: state-fits-requires 132:9
+    -- by search: state-fits-requires
     (λ c κs. search needs)
     returns
-    -- by search: content-requires 141:9
+    -- by search: content-requires
     (λ c κs. search needs)
     set-judged-requires
-    -- by search: same-length 121:1, returns-2 121:1
+    -- by search: same-length, returns-2
     (λ c. search needs) (λ c. search needs))

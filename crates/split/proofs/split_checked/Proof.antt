@@ -23,7 +23,6 @@ split-found-requires c κs =
       c .before .part-at .ensures,
     )
 
--- Answer::Refused(k, at) => Answer::Refused(k, at)
 returns-2 : tie.Need-returns-2
 unfolding split
 returns-2 c =

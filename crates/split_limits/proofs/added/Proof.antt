@@ -5,7 +5,7 @@ use borrow.Author.Needs.{needs}
 use Rattle.split_limits.proofs.added.Statement.{statement}
 use Rattle.split_limits.proofs.added.Tie as tie
 
--- src/lib.rt:107:5
+-- source + target
 add-result : tie.Need-add-result
 add-result c =
     let pre = c .before .before .before .pre in
@@ -15,7 +15,7 @@ add-result c =
     let y = c .target-added .ensures b p a s in
     omega (arith, x .few, y .few)
 
--- src/lib.rt:101:1
+-- source + target
 returns : tie.Need-returns
 returns c =
     let args = c .before .before .before .args in
@@ -28,7 +28,7 @@ pub added-spec : {M : Type 1} → statement M
 added-spec =
     tie.close
     (tie.spec
-    -- by search: source-added-requires 105:9, target-added-requires 106:9
+    -- by search: source-added-requires, target-added-requires
     (λ c κs. search needs) (λ c κs. search needs)
     add-result
     returns)

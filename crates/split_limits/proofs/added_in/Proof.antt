@@ -7,13 +7,13 @@ use Rattle.xliff.specs.Encode.{content-records}
 use Rattle.split_limits.proofs.added_in.Statement.{statement}
 use Rattle.split_limits.proofs.added_in.Tie as tie
 
--- src/lib.rt:71:9
+-- walk::place_of(c, k)
 place-of-requires : tie.Need-place-of-requires
 place-of-requires c κs =
     let (xs, o) = c .before .pre in
     (content-records xs, o)
 
--- src/lib.rt:73:9
+-- return 0
 returns : tie.Need-returns
 returns c =
     let args = c .before .before .before .before .args in
@@ -23,7 +23,7 @@ returns c =
     subst (ContentAdded k xs) (none-zero (place-of .result .into) (c .if1 .taken))
     (content-added k (args .c .now) xs (place-of .result) o (place-of .ensures (content-records xs) o))
 
--- src/lib.rt:67:1
+-- 1
 returns-2 : tie.Need-returns-2
 returns-2 c =
     let args = c .before .before .before .before .args in

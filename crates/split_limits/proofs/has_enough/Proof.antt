@@ -3,13 +3,13 @@ use Rattle.xliff.specs.Encode.{content-records}
 use Rattle.split_limits.proofs.has_enough.Statement.{statement}
 use Rattle.split_limits.proofs.has_enough.Tie as tie
 
--- src/lib.rt:29:9
+-- walk::place_of(c, k)
 place-of-requires : tie.Need-place-of-requires
 place-of-requires c κs =
     let (xs, o) = c .before .pre in
     (content-records xs, o)
 
--- src/lib.rt:25:1
+-- p.left == 0
 returns : tie.Need-returns
 returns c =
     let args = c .before .before .before .args in

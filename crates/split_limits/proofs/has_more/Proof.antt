@@ -3,13 +3,13 @@ use Rattle.xliff.specs.Encode.{content-records}
 use Rattle.split_limits.proofs.has_more.Statement.{statement}
 use Rattle.split_limits.proofs.has_more.Tie as tie
 
--- src/lib.rt:19:9
+-- walk::place_of(c, k)
 place-of-requires : tie.Need-place-of-requires
 place-of-requires c κs =
     let (xs, o) = c .before .pre in
     (content-records xs, o)
 
--- src/lib.rt:15:1
+-- at < c.len()
 returns : tie.Need-returns
 returns c =
     let args = c .before .before .args in

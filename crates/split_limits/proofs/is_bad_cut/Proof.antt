@@ -3,7 +3,7 @@ use borrow.Author.Needs.{needs}
 use Rattle.split_limits.proofs.is_bad_cut.Statement.{statement}
 use Rattle.split_limits.proofs.is_bad_cut.Tie as tie
 
--- src/lib.rt:57:1
+-- (cut == 0) | (source | target)
 returns : tie.Need-returns
 returns c =
     let args = c .before .before .before .args in
@@ -16,6 +16,6 @@ pub is-bad-cut-spec : {M : Type 1} → statement M
 is-bad-cut-spec =
     tie.close
     (tie.spec
-    -- by search: source-short-requires 61:9, target-short-requires 62:9
+    -- by search: source-short-requires, target-short-requires
     (λ c κs. search needs) (λ c κs. search needs)
     returns)

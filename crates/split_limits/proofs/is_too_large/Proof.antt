@@ -8,26 +8,26 @@ use borrow.Author.Needs.{needs}
 use Rattle.split_limits.proofs.is_too_large.Statement.{statement}
 use Rattle.split_limits.proofs.is_too_large.Tie as tie
 
--- src/lib.rt:123:9
+-- added(t, place, cut, target_cut)
 added-requires : tie.Need-added-requires
 added-requires c κs =
     let args = c .before .args in
     placed-checked (args .t .now) (args .n) (args .place) (c .before .pre)
 
--- src/lib.rt:124:19
+-- part_at::count_records(t)
 count-records-requires : tie.Need-count-records-requires
 count-records-requires c κs =
     table-passes (c .before .before .args .t .now) (c .before .shared-slice-known .given)
     (c .before .before .pre .0)
 
--- src/lib.rt:124:19
+-- part_at::count_records(t)
 add-records : tie.Need-add-records
 add-records c =
     let start = c .before .before .before in
     let q = table-passes (start .args .t .now) (c .before .before .shared-slice-known .given) (start .pre .0) in
     omega (arith, c .count-records .ensures, q .few)
 
--- src/lib.rt:124:19
+-- part_at::count_records(t)
 add-records-2 : tie.Need-add-records-2
 add-records-2 c =
     let start = c .before .before .before in
@@ -44,13 +44,13 @@ add-records-2 c =
       few-added t known (args .n) (args .place) pre (args .source-cut) (args .target-cut) (added .result) (added .ensures),
     )
 
--- src/lib.rt:125:17
+-- orders::count_parts(t)
 count-parts-requires : tie.Need-count-parts-requires
 count-parts-requires c κs =
     let start = c .before .before .before in
     table-passes (start .args .t .now) (c .before .before .shared-slice-known .given) (start .pre .0)
 
--- src/lib.rt:125:17
+-- orders::count_parts(t)
 add-parts : tie.Need-add-parts
 add-parts c =
     let start = c .before .before .before .before in
@@ -59,7 +59,7 @@ add-parts c =
     let q = table-passes t known (start .pre .0) in
     omega (arith, c .count-parts .ensures, few-parts t q)
 
--- src/lib.rt:126:57
+-- marks::TEXT_WIDTH * more
 mul-bytes : tie.Need-mul-bytes
 mul-bytes c =
     let start = c .before .before .before .before .before in
@@ -72,7 +72,7 @@ mul-bytes c =
           (added .ensures),
     )
 
--- src/lib.rt:126:17
+-- t.len()
 add-bytes-2 : tie.Need-add-bytes-2
 add-bytes-2 c =
     let start = c .before .before .before .before .before in
@@ -91,7 +91,7 @@ add-bytes-2 c =
       s .head .within,
     )
 
--- src/lib.rt:111:1
+-- (room < bytes) | ((8192 < bytes) | ((1024 < records) | (64 < parts)))
 returns : tie.Need-returns
 returns c =
     let start = c .before .before .before .before .before in
@@ -114,7 +114,7 @@ is-too-large-spec =
     add-records-2
     count-parts-requires
     add-parts
-    -- by search: sub-bytes 126:28, add-bytes 126:17
+    -- by search: sub-bytes, add-bytes
     (λ c. search needs) (λ c. search needs)
     mul-bytes
     add-bytes-2

@@ -5,7 +5,7 @@ use borrow.Author.Needs.{needs}
 use Rattle.split_limits.proofs.source_added.Statement.{statement}
 use Rattle.split_limits.proofs.source_added.Tie as tie
 
--- src/lib.rt:84:5
+-- added_in(&t[from..to], cut)
 added-in-requires : tie.Need-added-in-requires
 added-in-requires c κs =
     let args = c .before .before .args in
@@ -14,7 +14,7 @@ added-in-requires c κs =
     let (b, p, a, s) = st in
     (p .source, holds-source t (bytes-known t (c .before .shared-slice-known .given)) b p a (args .place) s)
 
--- src/lib.rt:78:1
+-- added_in(&t[from..to], cut)
 returns : tie.Need-returns
 returns c =
     let args = c .before .before .before .args in
@@ -27,7 +27,7 @@ pub source-added-spec : {M : Type 1} → statement M
 source-added-spec =
     tie.close
     (tie.spec
-    -- by search: sub-added-in 84:14, part-added-in-start 84:14, part-added-in-end 84:14
+    -- by search: sub-added-in, part-added-in-start, part-added-in-end
     (λ c. search needs) (λ c. search needs) (λ c. search needs)
     added-in-requires
     returns)

@@ -9,7 +9,7 @@ use borrow.Author.Needs.{needs}
 use Rattle.split_limits.proofs.source_short.Statement.{statement}
 use Rattle.split_limits.proofs.source_short.Tie as tie
 
--- src/lib.rt:40:6
+-- has_more(&t[from..to], cut)
 has-more-requires : tie.Need-has-more-requires
 has-more-requires c κs =
     let args = c .before .before .args in
@@ -18,7 +18,7 @@ has-more-requires c κs =
     let (b, p, a, s) = st in
     (p .source, holds-source t (bytes-known t (c .before .shared-slice-known .given)) b p a (args .place) s)
 
--- src/lib.rt:34:1
+-- !has_more(&t[from..to], cut)
 returns : tie.Need-returns
 returns c =
     let args = c .before .before .before .args in
@@ -32,7 +32,7 @@ pub source-short-spec : {M : Type 1} → statement M
 source-short-spec =
     tie.close
     (tie.spec
-    -- by search: sub-has-more 40:15, part-has-more-start 40:15, part-has-more-end 40:15
+    -- by search: sub-has-more, part-has-more-start, part-has-more-end
     (λ c. search needs) (λ c. search needs) (λ c. search needs)
     has-more-requires
     returns)

@@ -8,7 +8,7 @@ use borrow.Author.Needs.{needs}
 use Rattle.split_limits.proofs.target_added.Statement.{statement}
 use Rattle.split_limits.proofs.target_added.Tie as tie
 
--- src/lib.rt:95:29
+-- &t[from..to]
 sub-added-in : tie.Need-sub-added-in
 sub-added-in c =
     let start = c .before .before .before in
@@ -20,7 +20,7 @@ sub-added-in c =
     (c .before .if1 .taken) in
     omega (arith, h .ordered)
 
--- src/lib.rt:95:29
+-- &t[from..to]
 part-added-in-start : tie.Need-part-added-in-start
 part-added-in-start c =
     let start = c .before .before .before in
@@ -32,7 +32,7 @@ part-added-in-start c =
     (c .before .if1 .taken) in
     omega (arith, h .ordered)
 
--- src/lib.rt:95:20
+-- added_in(&t[from..to], cut)
 added-in-requires : tie.Need-added-in-requires
 added-in-requires c κs =
     let start = c .before .before .before .before in
@@ -45,7 +45,7 @@ added-in-requires c κs =
       target-there t (bytes-known t known) b p a (args .place) s (c .before .before .if1 .taken) .holds,
     )
 
--- src/lib.rt:95:16
+-- 1 + added_in(&t[from..to], cut)
 add-result : tie.Need-add-result
 add-result c =
     let start = c .before .before .before .before .before in
@@ -59,7 +59,7 @@ add-result c =
     (target-there t (bytes-known t known) b p a (args .place) s (if1 .taken) .holds) in
     omega (arith, e .few)
 
--- src/lib.rt:95:9
+-- return 1 + added_in(&t[from..to], cut)
 returns : tie.Need-returns
 returns c =
     let args = c .before .before .before .before .before .args in
@@ -72,7 +72,7 @@ returns c =
     (c .added-in .ensures (target-items (p .target))
     (target-there t (bytes-known t known) b p a place s (if1 .taken) .holds))
 
--- src/lib.rt:88:1
+-- 0
 returns-2 : tie.Need-returns-2
 returns-2 c =
     let args = c .before .before .args in
@@ -82,11 +82,11 @@ pub target-added-spec : {M : Type 1} → statement M
 target-added-spec =
     tie.close
     (tie.spec
-    -- by search: add-from 93:20
+    -- by search: add-from
     (λ c. search needs)
     sub-added-in
     part-added-in-start
-    -- by search: part-added-in-end 95:29
+    -- by search: part-added-in-end
     (λ c. search needs)
     added-in-requires
     add-result

@@ -13,7 +13,7 @@ use borrow.Author.Needs.{needs}
 use Rattle.split_limits.proofs.target_short.Statement.{statement}
 use Rattle.split_limits.proofs.target_short.Tie as tie
 
--- src/lib.rt:51:28
+-- &t[from..to]
 sub-has-enough : tie.Need-sub-has-enough
 sub-has-enough c =
     let start = c .before .before .before in
@@ -25,7 +25,7 @@ sub-has-enough c =
     (c .before .if1 .taken) in
     omega (arith, h .ordered)
 
--- src/lib.rt:51:28
+-- &t[from..to]
 part-has-enough-start : tie.Need-part-has-enough-start
 part-has-enough-start c =
     let start = c .before .before .before in
@@ -37,7 +37,7 @@ part-has-enough-start c =
     (c .before .if1 .taken) in
     omega (arith, h .ordered)
 
--- src/lib.rt:51:17
+-- has_enough(&t[from..to], cut)
 has-enough-requires : tie.Need-has-enough-requires
 has-enough-requires c κs =
     let start = c .before .before .before .before in
@@ -50,7 +50,7 @@ has-enough-requires c κs =
       target-there t (bytes-known t known) b p a (args .place) s (c .before .before .if1 .taken) .holds,
     )
 
--- src/lib.rt:51:9
+-- return !has_enough(&t[from..to], cut)
 returns : tie.Need-returns
 returns c =
     let args = c .before .before .before .before .before .args in
@@ -62,7 +62,7 @@ returns c =
     (target-there t (bytes-known t known) b p a (args .place) s (if1 .taken) .holds))
     ∙ not-most (args .cut) (length (target-items (p .target)))
 
--- src/lib.rt:44:1
+-- 0 < cut
 returns-2 : tie.Need-returns-2
 returns-2 c =
     let args = c .before .before .args in
@@ -74,11 +74,11 @@ pub target-short-spec : {M : Type 1} → statement M
 target-short-spec =
     tie.close
     (tie.spec
-    -- by search: add-from 49:20
+    -- by search: add-from
     (λ c. search needs)
     sub-has-enough
     part-has-enough-start
-    -- by search: part-has-enough-end 51:28
+    -- by search: part-has-enough-end
     (λ c. search needs)
     has-enough-requires
     returns

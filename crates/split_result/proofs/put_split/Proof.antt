@@ -9,7 +9,7 @@ use borrow.Author.Needs.{needs}
 use Rattle.split_result.proofs.put_split.Statement.{statement}
 use Rattle.split_result.proofs.put_split.Tie as tie
 
--- src/lib.rt:47:30
+-- &t[..marks::UNIT_WIDTH]
 slice-aggregate-put : tie.Need-slice-aggregate-put
 slice-aggregate-put c =
     let start = c .before .before .before .before in
@@ -18,7 +18,7 @@ slice-aggregate-put c =
     let (v, st) = pl in
     opening-long t (unit t) (table-of t (bytes-known t (c .before .before .shared-slice-known .given)) v)
 
--- src/lib.rt:47:9
+-- writer::put(out, &t[..marks::UNIT_WIDTH])
 put-requires : tie.Need-put-requires
 put-requires c κs =
     let start = c .before .before .before .before in
@@ -30,7 +30,7 @@ put-requires c κs =
     first-room (unit-pieces (unit t) n (args .k) (args .j) (args .id) b p a e t
     (table-of t (bytes-known t (c .before .before .shared-slice-known .given)) v)) (args .out .now) room
 
--- src/lib.rt:48:29
+-- &mut out[i..]
 sub-put-split-parts : tie.Need-sub-put-split-parts
 sub-put-split-parts c =
     let after-shared-slice-known = c .before .before .before .before .before in
@@ -45,7 +45,7 @@ sub-put-split-parts c =
     (unit-pieces (unit t) n (args .k) (args .j) (args .id) b p a e t (table-of t (bytes-known t known) v))
     (args .out .now) room (c .before .before .put .ensures)
 
--- src/lib.rt:48:29
+-- &mut out[i..]
 part-put-split-parts-start : tie.Need-part-put-split-parts-start
 part-put-split-parts-start c =
     let after-shared-slice-known = c .before .before .before .before .before in
@@ -60,7 +60,7 @@ part-put-split-parts-start c =
     (unit-pieces (unit t) n (args .k) (args .j) (args .id) b p a e t (table-of t (bytes-known t known) v))
     (args .out .now) room (c .before .before .put .ensures)
 
--- src/lib.rt:48:9
+-- put_split_parts(&mut out[i..], t, place, k, j, id)
 put-split-parts-requires : tie.Need-put-split-parts-requires
 put-split-parts-requires c κs =
     let after-shared-slice-known = c .before .before .before .before .before .before in
@@ -82,7 +82,7 @@ put-split-parts-requires c κs =
           (args .out .now) room (put .ensures),
     )
 
--- src/lib.rt:49:13
+-- i + m
 add-l : tie.Need-add-l
 add-l c =
     let after-put = c .before .before .before .before .before .before in
@@ -100,7 +100,7 @@ add-l c =
           (args .out .now) room (put .ensures) (c .before .before .put-split-parts .ensures b p a s),
     )
 
--- src/lib.rt:50:25
+-- &mut out[l..]
 sub-put : tie.Need-sub-put
 sub-put c =
     let after-put = c .before .before .before .before .before .before in
@@ -116,7 +116,7 @@ sub-put c =
     (unit-pieces (unit t) n (args .k) (args .j) (args .id) b p a e t (table-of t (bytes-known t known) v))
     (args .out .now) room (put .ensures) (c .before .before .put-split-parts .ensures b p a s)
 
--- src/lib.rt:50:25
+-- &mut out[l..]
 part-put-start : tie.Need-part-put-start
 part-put-start c =
     let after-put = c .before .before .before .before .before .before in
@@ -132,7 +132,7 @@ part-put-start c =
     (unit-pieces (unit t) n (args .k) (args .j) (args .id) b p a e t (table-of t (bytes-known t known) v))
     (args .out .now) room (put .ensures) (c .before .before .put-split-parts .ensures b p a s)
 
--- src/lib.rt:50:9
+-- writer::put(&mut out[l..], &t[e..])
 put-requires-2 : tie.Need-put-requires-2
 put-requires-2 c κs =
     let after-put = c .before .before .before .before .before .before .before .before in
@@ -149,7 +149,7 @@ put-requires-2 c κs =
     (unit-pieces (unit t) n (args .k) (args .j) (args .id) b p a e t (table-of t (bytes-known t known) v))
     (args .out .now) room (put .ensures) (put-split-parts .ensures b p a s)
 
--- src/lib.rt:51:5
+-- l + r
 add-result : tie.Need-add-result
 add-result c =
     let after-put-split-parts = c .before .before .before .before .before .before .before in
@@ -171,7 +171,7 @@ add-result c =
           (c .before .before .put2 .ensures .0),
     )
 
--- src/lib.rt:42:1
+-- l + r
 returns : tie.Need-returns
 returns c =
     let after-put-split-parts = c .before .before .before .before .before .before .before in
@@ -191,22 +191,22 @@ pub put-split-spec : {M : Type 1} → statement M
 put-split-spec =
     tie.close
     (tie.spec
-    -- by search: sub-e 46:13
+    -- by search: sub-e
     (λ c. search needs)
     slice-aggregate-put
     put-requires
     sub-put-split-parts
     part-put-split-parts-start
-    -- by search: part-put-split-parts-end 48:29
+    -- by search: part-put-split-parts-end
     (λ c. search needs)
     put-split-parts-requires
     add-l
     sub-put
     part-put-start
-    -- by search: part-put-end 50:25, sub-put-2 50:40, part-put-start-2 50:40, part-put-end-2 50:40
+    -- by search: part-put-end, sub-put-2, part-put-start-2, part-put-end-2
     (λ c. search needs) (λ c. search needs) (λ c. search needs) (λ c. search needs)
     put-requires-2
     add-result
-    -- by search: same-length 42:1
+    -- by search: same-length
     (λ c. search needs)
     returns)

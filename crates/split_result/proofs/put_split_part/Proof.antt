@@ -6,7 +6,7 @@ use borrow.Author.Needs.{needs}
 use Rattle.split_result.proofs.put_split_part.Statement.{statement}
 use Rattle.split_result.proofs.put_split_part.Tie as tie
 
--- src/lib.rt:22:57
+-- &t[g..e]
 sub-put-halves-3 : tie.Need-sub-put-halves-3
 sub-put-halves-3 c =
     let start = c .before .before .before .before .before in
@@ -16,7 +16,7 @@ sub-put-halves-3 c =
     let (v, b, p, a, s, room) = start .pre in
     target-ends t (bytes-known t known) b p a (args .place) s .0
 
--- src/lib.rt:22:57
+-- &t[g..e]
 part-put-halves-start-3 : tie.Need-part-put-halves-start-3
 part-put-halves-start-3 c =
     let start = c .before .before .before .before .before in
@@ -27,7 +27,7 @@ part-put-halves-start-3 c =
     let e = target-ends t (bytes-known t known) b p a (args .place) s in
     omega (arith, e .0, e .1)
 
--- src/lib.rt:22:5
+-- halves_of_part::put_halves(out, &t[h..s], &t[s..g], &t[g..e], k, j, id)
 put-halves-requires : tie.Need-put-halves-requires
 put-halves-requires c κs =
     let start = c .before .before .before .before .before .before in
@@ -38,7 +38,7 @@ put-halves-requires c κs =
     let (v, b, p, a, s, room) = start .pre in
     (p, part-is t known v b p a place s, part-rises t known v b p a place s, room)
 
--- src/lib.rt:14:1
+-- halves_of_part::put_halves(out, &t[h..s], &t[s..g], &t[g..e], k, j, id)
 returns : tie.Need-returns
 returns c =
     let after-shared-slice-known = c .before .before .before .before .before .before .before in
@@ -52,15 +52,15 @@ pub put-split-part-spec : {M : Type 1} → statement M
 put-split-part-spec =
     tie.close
     (tie.spec
-    -- by search: sub-put-halves 22:37, part-put-halves-start 22:37, part-put-halves-end 22:37,
-    -- sub-put-halves-2 22:47, part-put-halves-start-2 22:47, part-put-halves-end-2 22:47
+    -- by search: sub-put-halves, part-put-halves-start, part-put-halves-end,
+    -- sub-put-halves-2, part-put-halves-start-2, part-put-halves-end-2
     (λ c. search needs) (λ c. search needs) (λ c. search needs) (λ c. search needs) (λ c. search needs)
     (λ c. search needs)
     sub-put-halves-3
     part-put-halves-start-3
-    -- by search: part-put-halves-end-3 22:57
+    -- by search: part-put-halves-end-3
     (λ c. search needs)
     put-halves-requires
-    -- by search: same-length 14:1
+    -- by search: same-length
     (λ c. search needs)
     returns)

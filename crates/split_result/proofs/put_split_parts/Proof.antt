@@ -14,7 +14,7 @@ use borrow.Author.Needs.{needs}
 use Rattle.split_result.proofs.put_split_parts.Statement.{statement}
 use Rattle.split_result.proofs.put_split_parts.Tie as tie
 
--- src/lib.rt:34:9
+-- parts::put_parts(out, &t[marks::UNIT_WIDTH..h], q, true)
 put-parts-requires : tie.Need-put-parts-requires
 put-parts-requires c κs =
     let start = c .before .before .before .before .before in
@@ -31,7 +31,7 @@ put-parts-requires c κs =
     ((behind-in t known v b p a place s) .1) (rises-above .result)
     (rises-above .ensures ∙ rises-is t place (p .target) (s .target))) out room)
 
--- src/lib.rt:35:28
+-- &mut out[n..]
 sub-put-split-part : tie.Need-sub-put-split-part
 sub-put-split-part c =
     let after-rises-above = c .before .before .before .before .before in
@@ -48,7 +48,7 @@ sub-put-split-part c =
     (rises-above .ensures ∙ rises-is t place (p .target) (s .target))) (args .out .now) room
     (c .before .before .put-parts .ensures b the-before-in)
 
--- src/lib.rt:35:28
+-- &mut out[n..]
 part-put-split-part-start : tie.Need-part-put-split-part-start
 part-put-split-part-start c =
     let after-rises-above = c .before .before .before .before .before in
@@ -65,7 +65,7 @@ part-put-split-part-start c =
     (rises-above .ensures ∙ rises-is t place (p .target) (s .target))) (args .out .now) room
     (c .before .before .put-parts .ensures b the-before-in)
 
--- src/lib.rt:35:9
+-- put_split_part(&mut out[n..], t, place, k, j, id)
 put-split-part-requires : tie.Need-put-split-part-requires
 put-split-part-requires c κs =
     let after-rises-above = c .before .before .before .before .before .before in
@@ -89,7 +89,7 @@ put-split-part-requires c κs =
           (put-parts .ensures b the-before-in),
     )
 
--- src/lib.rt:36:13
+-- n + m
 add-l : tie.Need-add-l
 add-l c =
     let after-put-parts = c .before .before .before .before .before .before in
@@ -110,7 +110,7 @@ add-l c =
           (put-parts .ensures b the-before-in) (c .before .before .put-split-part .ensures b p a s),
     )
 
--- src/lib.rt:37:30
+-- &mut out[l..]
 sub-put-parts-2 : tie.Need-sub-put-parts-2
 sub-put-parts-2 c =
     let after-put-parts = c .before .before .before .before .before .before in
@@ -128,7 +128,7 @@ sub-put-parts-2 c =
     (rises-above .ensures ∙ rises-is t place (p .target) (s .target))) (args .out .now) room
     (put-parts .ensures b the-before-in) (c .before .before .put-split-part .ensures b p a s)
 
--- src/lib.rt:37:30
+-- &mut out[l..]
 part-put-parts-start-2 : tie.Need-part-put-parts-start-2
 part-put-parts-start-2 c =
     let after-put-parts = c .before .before .before .before .before .before in
@@ -146,7 +146,7 @@ part-put-parts-start-2 c =
     (rises-above .ensures ∙ rises-is t place (p .target) (s .target))) (args .out .now) room
     (put-parts .ensures b the-before-in) (c .before .before .put-split-part .ensures b p a s)
 
--- src/lib.rt:37:45
+-- &t[f..e]
 sub-put-parts-3 : tie.Need-sub-put-parts-3
 sub-put-parts-3 c =
     let start = c .before .before .before .before .before .before .before .before .before .before .before .before
@@ -154,7 +154,7 @@ sub-put-parts-3 c =
     let (v, b, p, a, s, room) = start .pre in
     omega (arith, end-within (start .args .t .now) b p a (start .args .place) s)
 
--- src/lib.rt:37:45
+-- &t[f..e]
 part-put-parts-start-3 : tie.Need-part-put-parts-start-3
 part-put-parts-start-3 c =
     let start = c .before .before .before .before .before .before .before .before .before .before .before .before
@@ -162,7 +162,7 @@ part-put-parts-start-3 c =
     let (v, b, p, a, s, room) = start .pre in
     omega (arith, end-within (start .args .t .now) b p a (start .args .place) s)
 
--- src/lib.rt:37:9
+-- parts::put_parts(&mut out[l..], &t[f..e], q, true)
 put-parts-requires-2 : tie.Need-put-parts-requires-2
 put-parts-requires-2 c κs =
     let after-put-parts = c .before .before .before .before .before .before .before .before in
@@ -184,7 +184,7 @@ put-parts-requires-2 c κs =
     (rises-above .ensures ∙ rises-is (start .args .t .now) (start .args .place) (p .target) (s .target)))
     (start .args .out .now) room (put-parts .ensures b the-before-in) (put-split-part .ensures b p a s))
 
--- src/lib.rt:38:5
+-- l + i
 add-result : tie.Need-add-result
 add-result c =
     let after-put-split-part = c .before .before .before .before .before .before .before in
@@ -208,7 +208,7 @@ add-result c =
           ((c .before .before .put-parts2 .ensures a the-behind-in) .0),
     )
 
--- src/lib.rt:26:1
+-- l + i
 returns : tie.Need-returns
 returns c =
     let after-put-split-part = c .before .before .before .before .before .before .before in
@@ -234,26 +234,26 @@ pub put-split-parts-spec : {M : Type 1} → statement M
 put-split-parts-spec =
     tie.close
     (tie.spec
-    -- by search: sub-e 32:13, rises-above-requires 33:9, sub-put-parts 34:35, part-put-parts-start 34:35,
-    -- part-put-parts-end 34:35
+    -- by search: sub-e, rises-above-requires, sub-put-parts, part-put-parts-start,
+    -- part-put-parts-end
     (λ c. search needs) (λ c κs. search needs) (λ c. search needs) (λ c. search needs) (λ c. search needs)
     put-parts-requires
     sub-put-split-part
     part-put-split-part-start
-    -- by search: part-put-split-part-end 35:28
+    -- by search: part-put-split-part-end
     (λ c. search needs)
     put-split-part-requires
     add-l
     sub-put-parts-2
     part-put-parts-start-2
-    -- by search: part-put-parts-end-2 37:30
+    -- by search: part-put-parts-end-2
     (λ c. search needs)
     sub-put-parts-3
     part-put-parts-start-3
-    -- by search: part-put-parts-end-3 37:45
+    -- by search: part-put-parts-end-3
     (λ c. search needs)
     put-parts-requires-2
     add-result
-    -- by search: same-length 26:1
+    -- by search: same-length
     (λ c. search needs)
     returns)

@@ -3,7 +3,7 @@ use borrow.Author.Needs.{needs}
 use Rattle.syntax.proofs.content.Statement.{statement}
 use Rattle.syntax.proofs.content.Tie as tie
 
--- src/lib.rt:312:1
+-- scan_from(s, Stage::Alone(false))
 returns : tie.Need-returns
 unfolding content-fault
 returns c = c .scan-from .ensures
@@ -13,6 +13,6 @@ unfolding content-fault
 content-spec =
     tie.close
     (tie.spec
-    -- by search: scan-from-requires 315:5
+    -- by search: scan-from-requires
     (λ c κs. search needs)
     returns)

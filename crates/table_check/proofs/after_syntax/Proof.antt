@@ -5,7 +5,7 @@ use borrow.Author.Needs.{needs}
 use Rattle.table_check.proofs.after_syntax.Statement.{statement}
 use Rattle.table_check.proofs.after_syntax.Tie as tie
 
--- src/lib.rt:177:34
+-- by_rules(t, len)
 by-rules-requires : tie.Need-by-rules-requires
 by-rules-requires c κs =
     let start = c .before .before .before .before in
@@ -15,7 +15,6 @@ by-rules-requires c κs =
     let r = rules-left t _ b (rw (c .before .a .given .1) at (start .pre)) in
     (r .0, r .1, r .2)
 
--- src/lib.rt:172:1
 returns : tie.Need-returns
 returns c =
     let start = c .before .before .before .before .before in
@@ -25,7 +24,6 @@ returns c =
     let r = rules-left t _ b (rw (c .before .before .a .given .1) at (start .pre)) in
     rules-answer t _ (r .3) (c .by-rules .ensures)
 
--- src/lib.rt:172:1
 returns-2 : tie.Need-returns-2
 returns-2 c =
     let start = c .before .before .before .before in
@@ -35,10 +33,10 @@ pub after-syntax-spec : {M : Type 1} → statement M
 after-syntax-spec =
     tie.close
     (tie.spec
-    -- by search: enum-known-a 177:26
+    -- by search: enum-known-a
     (λ c. search needs)
     by-rules-requires
-    -- by search: enum-known-a-2 178:25
+    -- by search: enum-known-a-2
     (λ c. search needs)
     returns
     returns-2)

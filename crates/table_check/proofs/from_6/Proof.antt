@@ -4,14 +4,12 @@ use borrow.Author.Needs.{needs}
 use Rattle.table_check.proofs.from_6.Statement.{statement}
 use Rattle.table_check.proofs.from_6.Tie as tie
 
--- Place::At(at) => Answer::Refused(6, at)
 returns : tie.Need-returns
 unfolding fault-6-to-10
 returns c =
     let start = c .before .before .before .before in
     stops (start .args .t .now) 6 _ _ _ (rw (c .before .six .given .1) at (start .pre .4))
 
--- Place::Nowhere => by_sequences(t, parts, len)
 returns-2 : tie.Need-returns-2
 unfolding fault-6-to-10
 returns-2 c =

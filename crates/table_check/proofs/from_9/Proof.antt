@@ -5,13 +5,11 @@ use borrow.Author.Needs.{needs}
 use Rattle.table_check.proofs.from_9.Statement.{statement}
 use Rattle.table_check.proofs.from_9.Tie as tie
 
--- src/lib.rt:17:1
 returns : tie.Need-returns
 returns c =
     let start = c .before .before .before .before .before .before .before .before in
     stops (start .args .t .now) 9 _ _ _ (rw (c .before .nine .given .1) at (start .pre .2))
 
--- src/lib.rt:17:1
 returns-2 : tie.Need-returns-2
 returns-2 c =
     let start = c .before .before .before .before .before .before .before .before .before in
@@ -27,7 +25,7 @@ pub from-9-spec : {M : Type 1} → statement M
 from-9-spec =
     tie.close
     (tie.spec
-    -- by search: enum-known-nine 30:19, enum-told 33:13, rule-10-requires 33:13, refused-by-requires 31:27
+    -- by search: enum-known-nine, enum-told, rule-10-requires, refused-by-requires
     (λ c. search needs) (λ c. search needs) (λ c κs. search needs) (λ c κs. search needs)
     returns
     returns-2)

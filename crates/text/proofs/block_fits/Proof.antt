@@ -17,11 +17,11 @@ Inv-loop t at ok₀ i₀ ok i =
 abbrev μ-loop : tie.MeasureT-loop
 μ-loop t at ok₀ i₀ ok i = 16 - i
 
--- src/lib.rt:119:5
+-- the loop's start
 loop-holds : tie.Need-loop-holds Inv-loop μ-loop
 loop-holds c = (omega arith, fits-start pairAt (c .before .args .t .now) (c .before .args .at) 16)
 
--- src/lib.rt:119:5
+-- the loop's step
 loop-again : tie.Need-loop-again Inv-loop μ-loop
 loop-again c =
     let args = c .before .before .before .before .before .before .args in
@@ -34,7 +34,7 @@ loop-again c =
           (c .pair-fits .ensures ∙ pair-at (at₀ + loop .i) t),
     )
 
--- src/lib.rt:113:1
+-- ok
 returns : tie.Need-returns Inv-loop μ-loop
 returns c =
     let args = c .before .before .before .args in
@@ -48,9 +48,9 @@ block-fits-spec =
     Inv-loop
     μ-loop
     loop-holds
-    -- by search: add-pair-fits 120:31, shared-slice-read-pair-fits 120:29, add-pair-fits-2 120:42,
-    -- add-pair-fits-3 120:42, shared-slice-read-pair-fits-2 120:40, pair-fits-requires 120:19, add-i 121:9,
-    -- loop-less 119:5
+    -- by search: add-pair-fits, shared-slice-read-pair-fits, add-pair-fits-2,
+    -- add-pair-fits-3, shared-slice-read-pair-fits-2, pair-fits-requires, add-i,
+    -- loop-less
     (λ c. search needs) (λ c. search needs) (λ c. search needs) (λ c. search needs) (λ c. search needs)
     (λ c κs. search needs) (λ c. search needs) (λ c. search needs)
     loop-again

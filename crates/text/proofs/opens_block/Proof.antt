@@ -8,5 +8,5 @@ unfolding opensBlock
 opens-block-spec =
     tie.close
     (tie.spec
-    -- by one step: returns 155:1
+    -- by one step: returns
     (λ c. refl))

@@ -8,5 +8,5 @@ unfolding pairFits
 pair-fits-spec =
     tie.close
     (tie.spec
-    -- by one step: returns 103:1
+    -- by one step: returns
     (λ c. refl))

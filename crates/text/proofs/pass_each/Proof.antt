@@ -18,18 +18,17 @@ Inv-loop t from until at₀ at = (from ≤ at) × (at ≤ length t) × (textOk (
 abbrev μ-loop : tie.MeasureT-loop
 μ-loop t from until at₀ at = length t - at
 
--- src/lib.rt:175:5
+-- the loop's start
 loop-holds : tie.Need-loop-holds Inv-loop μ-loop
 loop-holds c = (omega arith, omega arith, refl)
 
--- src/lib.rt:175:5
+-- the loop's step
 loop-again : tie.Need-loop-again Inv-loop μ-loop
 loop-again c =
     let t = c .before .before .before .before .before .args .t .now in
     let loop = c .before .before .before .loop in
     (omega arith, omega arith, loop .inv .2 ∙ plain-on t (loop .at) (omega arith) (c .if1 .taken))
 
--- src/lib.rt:183:25
 returns : tie.Need-returns Inv-loop μ-loop
 returns c =
     let after-char-of = c .before .before .before .before .before in
@@ -42,7 +41,7 @@ returns c =
     ∙ text-off t (loop .at) _ _ (sym (simp tail-is at (char-of .ensures)) ∙ c-call .given .1)
     (sym (c .before .xml-char .ensures) ∙ not-true _ (c .if2 .taken))
 
--- src/lib.rt:185:21
+-- at += w
 add-at-2 : tie.Need-add-at-2 Inv-loop μ-loop
 add-at-2 c =
     let after-char-of = c .before .before .before .before .before in
@@ -53,7 +52,7 @@ add-at-2 c =
     let c-call = c .before .before .before .c in
     omega (arith, width-at t (loop .at) _ _ (sym (simp tail-is at (char-of .ensures)) ∙ c-call .given .1))
 
--- src/lib.rt:175:5
+-- the loop ends
 loop-less-2 : tie.Need-loop-less-2 Inv-loop μ-loop
 loop-less-2 c =
     let after-char-of = c .before .before .before .before .before in
@@ -64,7 +63,7 @@ loop-less-2 c =
     let c-call = c .before .before .before .c in
     omega (arith, width-at t (loop .at) _ _ (sym (simp tail-is at (char-of .ensures)) ∙ c-call .given .1))
 
--- src/lib.rt:175:5
+-- the loop's step
 loop-again-2 : tie.Need-loop-again-2 Inv-loop μ-loop
 loop-again-2 c =
     let after-char-of = c .before .before .before .before .before in
@@ -80,7 +79,7 @@ loop-again-2 c =
           (sym (c .before .xml-char .ensures) ∙ not-false _ (c .if2 .left)),
     )
 
--- src/lib.rt:188:21
+-- return Passed::Not
 returns-2 : tie.Need-returns-2 Inv-loop μ-loop
 returns-2 c =
     let after-loop = c .before .before .before .before .before .before .before in
@@ -90,7 +89,7 @@ returns-2 c =
     ∙ text-bad (drop (loop .at) t) (omega (arith, length-drop (loop .at) t))
     (sym (simp tail-is at (c .before .before .char-of .ensures)) ∙ c .enum-told .given .1)
 
--- src/lib.rt:170:1
+-- Passed::To(at)
 returns-3 : tie.Need-returns-3 Inv-loop μ-loop
 returns-3 c =
     let loop = c .before .loop in
@@ -103,18 +102,18 @@ pass-each-spec =
     Inv-loop
     μ-loop
     loop-holds
-    -- by search: shared-slice-read-b 176:17, add-at 178:13, loop-less 175:5
+    -- by search: shared-slice-read-b, add-at, loop-less
     (λ c. search needs) (λ c. search needs) (λ c. search needs)
     loop-again
-    -- by search: sub-char-of 180:27, part-char-of-start 180:27, part-char-of-end 180:27, char-of-requires 180:19,
-    -- enum-known-c 181:29, xml-char-requires 182:25
+    -- by search: sub-char-of, part-char-of-start, part-char-of-end, char-of-requires,
+    -- enum-known-c, xml-char-requires
     (λ c. search needs) (λ c. search needs) (λ c. search needs) (λ c κs. search needs) (λ c. search needs)
     (λ c κs. search needs)
     returns
     add-at-2
     loop-less-2
     loop-again-2
-    -- by search: enum-told 188:21
+    -- by search: enum-told
     (λ c. search needs)
     returns-2
     returns-3)

@@ -5,7 +5,7 @@ use borrow.Author.Needs.{needs}
 use Rattle.text.proofs.pass_wide.Statement.{statement}
 use Rattle.text.proofs.pass_wide.Tie as tie
 
--- src/lib.rt:206:17
+-- return Passed::To(at + 18)
 returns : tie.Need-returns
 returns c =
     let after-wide-block-fits = c .before .before .before .before .before in
@@ -19,7 +19,7 @@ returns c =
           (opens-block .ensures) (wide-block-fits .ensures) (if1 .taken) (c .before .if2 .taken) (c .if3 .taken),
     )
 
--- src/lib.rt:208:13
+-- return Passed::To(at + 17)
 returns-2 : tie.Need-returns-2
 returns-2 c =
     let after-wide-block-fits = c .before .before .before .before .before in
@@ -33,7 +33,7 @@ returns-2 c =
           (opens-block .ensures) (wide-block-fits .ensures) (if1 .taken) (c .before .if2 .taken) (c .if3 .left),
     )
 
--- src/lib.rt:210:9
+-- return Passed::To(at + 16)
 returns-3 : tie.Need-returns-3
 returns-3 c =
     let after-opens-block = c .before .before .before .before .before in
@@ -51,17 +51,17 @@ pub pass-wide-spec : {M : Type 1} → statement M
 pass-wide-spec =
     tie.close
     (tie.spec
-    -- by search: shared-slice-read-opens-block 201:20, add-opens-block 201:29,
-    -- shared-slice-read-opens-block-2 201:27, opens-block-requires 201:8, wide-block-fits-requires 201:40,
-    -- add-d 202:19, shared-slice-read-d 202:17, add-e 203:19, shared-slice-read-e 203:17, add-t24 206:35
+    -- by search: shared-slice-read-opens-block, add-opens-block,
+    -- shared-slice-read-opens-block-2, opens-block-requires, wide-block-fits-requires,
+    -- add-d, shared-slice-read-d, add-e, shared-slice-read-e, add-t24
     (λ c. search needs) (λ c. search needs) (λ c. search needs) (λ c κs. search needs) (λ c κs. search needs)
     (λ c. search needs) (λ c. search needs) (λ c. search needs) (λ c. search needs) (λ c. search needs)
     returns
-    -- by search: add-t25 208:31
+    -- by search: add-t25
     (λ c. search needs)
     returns-2
-    -- by search: add-t14 210:27
+    -- by search: add-t14
     (λ c. search needs)
     returns-3
-    -- by search: add-pass-each 212:22, pass-each-requires 212:5, returns-4 197:1
+    -- by search: add-pass-each, pass-each-requires, returns-4
     (λ c. search needs) (λ c κs. search needs) (λ c. search needs))

@@ -8,5 +8,5 @@ unfolding tripleFits
 triple-fits-spec =
     tie.close
     (tie.spec
-    -- by one step: returns 128:1
+    -- by one step: returns
     (λ c. refl))

@@ -17,11 +17,11 @@ Inv-loop t at ok₀ i₀ ok i =
 abbrev μ-loop : tie.MeasureT-loop
 μ-loop t at ok₀ i₀ ok i = 16 - i
 
--- src/lib.rt:147:5
+-- the loop's start
 loop-holds : tie.Need-loop-holds Inv-loop μ-loop
 loop-holds c = (omega arith, fits-start tripleAt (c .before .args .t .now) (c .before .args .at) 16)
 
--- src/lib.rt:147:5
+-- the loop's step
 loop-again : tie.Need-loop-again Inv-loop μ-loop
 loop-again c =
     let after-loop = c .before .before .before .before .before in
@@ -35,7 +35,7 @@ loop-again c =
           (c .triple-fits .ensures ∙ triple-at (at₀ + loop .i) t),
     )
 
--- src/lib.rt:141:1
+-- ok
 returns : tie.Need-returns Inv-loop μ-loop
 returns c =
     let args = c .before .before .before .args in
@@ -49,10 +49,10 @@ wide-block-fits-spec =
     Inv-loop
     μ-loop
     loop-holds
-    -- by search: add-triple-fits 148:33, shared-slice-read-triple-fits 148:31, add-triple-fits-2 148:44,
-    -- add-triple-fits-3 148:44, shared-slice-read-triple-fits-2 148:42, add-triple-fits-4 148:59,
-    -- add-triple-fits-5 148:59, shared-slice-read-triple-fits-3 148:57, triple-fits-requires 148:19, add-i 149:9,
-    -- loop-less 147:5
+    -- by search: add-triple-fits, shared-slice-read-triple-fits, add-triple-fits-2,
+    -- add-triple-fits-3, shared-slice-read-triple-fits-2, add-triple-fits-4,
+    -- add-triple-fits-5, shared-slice-read-triple-fits-3, triple-fits-requires, add-i,
+    -- loop-less
     (λ c. search needs) (λ c. search needs) (λ c. search needs) (λ c. search needs) (λ c. search needs)
     (λ c. search needs) (λ c. search needs) (λ c. search needs) (λ c κs. search needs) (λ c. search needs)
     (λ c. search needs)

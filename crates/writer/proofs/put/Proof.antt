@@ -14,11 +14,11 @@ Inv-loop out₀ bytes i₀ out i = (i ≤ length bytes) × (length out ≡ lengt
 abbrev μ-loop : tie.MeasureT-loop
 μ-loop out₀ bytes i₀ out i = length bytes - i
 
--- src/lib.rt:14:5
+-- the loop's start
 loop-holds : tie.Need-loop-holds Inv-loop μ-loop
 loop-holds c = (omega arith, refl, refl)
 
--- src/lib.rt:14:5
+-- the loop's step
 loop-again : tie.Need-loop-again Inv-loop μ-loop
 loop-again c =
     let args = c .before .before .before .args in
@@ -31,11 +31,11 @@ loop-again c =
           ∙ lead-suc bytes (args .out .now) i (omega arith) (omega arith),
     )
 
--- src/lib.rt:9:1
+-- i
 same-length : tie.Need-same-length Inv-loop μ-loop
 same-length c = c .before .loop .inv .1
 
--- src/lib.rt:9:1
+-- i
 returns : tie.Need-returns Inv-loop μ-loop
 returns c =
     let args = c .before .before .args in
@@ -49,7 +49,7 @@ put-spec =
     Inv-loop
     μ-loop
     loop-holds
-    -- by search: shared-slice-read-out 15:18, slice-write-out 15:9, add-i 16:9, loop-less 14:5
+    -- by search: shared-slice-read-out, slice-write-out, add-i, loop-less
     (λ c. search needs) (λ c. search needs) (λ c. search needs) (λ c. search needs)
     loop-again
     same-length

@@ -5,7 +5,7 @@ use borrow.Author.Needs.{needs}
 use Rattle.writer.proofs.put_byte.Statement.{statement}
 use Rattle.writer.proofs.put_byte.Tie as tie
 
--- src/lib.rt:22:1
+-- at + 1
 returns : tie.Need-returns
 returns c = (refl, one-byte (c .args .out .now) (c .args .at) (c .args .b) (c .pre))
 
@@ -13,6 +13,6 @@ pub put-byte-spec : {M : Type 1} → statement M
 put-byte-spec =
     tie.close
     (tie.spec
-    -- by search: slice-write-out 26:5, add-result 27:5, same-length 22:1
+    -- by search: slice-write-out, add-result, same-length
     (λ c. search needs) (λ c. search needs) (λ c. search needs)
     returns)

@@ -9,11 +9,11 @@ use borrow.Author.Needs.{needs}
 use Rattle.writer.proofs.put_mark.Statement.{statement}
 use Rattle.writer.proofs.put_mark.Tie as tie
 
--- src/lib.rt:46:5
+-- out[at + 1] = m[1]
 slice-write-out-2 : tie.Need-slice-write-out-2
 slice-write-out-2 c = simp length-set (omega arith)
 
--- src/lib.rt:41:1
+-- at + 2
 returns : tie.Need-returns
 returns c =
     let args = c .before .before .args in
@@ -23,9 +23,9 @@ pub put-mark-spec : {M : Type 1} → statement M
 put-mark-spec =
     tie.close
     (tie.spec
-    -- by search: element-copy-out-out 45:15, slice-write-out 45:5, element-copy-out-out-2 46:19, add-out 46:9
+    -- by search: element-copy-out-out, slice-write-out, element-copy-out-out-2, add-out
     (λ c. search needs) (λ c. search needs) (λ c. search needs) (λ c. search needs)
     slice-write-out-2
-    -- by search: add-result 47:5, same-length 41:1
+    -- by search: add-result, same-length
     (λ c. search needs) (λ c. search needs)
     returns)

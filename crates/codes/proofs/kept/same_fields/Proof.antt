@@ -15,11 +15,9 @@ Inv-loop t u i₀ i = (2 ≤ i) × (i ≤ 12) × (equal (fieldsAt t) (fieldsAt u
 abbrev μ-loop : tie.MeasureT-loop
 μ-loop t u i₀ i = 12 - i
 
--- src/lib.rt:28:5
 loop-holds : tie.Need-loop-holds Inv-loop μ-loop
 loop-holds c = (omega arith, omega arith, same-start (c .args .t .now) (c .args .u .now))
 
--- src/lib.rt:30:13
 returns : tie.Need-returns Inv-loop μ-loop
 returns c =
     let args = c .before .before .before .before .before .args in
@@ -28,7 +26,6 @@ returns c =
     sym (loop .inv .2
     ∙ same-off (loop .i) (args .t .now) (args .u .now) (loop-test .taken) (not-true _ (c .if1 .taken)))
 
--- src/lib.rt:28:5
 loop-again : tie.Need-loop-again Inv-loop μ-loop
 loop-again c =
     let args = c .before .before .before .before .before .args in
@@ -39,7 +36,6 @@ loop-again c =
       loop .inv .2 ∙ same-on (loop .i) (args .t .now) (args .u .now) (loop-test .taken) (not-false _ (c .if1 .left)),
     )
 
--- src/lib.rt:23:1
 returns-2 : tie.Need-returns-2 Inv-loop μ-loop
 returns-2 c =
     let args = c .before .before .args in
@@ -53,10 +49,10 @@ same-fields-spec =
     Inv-loop
     μ-loop
     loop-holds
-    -- by search: shared-slice-read-if1 29:14, shared-slice-read-if1-2 29:22
+    -- by search: shared-slice-read-if1, shared-slice-read-if1-2
     (λ c. search needs) (λ c. search needs)
     returns
-    -- by one step: add-i 32:9, loop-less 28:5
+    -- by one step: add-i, loop-less
     (λ c. search needs) (λ c. omega arith)
     loop-again
     returns-2)
