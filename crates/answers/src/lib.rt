@@ -21,7 +21,8 @@ fn at_if(bad: bool, at: usize) -> Place
     if bad { Place::At(at) } else { Place::Nowhere }
 }
 
-// The lower place, if the record at `at` is at fault. It is made anew: a loop that hands it on copies no bytes between its fields.
+// The lower place, if the record at `at` is at fault. It is made anew: a loop that hands it on copies no bytes between
+// its fields.
 pub fn lower_if(bad: bool, best: Place, at: usize) -> Place
     ensures { λ r. ⌜ r ≡ cond bad (lower best at) best ⌝ }
 {

@@ -1,4 +1,5 @@
--- The contents of a table, each by itself: the offsets of heads and markers in table order, and their keys. A head (SG, IG, TG) is a bar between two contents.
+-- The contents of a table, each by itself: the offsets of heads and markers in table order, and their keys. A head (SG,
+-- IG, TG) is a bar between two contents.
 use Prim.Native.Nat.{ℕ, _%_, _/_}
 use mathlib.Core.Path.{_≡_, refl}
 use mathlib.Core.Bool.{Bool, true, false, cond}

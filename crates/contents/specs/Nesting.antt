@@ -1,4 +1,5 @@
--- Rule 7 for pc and mrk, on keys: the definitions of the specification's `meet`, `partner-P` and `lone-P` with keys in place of items.
+-- Rule 7 for pc and mrk, on keys: the definitions of the specification's `meet`, `partner-P` and `lone-P` with keys in
+-- place of items.
 use Prim.Native.Nat.{ℕ}
 use mathlib.Core.Bool.{Bool, true, false, not, _&&_, cond}
 use mathlib.Core.List.{List, [], _∷_}

@@ -23,7 +23,8 @@ fn is_found(head: u8, inside: bool, marker: bool) -> bool
     !(head == 2) | (inside & marker)
 }
 
-// The offsets of the heads (SG, IG, TG) and of the markers of source contents and, where `targets`, of target contents, in table order.
+// The offsets of the heads (SG, IG, TG) and of the markers of source contents and, where `targets`, of target contents,
+// in table order.
 pub fn contents(t: &[u8], targets: bool, out: &mut [u16]) -> usize
     requires { ⌜ Passes (now t) × (length (now t) ≤ most-bytes) × (length (now out) ≡ most-records) ⌝ }
     ensures { λ r. ⌜ (take r (now (out .exit)) ≡ barred targets (now (t .entry))) × (r ≤ most-records) × (length (now (out .exit)) ≡ most-records) ⌝ }

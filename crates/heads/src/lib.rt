@@ -1,5 +1,5 @@
-// What is asked of the records that open a unit and head its parts and targets (UN, SG, IG, TG), and how they are written. Their fields are read
-// by `table`; no other crate knows where they stand.
+// What is asked of the records that open a unit and head its parts and targets (UN, SG, IG, TG), and how they are
+// written. Their fields are read by `table`; no other crate knows where they stand.
 use table::Segment;
 ghost use Prim.Native.Nat.{_≤_};
 ghost use mathlib.Core.List.{_++_};

@@ -1,4 +1,5 @@
-// Keys in groups by their ids: each is linked to the nearest before it, or after it, of its group, so that a search for an id meets few others.
+// Keys in groups by their ids: each is linked to the nearest before it, or after it, of its group, so that a search for
+// an id meets few others.
 ghost use mathlib.Core.Path.{_≡_};
 ghost use mathlib.Core.List.{[]};
 ghost use Prim.Native.Nat.{_+_, _-_, _<_, _≤_};

@@ -60,7 +60,8 @@ nameBy o k = cond (eqb (k % 64 / 8) 0 || eqb (k % 8 / 2) 2) 0 (k / 64 * 64 + o)
 abbrev pub ownerBy : ℕ → ℕ → ℕ
 ownerBy head o = cond (eqb head 0) 2 (cond (eqb head 1) 3 o)
 
--- the number is that of the id which the record at an offset gives, where one stands and `head` is 0 if it begins a part
+-- the number is that of the id which the record at an offset gives, where one stands and `head` is 0 if it begins a
+-- part
 abbrev pub NameAt : List ℕ → ℕ → ℕ → ℕ → ℕ → Type 0
 NameAt t at head o k = (rs : List encode.Record) → At t at rs → at < length t → ((head ≡ 0 → ⊥) → is-part (read (drop at t)) ≡ false)
     → named k at ≡ found-at of-source (λ q. of-target) head-name (λ q at. []) start-name no-name (owner o) at (read (drop at t))

@@ -1,4 +1,5 @@
-// Rule 6. An id and its owner are one number: 64 times the id, plus 1 for a part, 2 for the source, 3 for a target; 0 is none.
+// Rule 6. An id and its owner are one number: 64 times the id, plus 1 for a part, 2 for the source, 3 for a target; 0
+// is none.
 use answers::Place;
 use limits::MOST_RECORDS;
 use table::Fields;
@@ -162,7 +163,8 @@ fn link_if(links: &mut [u16], heads: &mut [u16], n: usize, k: u32) -> usize
     n + 1
 }
 
-// Rule 6. Linear: each id is compared with those before it whose last eight bits are the same; quadratic only if they are of all.
+// Rule 6. Linear: each id is compared with those before it whose last eight bits are the same; quadratic only if they
+// are of all.
 pub fn rule_6(t: &[u8]) -> Place
     requires { ⌜ Passes (now t) ⌝ }
     ensures { λ r. ⌜ refusal-at 6 r ≡ fault-6 (unit (now (t .entry)) .parts) ⌝ }

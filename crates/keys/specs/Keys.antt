@@ -1,4 +1,5 @@
--- A marker as one number, its key: id, class, half and form, all that rule 7 asks of it. The key of text and characters is 0.
+-- A marker as one number, its key: id, class, half and form, all that rule 7 asks of it. The key of text and characters
+-- is 0.
 use Prim.Native.Nat.{ℕ, _+_, _*_, _/_, _%_}
 use mathlib.Core.Bool.{Bool, _&&_, _||_, cond}
 use mathlib.Core.List.{List, map}

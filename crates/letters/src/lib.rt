@@ -1,6 +1,6 @@
 // Rule 8: the letters of partners agree, and a fixed code is neither copied nor deleted.
-// Throughout, `t` is the table, `source_markers` and `target_markers` the offsets of the markers of the source and the target sequence,
-// `source_keys` and `target_keys` their keys.
+// Throughout, `t` is the table, `source_markers` and `target_markers` the offsets of the markers of the source and the
+// target sequence, `source_keys` and `target_keys` their keys.
 use answers::Place;
 use views::View;
 ghost use mathlib.Core.Path.{_≡_};

@@ -1,4 +1,5 @@
--- The marks by the code's cases. Stepping stones: `mark-same` (proofs/MarkLaws) ties them to the specification's `mark-at`.
+-- The marks by the code's cases. Stepping stones: `mark-same` (proofs/MarkLaws) ties them to the specification's
+-- `mark-at`.
 use Prim.Native.Nat.{ℕ}
 use mathlib.Core.Bool.{Bool, _&&_, cond}
 use mathlib.Core.List.{List, [], _∷_}

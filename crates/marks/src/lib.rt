@@ -1,5 +1,5 @@
-// The eighteen marks of a table's records, compared as fixed two-byte strings; how many bytes a record of a mark takes; and numbers
-// of two bytes.
+// The eighteen marks of a table's records, compared as fixed two-byte strings; how many bytes a record of a mark takes;
+// and numbers of two bytes.
 ghost use mathlib.Core.Path.{_≡_};
 ghost use Prim.Native.Nat.{_+_, _<_, _≤_};
 ghost use lib.ListN.{length};

@@ -7,7 +7,8 @@ use lib.Dec.{eqb}
 use Rattle.keys.specs.Keys.{halfKey, formKey, otherKey}
 use Rattle.contents.specs.Contents.{isBar}
 
--- the keys before index i (`back`), the nearest first, or after it: how many of n, the index of the one behind the first j, and those behind the first j
+-- the keys before index i (`back`), the nearest first, or after it: how many of n, the index of the one behind the
+-- first j, and those behind the first j
 abbrev pub stepsAway : Bool → ℕ → ℕ → ℕ
 stepsAway back i n = cond back i (n - (i + 1))
 

@@ -1,6 +1,6 @@
 // Rule 9: a pair with canOverlap N encloses neither an isolated code nor one half alone of another pair.
-// Throughout, `t` is the table, `source_markers` and `target_markers` the offsets of the markers of the source and the target sequence,
-// `source_keys` and `target_keys` their keys.
+// Throughout, `t` is the table, `source_markers` and `target_markers` the offsets of the markers of the source and the
+// target sequence, `source_keys` and `target_keys` their keys.
 use answers::Place;
 use limits::MOST_RECORDS;
 use views::View;

@@ -79,7 +79,8 @@ fn order_of(r: Read) -> Order
     }
 }
 
-// The offsets of a part: its SG or IG, its source content, its TG and its end. Without a target the TG's is the end, and the order 0.
+// The offsets of a part: its SG or IG, its source content, its TG and its end. Without a target the TG's is the end,
+// and the order 0.
 // And whether it is a segment, and whether it has a target.
 pub struct PartPlace {
     pub head: usize,

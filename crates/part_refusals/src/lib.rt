@@ -53,7 +53,8 @@ pub fn is_closed(t: &[u8], place: PartPlace) -> bool
     closed_by(unit, walker::known_at(t, place.head))
 }
 
-// Whether the record at an offset has the id. `named`: it is that of a part or a marker, whose id stands behind the mark.
+// Whether the record at an offset has the id. `named`: it is that of a part or a marker, whose id stands behind the
+// mark.
 fn has_id(t: &[u8], at: usize, named: bool, id: u16) -> bool
     requires { ⌜ (named ≡ true → at + 4 ≤ length (now t)) ⌝ }
     ensures { λ r. ⌜ r ≡ (named && eqb (two-at (now (t .entry)) (at + 2)) id) ⌝ }

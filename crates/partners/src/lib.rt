@@ -1,6 +1,6 @@
 // Rule 7: a half without partner.
-// Throughout, `t` is the table, `source_markers` and `target_markers` the offsets of the markers of the source and the target sequence,
-// `source_keys` and `target_keys` their keys.
+// Throughout, `t` is the table, `source_markers` and `target_markers` the offsets of the markers of the source and the
+// target sequence, `source_keys` and `target_keys` their keys.
 use answers::Place;
 use limits::MOST_RECORDS;
 ghost use mathlib.Core.Path.{_≡_};

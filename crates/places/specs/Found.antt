@@ -64,7 +64,8 @@ no-name o c at = refl
 abbrev pub names-found : Owner → ℕ → List Record → List Named
 names-found o at rs = found of-source (λ q. of-target) head-name (λ q at. []) start-name no-name o at rs
 
--- The markers, items with a class: those of the source sequence (source true), or those of the targets of order q. Whether the walk stands in such a content
+-- The markers, items with a class: those of the source sequence (source true), or those of the targets of order q.
+-- Whether the walk stands in such a content
 unfoldable pub marker : Bool → Placed → List Placed
 marker inside p = cond (inside && not (eqb (class (p .item)) 0)) (p ∷ []) []
 

@@ -9,7 +9,8 @@ ghost use Rattle.xliff.specs.Calls.{SP, JN, ST, RT, RW};
 ghost use Rattle.xliff.specs.Desk.{lent, asked, request};
 ghost use Rattle.requests.specs.Requests.{request-size, Asks};
 
-// The numbers and letters of a request. Set target has the length of its content, which stands behind its first seven bytes.
+// The numbers and letters of a request. Set target has the length of its content, which stands behind its first seven
+// bytes.
 pub enum Request {
     Split(u16, u16, u16, u16),
     Join(u16),

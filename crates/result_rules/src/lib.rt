@@ -23,8 +23,8 @@ fn is_at(p: Place) -> bool
     }
 }
 
-// 7, or 9 if that is asked too, or 0. `source_markers` and `target_markers` are the offsets of the markers of the source and the target
-// sequence, `source_keys` and `target_keys` their keys.
+// 7, or 9 if that is asked too, or 0. `source_markers` and `target_markers` are the offsets of the markers of the
+// source and the target sequence, `source_keys` and `target_keys` their keys.
 fn by_markers(
     t: &[u8],
     source_markers: &[u16],

@@ -173,7 +173,8 @@ fn set_checked(table: &[u8], a: Answer, n: u16, state: u8, content: &[u8], out: 
     }
 }
 
-// Accepted: the output's first bytes are the table with the target set, the rest is unchanged. Refused: the whole output is unchanged.
+// Accepted: the output's first bytes are the table with the target set, the rest is unchanged. Refused: the whole
+// output is unchanged.
 pub fn set_target(table: &[u8], part: u16, state: u8, content: &[u8], out: &mut [u8]) -> Answer
     ensures { λ r. ⌜ Answers (set-target (now (table .entry)) part state (now (content .entry)) (length (now (out .entry)))) r (now (out .entry)) (now (out .exit)) ⌝ }
 {

@@ -1,6 +1,7 @@
 // Rule 10: codes of targets match those of the source.
-// Throughout, `t` is the table, `source_markers` and `target_markers` the offsets of the markers of the source and the target sequence,
-// `source_keys` and `target_keys` their keys. `links` and `heads` link keys by the groups of their ids (`id_links`).
+// Throughout, `t` is the table, `source_markers` and `target_markers` the offsets of the markers of the source and the
+// target sequence, `source_keys` and `target_keys` their keys. `links` and `heads` link keys by the groups of their ids
+// (`id_links`).
 use answers::Place;
 use limits::MOST_RECORDS;
 use views::View;

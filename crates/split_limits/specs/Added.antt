@@ -1,4 +1,5 @@
--- The records that a cut adds. Each is as long as a mark and a number: the TX of the second half of a text, the TG of a second target.
+-- The records that a cut adds. Each is as long as a mark and a number: the TX of the second half of a text, the TG of a
+-- second target.
 use Prim.Native.Nat.{ℕ, _+_, _*_, _≤_}
 use mathlib.Core.Path.{_≡_}
 use mathlib.Core.List.{List}

@@ -10,7 +10,8 @@ use Rattle.table.specs.declared.Record.the-variants.{Text}
 use Rattle.table.specs.declared.Read.{Read}
 use Rattle.table.specs.declared.Read.the-variants.{Good}
 
--- the record that the specification reads there, and its width; or a text, where the specification reads one that is not of XML's characters
+-- the record that the specification reads there, and its width; or a text, where the specification reads one that is
+-- not of XML's characters
 pub data Known (t : List ℕ) : Read → Type 0 where
   same-record : {r : Read} → meaning (body t) r ≡ read t → width r ≡ length (record-bytes (read t)) → Known t r
   some-text : {w : ℕ} → read t ≡ ill-text → Known t (Good Text w)

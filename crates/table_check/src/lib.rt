@@ -1,6 +1,6 @@
 // The check of a table: the numbers 1 to 10. A rule is tried only where all before it are met.
-// Throughout, `t` is the table, `source_markers` and `target_markers` the offsets of the markers of the source and the target sequence,
-// `source_keys` and `target_keys` their keys.
+// Throughout, `t` is the table, `source_markers` and `target_markers` the offsets of the markers of the source and the
+// target sequence, `source_keys` and `target_keys` their keys.
 use answers::Answer;
 use answers::Place;
 use limits::MOST_RECORDS;

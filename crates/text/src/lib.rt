@@ -99,7 +99,8 @@ fn char_of(t: &[u8]) -> Char
     Char::Bad
 }
 
-// Whether `c` is a character of one byte, no control character, or a byte of a character of two, and `d` is a second byte just where `c` is a first.
+// Whether `c` is a character of one byte, no control character, or a byte of a character of two, and `d` is a second
+// byte just where `c` is a first.
 fn pair_fits(c: u8, d: u8) -> bool
     ensures { λ r. ⌜ r ≡ pairFits c d ⌝ }
 {
@@ -123,7 +124,8 @@ fn block_fits(t: &[u8], at: usize) -> bool
     ok
 }
 
-// As `pair_fits`, for characters of three bytes too: `e` is a byte behind a first just where `d` is a first, or `c` the first of three.
+// As `pair_fits`, for characters of three bytes too: `e` is a byte behind a first just where `d` is a first, or `c` the
+// first of three.
 // Barred: behind E0 a form too long, behind ED a surrogate, behind EF a BF, where XML does not allow all.
 fn triple_fits(c: u8, d: u8, e: u8) -> bool
     ensures { λ r. ⌜ r ≡ tripleFits c d e ⌝ }
@@ -151,7 +153,8 @@ fn wide_block_fits(t: &[u8], at: usize) -> bool
     ok
 }
 
-// Whether `b` is the first byte of a character, and `c` is a byte behind a first just where `b` is the first of more than one.
+// Whether `b` is the first byte of a character, and `c` is a byte behind a first just where `b` is the first of more
+// than one.
 fn opens_block(b: u8, c: u8) -> bool
     ensures { λ r. ⌜ r ≡ opensBlock b c ⌝ }
 {
