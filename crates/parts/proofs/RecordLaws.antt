@@ -1,7 +1,7 @@
 -- The records of parts: their marks, their orders, one further, the end.
 use Prim.Native.Nat.{ℕ, _<_, _≤_}
 use mathlib.Core.Path.{_≡_, refl, sym, ap, _∙_}
-use mathlib.Core.Bool.{true, false, true≢false}
+use mathlib.Core.Bool.{Bool, true, false, true≢false}
 use mathlib.Core.List.{List, [], _∷_, _++_, append-nil}
 use native.Mathlib.Omega.{arith}
 use lib.ListN.{length}
@@ -58,6 +58,16 @@ others-stay f (part-head h) (head-in g) e = refl
 others-stay f (target-head q) (target-in l) e = absurd (true≢false e)
 others-stay f (inline x) (item-in g) e = refl
 others-stay f (text-run cs) (text-in a l) e = refl
+
+-- what was tested is the mark of the record
+pub mark-tested : (r : Record) (t : List ℕ) → t ≡ record-bytes r → (tested answer : Bool) → tested ≡ marked t (84 ∷ 71 ∷ []) → tested ≡ answer
+    → marked (record-bytes r) (84 ∷ 71 ∷ []) ≡ answer
+mark-tested r t e tested answer h k = ap (λ (l : List ℕ). marked l (84 ∷ 71 ∷ [])) (sym e) ∙ sym h ∙ k
+
+-- a record that is no target is copied
+pub others-wrote : (f : ℕ → ℕ) (r : Record) → InPart r → (t o l : List ℕ) → t ≡ record-bytes r → marked (record-bytes r) (84 ∷ 71 ∷ []) ≡ false
+    → l ≡ lead t o → l ≡ lead (record-bytes (order-record f r)) o
+others-wrote f r g t o l e bare w = w ∙ ap (λ (x : List ℕ). lead x o) (e ∙ ap record-bytes (sym (others-stay f r g bare)))
 
 as-target : (r : Record) (b : ATarget r) (t : List ℕ) → t ≡ record-bytes r → t ≡ record-bytes (target-head (b .order)) ++ []
 as-target r b t e = e ∙ ap record-bytes (b .is) ∙ sym (append-nil (record-bytes (target-head (b .order))))

@@ -1,9 +1,7 @@
-use Rattle.parts.proofs.RecordLaws.{one-least, target-marked, others-stay, some-target, order-is, moved-room, target-moved}
+use Rattle.parts.proofs.RecordLaws.{one-least, target-marked, mark-tested, others-wrote, some-target, order-is, moved-room, target-moved}
 use Rattle.parts.specs.Parts.{moved}
-use Rattle.marks.specs.Marks.{marked}
-use Rattle.writer.specs.Pieces.{lead}
-use Rattle.xliff.specs.Encode.{record-bytes}
 use native.Mathlib.Omega.{arith}
+use mathlib.Core.Bool.{true, false}
 use mathlib.Core.List.{List, [], _∷_}
 use mathlib.Core.Path.{sym, ap, _∙_}
 use Prim.Native.Nat.{ℕ}
@@ -22,10 +20,8 @@ order-of-requires : tie.Need-order-of-requires
 order-of-requires c κs =
     let start = c .before .before .before .before .before .before in
     let (r, g, e) = (start .pre) .0 in
-    some-target r (target-marked r g
-    (ap (λ (l : List ℕ). marked l (84 ∷ 71 ∷ [])) (sym e)
-    ∙ sym (c .before .before .marked-by .ensures)
-    ∙ c .before .if1 .taken)) (start .args .t .now) e
+    let t = start .args .t .now in
+    some-target r (target-marked r g (mark-tested r t e _ true (c .before .before .marked-by .ensures) (c .before .if1 .taken))) t e
 
 -- moved_order(heads::order_of(t), q, up)
 moved-order-requires : tie.Need-moved-order-requires
@@ -33,11 +29,9 @@ moved-order-requires c κs =
     let start = c .before .before .before .before .before .before .before in
     let marked-by = c .before .before .before .marked-by in
     let (r, g, e) = (start .pre) .0 in
-    let b = target-marked r g
-    (ap (λ (l : List ℕ). marked l (84 ∷ 71 ∷ [])) (sym e)
-    ∙ sym (marked-by .ensures)
-    ∙ c .before .before .if1 .taken) in
-    omega (arith, order-is r b (start .args .t .now) e (c .order-of .result) (c .order-of .ensures), b .small)
+    let t = start .args .t .now in
+    let b = target-marked r g (mark-tested r t e _ true (marked-by .ensures) (c .before .before .if1 .taken)) in
+    omega (arith, order-is r b t e (c .order-of .result) (c .order-of .ensures), b .small)
 
 -- heads::put_target_head(out, moved_order(heads::order_of(t), q, up))
 put-target-head-requires : tie.Need-put-target-head-requires
@@ -48,8 +42,7 @@ put-target-head-requires c κs =
     let if1 = c .before .before .before .if1 in
     let order-of = c .before .order-of in
     let (r, g, e) = pre .0 in
-    moved-room r (target-marked r g
-    (ap (λ (l : List ℕ). marked l (84 ∷ 71 ∷ [])) (sym e) ∙ sym (marked-by .ensures) ∙ if1 .taken))
+    moved-room r (target-marked r g (mark-tested r (start .args .t .now) e _ true (marked-by .ensures) (if1 .taken)))
     (start .args .t .now) e (order-of .result) (order-of .ensures) (c .moved-order .result) (start .args .out .now)
     (pre .1)
 
@@ -64,8 +57,7 @@ returns c =
     let moved-order = c .before .before .before .moved-order in
     let put-target-head = c .before .before .put-target-head in
     λ r g e.
-    target-moved r (target-marked r g
-    (ap (λ (l : List ℕ). marked l (84 ∷ 71 ∷ [])) (sym e) ∙ sym (marked-by .ensures) ∙ if1 .taken)) (args .t .now) e
+    target-moved r (target-marked r g (mark-tested r (args .t .now) e _ true (marked-by .ensures) (if1 .taken))) (args .t .now) e
     (order-of .result) (order-of .ensures) (moved (args .up) (args .q)) (moved-order .result) (moved-order .ensures)
     (args .out .now) (put-target-head .last .0) (put-target-head .result) (put-target-head .ensures)
 
@@ -77,10 +69,8 @@ returns-2 c =
     let marked-by = after-marked-by .marked-by in
     let if1 = c .before .before .before .before .if1 in
     λ r g e.
-    let bare = ap (λ (l : List ℕ). marked l (84 ∷ 71 ∷ [])) (sym e) ∙ sym (marked-by .ensures) ∙ if1 .left in
-    (c .before .before .put) .ensures .1
-    ∙ ap (λ (l : List ℕ). lead l (args .out .now))
-    (e ∙ ap record-bytes (sym (others-stay (moved (args .up) (args .q)) r g bare)))
+    let bare = mark-tested r (args .t .now) e _ false (marked-by .ensures) (if1 .left) in
+    others-wrote (moved (args .up) (args .q)) r g (args .t .now) (args .out .now) _ e bare (c .before .before .put .ensures .1)
 
 pub put-record-spec : {M : Type 1} → statement M
 put-record-spec =
