@@ -4,7 +4,7 @@ use mathlib.Core.Path.{_≡_, refl, sym, ap, _∙_}
 use mathlib.Core.List.{List, _++_}
 use native.Mathlib.Omega.{arith}
 use lib.ListN.{length, take, drop, length-append}
-use lib.Seq.{length-take-le}
+use lib.Seq.{length-take-le, take-all}
 use Rattle.xliff.specs.Answer as spec
 use Rattle.xliff.specs.Check.{table-refusal, check}
 use Rattle.xliff.specs.Desk.{answer-requests, line, table-length, desk-job}
@@ -12,6 +12,7 @@ use Rattle.xliff.specs.Parse.{most-bytes}
 use Rattle.xliff.proofs.unit.Result.{then-left, applies-none}
 use lib.Dec.{ltb}
 use borrow.Author.Tests.{ltb-false}
+use Rattle.writer.specs.Pieces.{lead}
 use Rattle.outcomes.proofs.OutcomeLaws.{accepted-none, refused-some}
 
 -- an accepted table has at most 8,192 bytes
@@ -41,3 +42,10 @@ pub within : (p out last : List ℕ) (r : ℕ) → r ≡ length p → last ≡ p
 within p out last r e f =
     let l : r ≤ length last = omega (arith, e, ap length f, length-append p (drop (length p) out)) in
     (l, sym (length-take-le r last l))
+
+-- a job that is not cut
+pub whole-job : (job out last : List ℕ) (n : ℕ) → length job ≤ 65535 → n ≡ length (desk-job job) → last ≡ lead (desk-job job) out
+    → (n ≡ length (desk-job (take 65535 job))) × (last ≡ lead (desk-job (take 65535 job)) out)
+whole-job job out last n h e f =
+    let whole = sym (take-all 65535 job h) in
+    (e ∙ ap (λ (l : List ℕ). length (desk-job l)) whole, f ∙ ap (λ (l : List ℕ). lead (desk-job l) out) whole)

@@ -12,8 +12,8 @@ use Rattle.xliff.specs.Join.{join-heads, join-parts}
 use Rattle.xliff.proofs.unit.Pieces.{spell-append}
 use Rattle.xliff.proofs.lists.Slices.{slice-long}
 use Rattle.xliff.specs.Parse.{most-bytes}
-use Rattle.writer.specs.Pieces.{Written}
-use Rattle.writer.proofs.RunLaws.{Pieces}
+use Rattle.writer.specs.Pieces.{Written, rest, back}
+use Rattle.writer.proofs.RunLaws.{Pieces, all-wrote}
 use Rattle.walk.specs.Kept.{Holds}
 use Rattle.part_at.specs.Targets.{TargetIs}
 use Rattle.part_at.proofs.HoldLaws.{holds-source, target-ends}
@@ -114,3 +114,12 @@ module _ (t : List ℕ) (h : Bytes t) (x y : PartPlace) (v : TwoParts t x y) whe
     pub targets-wrote : (l : List ℕ) (n : ℕ) (z : List ℕ) → WroteTargets o (between t (x .target) (x .end)) (between t (y .target) (y .end)) l n z
         → Written (target-bytes o (v .first .target) (v .second .target)) l n z
     targets-wrote l n z w = w (v .first .target) (v .second .target) first-target second-target
+
+    -- all three pieces, one behind the other
+    pub part-wrote : (out a b c : List ℕ) (m n k : ℕ) → WroteHeads (between t (x .head) (x .source)) (between t (y .head) (y .source)) out m a
+        → WroteContents (between t (x .source) (x .target)) (between t (y .source) (y .target)) (rest m a) n b
+        → WroteTargets o (between t (x .target) (x .end)) (between t (y .target) (y .end)) (rest (m + n) (back m a b)) k c
+        → Written (part-bytes o (v .first) (v .second)) out (m + n + k) (back (m + n) (back m a b) c)
+    part-wrote out a b c m n k heads-are sources-are targets-are =
+        all-wrote (joined-pieces o (v .first) (v .second)) out (heads-wrote out m a heads-are) (sources-wrote (rest m a) n b sources-are)
+        (targets-wrote (rest (m + n) (back m a b)) k c targets-are)

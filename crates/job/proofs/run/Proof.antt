@@ -1,12 +1,9 @@
 use Rattle.xliff.specs.Desk.{desk-job, desk}
-use Rattle.writer.specs.Pieces.{lead}
-use Prim.Native.Nat.{ℕ}
-use mathlib.Core.List.{List}
-use lib.ListN.{length, take}
+use lib.ListN.{take}
 use native.Mathlib.Omega.{arith}
-use mathlib.Core.Path.{sym, ap, _∙_}
-use lib.Seq.{length-take-le, take-all}
-use Rattle.job.proofs.RunLaws.{within}
+use mathlib.Core.Path.{sym}
+use lib.Seq.{length-take-le}
+use Rattle.job.proofs.RunLaws.{within, whole-job}
 use borrow.Author.Needs.{needs}
 use Rattle.job.proofs.run.Statement.{statement}
 use Rattle.job.proofs.run.Tie as tie
@@ -44,10 +41,10 @@ returns-2 c =
     let job = args .job .now in
     let out = args .out .now in
     let run-job2 = c .run-job2 in
-    let e = take-all 65535 job (c .before .before .if1 .left) in
-    let a = run-job2 .ensures .0 ∙ ap (λ (l : List ℕ). length (desk-job l)) (sym e) in
-    let b = run-job2 .ensures .1 ∙ ap (λ (l : List ℕ). lead (desk-job l) out) (sym e) in
-    ((a, b), within (desk-job (take 65535 job)) out (run-job2 .last .1 .0) (run-job2 .result) a b)
+    let last = run-job2 .last .1 .0 in
+    let n = run-job2 .result in
+    let wrote = whole-job job out last n (c .before .before .if1 .left) (run-job2 .ensures .0) (run-job2 .ensures .1) in
+    (wrote, within (desk-job (take 65535 job)) out last n (wrote .0) (wrote .1))
 
 pub run-spec : {M : Type 1} → statement M
 unfolding desk

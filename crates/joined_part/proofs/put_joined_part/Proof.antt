@@ -1,19 +1,9 @@
-use Rattle.joined_part.proofs.PartLaws.{
-  joined-pieces,
-  heads-asked,
-  heads-wrote,
-  sources-asked,
-  sources-wrote,
-  first-ends,
-  second-ends,
-  targets-asked,
-  targets-wrote,
-}
+use Rattle.joined_part.proofs.PartLaws.{joined-pieces, heads-asked, heads-wrote, sources-asked, sources-wrote, first-ends, second-ends, targets-asked, targets-wrote, part-wrote}
 use Rattle.joined_part.specs.Joined.{part-bytes}
 use Rattle.table.proofs.WidthLaws.{bytes-known}
 use Rattle.writer.specs.Pieces.{rest, back}
 use Rattle.writer.proofs.PieceLaws.{lead-length}
-use Rattle.writer.proofs.RunLaws.{first-room, second-start, second-room, two-fit, third-start, third-room, three-fit, all-wrote}
+use Rattle.writer.proofs.RunLaws.{first-room, second-start, second-room, two-fit, third-start, third-room, three-fit}
 use native.Mathlib.Omega.{arith}
 use lib.ListN.{length}
 use mathlib.Core.Path.{ap, _∙_}
@@ -267,16 +257,11 @@ same-length c =
     let put-joined = after-put-joined .put-joined in
     let put-joined-target = c .before .before .put-joined-target in
     let (v, small, room) = start .pre in
-    ap length (all-wrote (joined-pieces order (v .first) (v .second)) out
-    (heads-wrote t (bytes-known t known) x y v out (put-joined-head .result) (put-joined-head .last .0)
-    (put-joined-head .ensures))
-    (sources-wrote t (bytes-known t known) x y v (rest (put-joined-head .result) (put-joined-head .last .0))
-    (put-joined .result) (put-joined .last .0) (put-joined .ensures))
-    (targets-wrote t (bytes-known t known) x y v order
-    (rest (put-joined-head .result + put-joined .result)
-    (back (put-joined-head .result) (put-joined-head .last .0) (put-joined .last .0))) (put-joined-target .result)
-    (put-joined-target .last .0) (put-joined-target .ensures)) .1)
-    ∙ lead-length (part-bytes order (v .first) (v .second)) out room
+    let wrote =
+        part-wrote t (bytes-known t known) x y v order out (put-joined-head .last .0) (put-joined .last .0) (put-joined-target .last .0)
+        (put-joined-head .result) (put-joined .result) (put-joined-target .result)
+        (put-joined-head .ensures) (put-joined .ensures) (put-joined-target .ensures) in
+    ap length (wrote .1) ∙ lead-length (part-bytes order (v .first) (v .second)) out room
 
 -- w + z
 returns : tie.Need-returns
@@ -294,15 +279,9 @@ returns c =
     let put-joined = after-put-joined .put-joined in
     let put-joined-target = c .before .before .put-joined-target in
     λ v.
-    all-wrote (joined-pieces order (v .first) (v .second)) out
-    (heads-wrote t (bytes-known t known) x y v out (put-joined-head .result) (put-joined-head .last .0)
-    (put-joined-head .ensures))
-    (sources-wrote t (bytes-known t known) x y v (rest (put-joined-head .result) (put-joined-head .last .0))
-    (put-joined .result) (put-joined .last .0) (put-joined .ensures))
-    (targets-wrote t (bytes-known t known) x y v order
-    (rest (put-joined-head .result + put-joined .result)
-    (back (put-joined-head .result) (put-joined-head .last .0) (put-joined .last .0))) (put-joined-target .result)
-    (put-joined-target .last .0) (put-joined-target .ensures))
+    part-wrote t (bytes-known t known) x y v order out (put-joined-head .last .0) (put-joined .last .0) (put-joined-target .last .0)
+    (put-joined-head .result) (put-joined .result) (put-joined-target .result)
+    (put-joined-head .ensures) (put-joined .ensures) (put-joined-target .ensures)
 
 pub put-joined-part-spec : {M : Type 1} → statement M
 put-joined-part-spec =
