@@ -258,9 +258,9 @@ same-length c =
     let put-joined-target = c .before .before .put-joined-target in
     let (v, small, room) = start .pre in
     let wrote =
-        part-wrote t (bytes-known t known) x y v order out (put-joined-head .last .0) (put-joined .last .0) (put-joined-target .last .0)
-        (put-joined-head .result) (put-joined .result) (put-joined-target .result)
-        (put-joined-head .ensures) (put-joined .ensures) (put-joined-target .ensures) in
+    part-wrote t (bytes-known t known) x y v order out (put-joined-head .last .0) (put-joined .last .0) (put-joined-target .last .0)
+    (put-joined-head .result) (put-joined .result) (put-joined-target .result)
+    (put-joined-head .ensures) (put-joined .ensures) (put-joined-target .ensures) in
     ap length (wrote .1) ∙ lead-length (part-bytes order (v .first) (v .second)) out room
 
 -- w + z
