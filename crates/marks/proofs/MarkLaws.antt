@@ -12,7 +12,7 @@ use types.Run.{OneOf, miss}
 use denote.Enum.Declared.{tagOf}
 use Rattle.xliff.specs.Parse.{unknown, is, mark-of, mark-at, size-of}
 use Rattle.xliff.proofs.lists.Tests.{and-left, and-right}
-use Rattle.marks.specs.Marks.{rareMark, startEndMark, headMark, commonMark, meaning, fixedWidth}
+use Rattle.marks.specs.Marks.{isCode, codeMark, isText, textMark, isStart, startMark, isEnd, endMark, isMrk, mrkMark, isIgnorable, ignorableMark, rareMark, otherMark, commonMark, meaning, fixedWidth}
 use Rattle.marks.specs.declared.Mark.{Mark}
 use Rattle.marks.specs.declared.Mark.the-variants.{UN, UE, SG, IG, TG, TX, CP, PH, PO, PC, SC, EC, IS, IE, MO, SM, MC, EM, Unknown}
 use Rattle.marks.proofs.Mark.{the-type}
@@ -33,7 +33,7 @@ module _ (s : List ℕ) where
       (subst (λ (v : ℕ). meaning (commonMark (x ∷ v ∷ s)) ≡ mark-of x v) (sym (eqb-true b y (and-right (eqb a x) (eqb b y) e))) h)
 
   same : (a b : ℕ) → Same a b
-  unfolding Same commonMark headMark startEndMark rareMark mark-of is
+  unfolding Same isCode codeMark isText textMark isStart startMark isEnd endMark isMrk mrkMark isIgnorable ignorableMark rareMark otherMark commonMark mark-of is
   same a b =
       either (eqb a 85 && eqb b 78) (λ e. hit a b 85 78 e refl)
       (λ n1.
