@@ -69,12 +69,11 @@ otherMark t =
     (cond (isIgnorable t) (ignorableMark t)
     (rareMark t)))
 
+unfoldable pub restMark : List ℕ → Mark
+restMark t = cond (isStart t) (startMark t) (otherMark t)
+
 unfoldable pub commonMark : List ℕ → Mark
-commonMark t =
-    cond (isCode t) (codeMark t)
-    (cond (isText t) (textMark t)
-    (cond (isStart t) (startMark t)
-    (otherMark t)))
+commonMark t = cond (isCode t) (codeMark t) (cond (isText t) (textMark t) (restMark t))
 
 -- the mark of document 01 that a case is
 abbrev pub meaning : Mark → parse.Mark

@@ -5,7 +5,7 @@ ghost use Prim.Native.Nat.{_+_, _<_, _≤_};
 ghost use lib.ListN.{length};
 ghost use Rattle.xliff.specs.Bytes.{two-at};
 ghost use Rattle.xliff.specs.Parse.{mark-at, size-of};
-ghost use Rattle.marks.specs.Marks.{marked, isCode, codeMark, isText, textMark, isStart, startMark, isEnd, endMark, isMrk, mrkMark, isIgnorable, ignorableMark, rareMark, otherMark, meaning, fixedWidth};
+ghost use Rattle.marks.specs.Marks.{marked, isCode, codeMark, isText, textMark, isStart, startMark, isEnd, endMark, isMrk, mrkMark, isIgnorable, ignorableMark, rareMark, otherMark, restMark, meaning, fixedWidth};
 
 // How many bytes a record takes, a text's without its characters.
 pub const UNIT_WIDTH: usize = 3;
@@ -211,6 +211,17 @@ fn other_mark(t: &[u8]) -> Mark
     rare_mark(t)
 }
 
+// The marks of all groups but the first two.
+fn rest_mark(t: &[u8]) -> Mark
+    requires { ⌜ 2 ≤ length (now t) ⌝ }
+    ensures { λ r. ⌜ r ≡ restMark (now (t .entry)) ⌝ }
+{
+    if is_start(t) {
+        return start_mark(t);
+    }
+    other_mark(t)
+}
+
 // The mark at the head of `t`.
 pub fn mark_of(t: &[u8]) -> Mark
     ensures { λ r. ⌜ meaning r ≡ mark-at (now (t .entry)) ⌝ }
@@ -224,10 +235,7 @@ pub fn mark_of(t: &[u8]) -> Mark
     if is_text(t) {
         return text_mark(t);
     }
-    if is_start(t) {
-        return start_mark(t);
-    }
-    other_mark(t)
+    rest_mark(t)
 }
 
 // How many bytes a record of a mark takes, a text's without its characters.
@@ -301,5 +309,11 @@ pub fn width_of(t: &[u8]) -> usize
     requires { ⌜ 4 ≤ length (now t) ⌝ }
     ensures { λ r. ⌜ r ≡ size-of (mark-at (now (t .entry))) (now (t .entry)) ⌝ }
 {
-    width_by(mark_of(t), t)
+    if is_code(t) {
+        return CODE_WIDTH;
+    }
+    if is_text(t) {
+        return width_by(text_mark(t), t);
+    }
+    width_by(rest_mark(t), t)
 }

@@ -1,8 +1,8 @@
-use mathlib.Core.Path.{_≡_, sym, ap, _∙_}
+use mathlib.Core.Path.{sym, ap, _∙_}
 use native.Mathlib.Omega.{arith}
 use borrow.Author.Needs.{needs}
-use Rattle.marks.specs.Marks.{commonMark, meaning}
-use Rattle.marks.proofs.MarkLaws.{mark-same, no-mark}
+use Rattle.marks.specs.Marks.{meaning}
+use Rattle.marks.proofs.MarkLaws.{no-mark, code-found, text-found, rest-found}
 use Rattle.marks.proofs.mark_of.Statement.{statement}
 use Rattle.marks.proofs.mark_of.Tie as tie
 
@@ -12,52 +12,28 @@ returns c = sym (no-mark (c .before .before .args .t .now) (omega arith))
 
 -- code_mark(t)
 returns-2 : tie.Need-returns-2
-unfolding commonMark
 returns-2 c =
     let t = c .before .before .before .before .before .args .t .now in
-    let found : commonMark t ≡ c .code-mark .result = simp (
-      c .code-mark .ensures,
-      sym (c .before .before .is-code .ensures) ∙ c .before .if2 .taken,
-    ) in
-    sym (ap meaning found) ∙ mark-same t (omega arith)
+    let code = sym (c .before .before .is-code .ensures) ∙ c .before .if2 .taken in
+    ap meaning (c .code-mark .ensures) ∙ sym (code-found t (omega arith) code)
 
 -- text_mark(t)
 returns-3 : tie.Need-returns-3
-unfolding commonMark
 returns-3 c =
-    let t = c .before .before .before .before .before .before .before .args .t .now in
-    let found : commonMark t ≡ c .text-mark .result = simp (
-      c .text-mark .ensures,
-      sym (c .before .before .is-text .ensures) ∙ c .before .if3 .taken,
-      sym (c .before .before .before .before .is-code .ensures) ∙ c .before .before .before .if2 .left,
-    ) in
-    sym (ap meaning found) ∙ mark-same t (omega arith)
+    let after-code = c .before .before .before in
+    let t = after-code .before .before .before .before .args .t .now in
+    let no-code = sym (after-code .before .is-code .ensures) ∙ after-code .if2 .left in
+    let text = sym (c .before .before .is-text .ensures) ∙ c .before .if3 .taken in
+    ap meaning (c .text-mark .ensures) ∙ sym (text-found t (omega arith) no-code text)
 
--- start_mark(t)
+-- rest_mark(t)
 returns-4 : tie.Need-returns-4
-unfolding commonMark
 returns-4 c =
-    let t = c .before .before .before .before .before .before .before .before .before .args .t .now in
-    let found : commonMark t ≡ c .start-mark .result = simp (
-      c .start-mark .ensures,
-      sym (c .before .before .is-start .ensures) ∙ c .before .if4 .taken,
-      sym (c .before .before .before .before .is-text .ensures) ∙ c .before .before .before .if3 .left,
-      sym (c .before .before .before .before .before .before .is-code .ensures) ∙ c .before .before .before .before .before .if2 .left,
-    ) in
-    sym (ap meaning found) ∙ mark-same t (omega arith)
-
--- other_mark(t)
-returns-5 : tie.Need-returns-5
-unfolding commonMark
-returns-5 c =
-    let t = c .before .before .before .before .before .before .before .before .before .args .t .now in
-    let found : commonMark t ≡ c .other-mark .result = simp (
-      c .other-mark .ensures,
-      sym (c .before .before .is-start .ensures) ∙ c .before .if4 .left,
-      sym (c .before .before .before .before .is-text .ensures) ∙ c .before .before .before .if3 .left,
-      sym (c .before .before .before .before .before .before .is-code .ensures) ∙ c .before .before .before .before .before .if2 .left,
-    ) in
-    sym (ap meaning found) ∙ mark-same t (omega arith)
+    let after-code = c .before .before .before in
+    let t = after-code .before .before .before .before .args .t .now in
+    let no-code = sym (after-code .before .is-code .ensures) ∙ after-code .if2 .left in
+    let no-text = sym (c .before .before .is-text .ensures) ∙ c .before .if3 .left in
+    ap meaning (c .rest-mark .ensures) ∙ sym (rest-found t (omega arith) no-code no-text)
 
 pub mark-of-spec : {M : Type 1} → statement M
 mark-of-spec =
@@ -71,8 +47,5 @@ mark-of-spec =
     (λ c κs. search needs) (λ c κs. search needs)
     returns-3
     -- by search: two bytes are there
-    (λ c κs. search needs) (λ c κs. search needs)
-    returns-4
-    -- by search: two bytes are there
     (λ c κs. search needs)
-    returns-5)
+    returns-4)
