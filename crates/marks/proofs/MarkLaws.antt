@@ -1,7 +1,7 @@
 -- The mark that the code finds is the specification's.
 use Prim.Native.Nat.{ℕ, zero, suc, _≤_}
 use mathlib.Core.Path.{_≡_, refl, sym, ap, _∙_, subst}
-use mathlib.Core.Bool.{Bool, true, false, _&&_, cond}
+use mathlib.Core.Bool.{Bool, true, false, _&&_}
 use mathlib.Core.List.{List, [], _∷_, map}
 use mathlib.Core.Logic.{inl, inr}
 use native.Mathlib.Omega.{arith}
@@ -12,7 +12,7 @@ use types.Run.{OneOf, miss}
 use denote.Enum.Declared.{tagOf}
 use Rattle.xliff.specs.Parse.{unknown, is, mark-of, mark-at, size-of}
 use Rattle.xliff.proofs.lists.Tests.{and-left, and-right}
-use Rattle.marks.specs.Marks.{marked, isCode, codeMark, isText, textMark, isStart, startMark, isEnd, endMark, isMrk, mrkMark, isIgnorable, ignorableMark, rareMark, otherMark, restMark, commonMark, meaning, fixedWidth}
+use Rattle.marks.specs.Marks.{rareMark, startEndMark, headMark, commonMark, meaning, fixedWidth}
 use Rattle.marks.specs.declared.Mark.{Mark}
 use Rattle.marks.specs.declared.Mark.the-variants.{UN, UE, SG, IG, TG, TX, CP, PH, PO, PC, SC, EC, IS, IE, MO, SM, MC, EM, Unknown}
 use Rattle.marks.proofs.Mark.{the-type}
@@ -33,7 +33,7 @@ module _ (s : List ℕ) where
       (subst (λ (v : ℕ). meaning (commonMark (x ∷ v ∷ s)) ≡ mark-of x v) (sym (eqb-true b y (and-right (eqb a x) (eqb b y) e))) h)
 
   same : (a b : ℕ) → Same a b
-  unfolding Same isCode codeMark isText textMark isStart startMark isEnd endMark isMrk mrkMark isIgnorable ignorableMark rareMark otherMark restMark commonMark mark-of is
+  unfolding Same commonMark headMark startEndMark rareMark mark-of is
   same a b =
       either (eqb a 85 && eqb b 78) (λ e. hit a b 85 78 e refl)
       (λ n1.
@@ -78,29 +78,6 @@ unfolding mark-at Same
 mark-same [] h = absurd (omega arith)
 mark-same (a ∷ []) h = absurd (omega arith)
 mark-same (a ∷ b ∷ s) h = same s a b
-
--- the mark by its group
-pub code-found : (t : List ℕ) → 2 ≤ length t → isCode t ≡ true → mark-at t ≡ meaning (codeMark t)
-unfolding commonMark
-code-found t h e = sym (mark-same t h) ∙ ap meaning (let z : commonMark t ≡ codeMark t = simp e in z)
-
-pub text-found : (t : List ℕ) → 2 ≤ length t → isCode t ≡ false → isText t ≡ true → mark-at t ≡ meaning (textMark t)
-unfolding commonMark
-text-found t h e f = sym (mark-same t h) ∙ ap meaning (let z : commonMark t ≡ textMark t = simp (e, f) in z)
-
-pub rest-found : (t : List ℕ) → 2 ≤ length t → isCode t ≡ false → isText t ≡ false → mark-at t ≡ meaning (restMark t)
-unfolding commonMark
-rest-found t h e f = sym (mark-same t h) ∙ ap meaning (let z : commonMark t ≡ restMark t = simp (e, f) in z)
-
--- a code's width
-pub code-wide : (t s : List ℕ) → 12 ≡ size-of (meaning (codeMark t)) s
-unfolding codeMark
-code-wide t s = by (marked t (80 ∷ 79 ∷ [])) (marked t (80 ∷ 67 ∷ []))
-  where
-    by : (a b : Bool) → 12 ≡ size-of (meaning (cond a PO (cond b PC PH))) s
-    by true b = refl
-    by false true = refl
-    by false false = refl
 
 pub no-mark : (t : List ℕ) → length t ≤ 1 → mark-at t ≡ unknown
 unfolding mark-at

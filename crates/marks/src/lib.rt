@@ -5,7 +5,7 @@ ghost use Prim.Native.Nat.{_+_, _<_, _≤_};
 ghost use lib.ListN.{length};
 ghost use Rattle.xliff.specs.Bytes.{two-at};
 ghost use Rattle.xliff.specs.Parse.{mark-at, size-of};
-ghost use Rattle.marks.specs.Marks.{marked, isCode, codeMark, isText, textMark, isStart, startMark, isEnd, endMark, isMrk, mrkMark, isIgnorable, ignorableMark, rareMark, otherMark, restMark, meaning, fixedWidth};
+ghost use Rattle.marks.specs.Marks.{marked, startEndMark, headMark, rareMark, meaning, fixedWidth};
 
 // How many bytes a record takes, a text's without its characters.
 pub const UNIT_WIDTH: usize = 3;
@@ -58,125 +58,6 @@ pub fn marked_by(t: &[u8], m: &[u8; 2]) -> bool
     (t[0] == m[0]) & (t[1] == m[1])
 }
 
-// The marks are looked for by groups, so that few tests are made one after the other: the strings of a group are compared
-// without a branch, and then each by itself. The groups stand by how often their marks come.
-// The marks of pc and of a standalone code.
-fn is_code(t: &[u8]) -> bool
-    requires { ⌜ 2 ≤ length (now t) ⌝ }
-    ensures { λ r. ⌜ r ≡ isCode (now (t .entry)) ⌝ }
-{
-    marked_by(t, b"PO") | (marked_by(t, b"PC") | marked_by(t, b"PH"))
-}
-
-fn code_mark(t: &[u8]) -> Mark
-    requires { ⌜ 2 ≤ length (now t) ⌝ }
-    ensures { λ r. ⌜ r ≡ codeMark (now (t .entry)) ⌝ }
-{
-    if marked_by(t, b"PO") {
-        return Mark::PO;
-    }
-    if marked_by(t, b"PC") {
-        return Mark::PC;
-    }
-    Mark::PH
-}
-
-// The marks of a text and of a target.
-fn is_text(t: &[u8]) -> bool
-    requires { ⌜ 2 ≤ length (now t) ⌝ }
-    ensures { λ r. ⌜ r ≡ isText (now (t .entry)) ⌝ }
-{
-    marked_by(t, b"TX") | marked_by(t, b"TG")
-}
-
-fn text_mark(t: &[u8]) -> Mark
-    requires { ⌜ 2 ≤ length (now t) ⌝ }
-    ensures { λ r. ⌜ r ≡ textMark (now (t .entry)) ⌝ }
-{
-    if marked_by(t, b"TX") {
-        return Mark::TX;
-    }
-    Mark::TG
-}
-
-// The marks of a segment, and of starts.
-fn is_start(t: &[u8]) -> bool
-    requires { ⌜ 2 ≤ length (now t) ⌝ }
-    ensures { λ r. ⌜ r ≡ isStart (now (t .entry)) ⌝ }
-{
-    marked_by(t, b"SG") | (marked_by(t, b"SC") | marked_by(t, b"SM"))
-}
-
-fn start_mark(t: &[u8]) -> Mark
-    requires { ⌜ 2 ≤ length (now t) ⌝ }
-    ensures { λ r. ⌜ r ≡ startMark (now (t .entry)) ⌝ }
-{
-    if marked_by(t, b"SG") {
-        return Mark::SG;
-    }
-    if marked_by(t, b"SC") {
-        return Mark::SC;
-    }
-    Mark::SM
-}
-
-// The marks of ends.
-fn is_end(t: &[u8]) -> bool
-    requires { ⌜ 2 ≤ length (now t) ⌝ }
-    ensures { λ r. ⌜ r ≡ isEnd (now (t .entry)) ⌝ }
-{
-    marked_by(t, b"EC") | marked_by(t, b"EM")
-}
-
-fn end_mark(t: &[u8]) -> Mark
-    requires { ⌜ 2 ≤ length (now t) ⌝ }
-    ensures { λ r. ⌜ r ≡ endMark (now (t .entry)) ⌝ }
-{
-    if marked_by(t, b"EC") {
-        return Mark::EC;
-    }
-    Mark::EM
-}
-
-// The marks of mrk.
-fn is_mrk(t: &[u8]) -> bool
-    requires { ⌜ 2 ≤ length (now t) ⌝ }
-    ensures { λ r. ⌜ r ≡ isMrk (now (t .entry)) ⌝ }
-{
-    marked_by(t, b"MO") | marked_by(t, b"MC")
-}
-
-fn mrk_mark(t: &[u8]) -> Mark
-    requires { ⌜ 2 ≤ length (now t) ⌝ }
-    ensures { λ r. ⌜ r ≡ mrkMark (now (t .entry)) ⌝ }
-{
-    if marked_by(t, b"MO") {
-        return Mark::MO;
-    }
-    Mark::MC
-}
-
-// The marks of an ignorable, and of isolated codes.
-fn is_ignorable(t: &[u8]) -> bool
-    requires { ⌜ 2 ≤ length (now t) ⌝ }
-    ensures { λ r. ⌜ r ≡ isIgnorable (now (t .entry)) ⌝ }
-{
-    marked_by(t, b"IG") | (marked_by(t, b"IS") | marked_by(t, b"IE"))
-}
-
-fn ignorable_mark(t: &[u8]) -> Mark
-    requires { ⌜ 2 ≤ length (now t) ⌝ }
-    ensures { λ r. ⌜ r ≡ ignorableMark (now (t .entry)) ⌝ }
-{
-    if marked_by(t, b"IG") {
-        return Mark::IG;
-    }
-    if marked_by(t, b"IS") {
-        return Mark::IS;
-    }
-    Mark::IE
-}
-
 // The rare marks.
 fn rare_mark(t: &[u8]) -> Mark
     requires { ⌜ 2 ≤ length (now t) ⌝ }
@@ -184,6 +65,12 @@ fn rare_mark(t: &[u8]) -> Mark
 {
     if marked_by(t, b"CP") {
         return Mark::CP;
+    }
+    if marked_by(t, b"IS") {
+        return Mark::IS;
+    }
+    if marked_by(t, b"IE") {
+        return Mark::IE;
     }
     if marked_by(t, b"UN") {
         return Mark::UN;
@@ -194,48 +81,69 @@ fn rare_mark(t: &[u8]) -> Mark
     Mark::Unknown
 }
 
-// The marks of the other groups.
-fn other_mark(t: &[u8]) -> Mark
+// The marks of start and end, and of an ignorable.
+fn start_end_mark(t: &[u8]) -> Mark
     requires { ⌜ 2 ≤ length (now t) ⌝ }
-    ensures { λ r. ⌜ r ≡ otherMark (now (t .entry)) ⌝ }
+    ensures { λ r. ⌜ r ≡ startEndMark (now (t .entry)) ⌝ }
 {
-    if is_end(t) {
-        return end_mark(t);
+    if marked_by(t, b"SC") {
+        return Mark::SC;
     }
-    if is_mrk(t) {
-        return mrk_mark(t);
+    if marked_by(t, b"EC") {
+        return Mark::EC;
     }
-    if is_ignorable(t) {
-        return ignorable_mark(t);
+    if marked_by(t, b"SM") {
+        return Mark::SM;
+    }
+    if marked_by(t, b"EM") {
+        return Mark::EM;
+    }
+    if marked_by(t, b"IG") {
+        return Mark::IG;
     }
     rare_mark(t)
 }
 
-// The marks of all groups but the first two.
-fn rest_mark(t: &[u8]) -> Mark
+// The marks of segments, targets and mrk.
+fn head_mark(t: &[u8]) -> Mark
     requires { ⌜ 2 ≤ length (now t) ⌝ }
-    ensures { λ r. ⌜ r ≡ restMark (now (t .entry)) ⌝ }
+    ensures { λ r. ⌜ r ≡ headMark (now (t .entry)) ⌝ }
 {
-    if is_start(t) {
-        return start_mark(t);
+    if marked_by(t, b"SG") {
+        return Mark::SG;
     }
-    other_mark(t)
+    if marked_by(t, b"TG") {
+        return Mark::TG;
+    }
+    if marked_by(t, b"MO") {
+        return Mark::MO;
+    }
+    if marked_by(t, b"MC") {
+        return Mark::MC;
+    }
+    start_end_mark(t)
 }
 
-// The mark at the head of `t`.
+// The mark at the head of `t`. The tests stand by how often a mark comes.
 pub fn mark_of(t: &[u8]) -> Mark
     ensures { λ r. ⌜ meaning r ≡ mark-at (now (t .entry)) ⌝ }
 {
     if t.len() < 2 {
         return Mark::Unknown;
     }
-    if is_code(t) {
-        return code_mark(t);
+    if marked_by(t, b"TX") {
+        return Mark::TX;
     }
-    if is_text(t) {
-        return text_mark(t);
+    if marked_by(t, b"PO") {
+        return Mark::PO;
     }
-    rest_mark(t)
+    if marked_by(t, b"PC") {
+        return Mark::PC;
+    }
+    if marked_by(t, b"PH") {
+        return Mark::PH;
+    }
+    head_mark(t)
 }
 
 // How many bytes a record of a mark takes, a text's without its characters.
@@ -309,11 +217,5 @@ pub fn width_of(t: &[u8]) -> usize
     requires { ⌜ 4 ≤ length (now t) ⌝ }
     ensures { λ r. ⌜ r ≡ size-of (mark-at (now (t .entry))) (now (t .entry)) ⌝ }
 {
-    if is_code(t) {
-        return CODE_WIDTH;
-    }
-    if is_text(t) {
-        return width_by(text_mark(t), t);
-    }
-    width_by(rest_mark(t), t)
+    width_by(mark_of(t), t)
 }

@@ -1,8 +1,9 @@
-use mathlib.Core.Path.{sym, ap, _∙_}
+use mathlib.Core.Path.{_≡_, sym, ap, _∙_}
 use native.Mathlib.Omega.{arith}
 use borrow.Author.Needs.{needs}
-use Rattle.marks.specs.Marks.{meaning}
-use Rattle.marks.proofs.MarkLaws.{no-mark, code-found, text-found, rest-found}
+use Rattle.marks.specs.Marks.{commonMark, meaning}
+use Rattle.marks.specs.declared.Mark.the-variants.{TX, PO, PC, PH}
+use Rattle.marks.proofs.MarkLaws.{mark-same, no-mark}
 use Rattle.marks.proofs.mark_of.Statement.{statement}
 use Rattle.marks.proofs.mark_of.Tie as tie
 
@@ -10,42 +11,95 @@ use Rattle.marks.proofs.mark_of.Tie as tie
 returns : tie.Need-returns
 returns c = sym (no-mark (c .before .before .args .t .now) (omega arith))
 
--- code_mark(t)
+-- TX
 returns-2 : tie.Need-returns-2
+unfolding commonMark
 returns-2 c =
-    let t = c .before .before .before .before .before .args .t .now in
-    let code = sym (c .before .before .is-code .ensures) ∙ c .before .if2 .taken in
-    ap meaning (c .code-mark .ensures) ∙ sym (code-found t (omega arith) code)
+    let first = c in
+    let t = first .before .before .before .before .before .args .t .now in
+    let found : commonMark t ≡ TX = simp (sym (first .before .marked-by .ensures) ∙ first .if2 .taken) in
+    sym (ap meaning found) ∙ mark-same t (omega arith)
 
--- text_mark(t)
+-- PO
 returns-3 : tie.Need-returns-3
+unfolding commonMark
 returns-3 c =
-    let after-code = c .before .before .before in
-    let t = after-code .before .before .before .before .args .t .now in
-    let no-code = sym (after-code .before .is-code .ensures) ∙ after-code .if2 .left in
-    let text = sym (c .before .before .is-text .ensures) ∙ c .before .if3 .taken in
-    ap meaning (c .text-mark .ensures) ∙ sym (text-found t (omega arith) no-code text)
+    let second = c in
+    let first = second .before .before .before in
+    let t = first .before .before .before .before .before .args .t .now in
+    let found : commonMark t ≡ PO = simp (
+      sym (second .before .marked-by2 .ensures) ∙ second .if3 .taken,
+      sym (first .before .marked-by .ensures) ∙ first .if2 .left,
+    ) in
+    sym (ap meaning found) ∙ mark-same t (omega arith)
 
--- rest_mark(t)
+-- PC
 returns-4 : tie.Need-returns-4
+unfolding commonMark
 returns-4 c =
-    let after-code = c .before .before .before in
-    let t = after-code .before .before .before .before .args .t .now in
-    let no-code = sym (after-code .before .is-code .ensures) ∙ after-code .if2 .left in
-    let no-text = sym (c .before .before .is-text .ensures) ∙ c .before .if3 .left in
-    ap meaning (c .rest-mark .ensures) ∙ sym (rest-found t (omega arith) no-code no-text)
+    let third = c in
+    let second = third .before .before .before in
+    let first = second .before .before .before in
+    let t = first .before .before .before .before .before .args .t .now in
+    let found : commonMark t ≡ PC = simp (
+      sym (third .before .marked-by3 .ensures) ∙ third .if4 .taken,
+      sym (second .before .marked-by2 .ensures) ∙ second .if3 .left,
+      sym (first .before .marked-by .ensures) ∙ first .if2 .left,
+    ) in
+    sym (ap meaning found) ∙ mark-same t (omega arith)
+
+-- PH
+returns-5 : tie.Need-returns-5
+unfolding commonMark
+returns-5 c =
+    let fourth = c in
+    let third = fourth .before .before .before in
+    let second = third .before .before .before in
+    let first = second .before .before .before in
+    let t = first .before .before .before .before .before .args .t .now in
+    let found : commonMark t ≡ PH = simp (
+      sym (fourth .before .marked-by4 .ensures) ∙ fourth .if5 .taken,
+      sym (third .before .marked-by3 .ensures) ∙ third .if4 .left,
+      sym (second .before .marked-by2 .ensures) ∙ second .if3 .left,
+      sym (first .before .marked-by .ensures) ∙ first .if2 .left,
+    ) in
+    sym (ap meaning found) ∙ mark-same t (omega arith)
+
+-- none of them
+returns-6 : tie.Need-returns-6
+unfolding commonMark
+returns-6 c =
+    let fourth = c .before in
+    let third = fourth .before .before .before in
+    let second = third .before .before .before in
+    let first = second .before .before .before in
+    let t = first .before .before .before .before .before .args .t .now in
+    let found : commonMark t ≡ c .head-mark .result = simp (
+      c .head-mark .ensures,
+      sym (fourth .before .marked-by4 .ensures) ∙ fourth .if5 .left,
+      sym (third .before .marked-by3 .ensures) ∙ third .if4 .left,
+      sym (second .before .marked-by2 .ensures) ∙ second .if3 .left,
+      sym (first .before .marked-by .ensures) ∙ first .if2 .left,
+    ) in
+    sym (ap meaning found) ∙ mark-same t (omega arith)
 
 pub mark-of-spec : {M : Type 1} → statement M
 mark-of-spec =
     tie.close
     (tie.spec
     returns
-    -- by search: two bytes are there
-    (λ c κs. search needs) (λ c κs. search needs)
-    returns-2
-    -- by search: two bytes are there
-    (λ c κs. search needs) (λ c κs. search needs)
-    returns-3
-    -- by search: two bytes are there
+    -- marked-by-requires
     (λ c κs. search needs)
-    returns-4)
+    returns-2
+    -- marked-by-requires-2
+    (λ c κs. search needs)
+    returns-3
+    -- marked-by-requires-3
+    (λ c κs. search needs)
+    returns-4
+    -- marked-by-requires-4
+    (λ c κs. search needs)
+    returns-5
+    -- head-mark-requires
+    (λ c κs. search needs)
+    returns-6)

@@ -11,7 +11,7 @@ returns c =
     let first = c in
     simp (sym (first .before .marked-by .ensures) ∙ first .if1 .taken)
 
--- UN
+-- IS
 returns-2 : tie.Need-returns-2
 unfolding rareMark
 returns-2 c =
@@ -22,7 +22,7 @@ returns-2 c =
       sym (first .before .marked-by .ensures) ∙ first .if1 .left,
     )
 
--- UE
+-- IE
 returns-3 : tie.Need-returns-3
 unfolding rareMark
 returns-3 c =
@@ -35,14 +35,50 @@ returns-3 c =
       sym (first .before .marked-by .ensures) ∙ first .if1 .left,
     )
 
--- no mark
+-- UN
 returns-4 : tie.Need-returns-4
 unfolding rareMark
 returns-4 c =
-    let third = c in
+    let fourth = c in
+    let third = fourth .before .before .before in
     let second = third .before .before .before in
     let first = second .before .before .before in
     simp (
+      sym (fourth .before .marked-by4 .ensures) ∙ fourth .if4 .taken,
+      sym (third .before .marked-by3 .ensures) ∙ third .if3 .left,
+      sym (second .before .marked-by2 .ensures) ∙ second .if2 .left,
+      sym (first .before .marked-by .ensures) ∙ first .if1 .left,
+    )
+
+-- UE
+returns-5 : tie.Need-returns-5
+unfolding rareMark
+returns-5 c =
+    let fifth = c in
+    let fourth = fifth .before .before .before in
+    let third = fourth .before .before .before in
+    let second = third .before .before .before in
+    let first = second .before .before .before in
+    simp (
+      sym (fifth .before .marked-by5 .ensures) ∙ fifth .if5 .taken,
+      sym (fourth .before .marked-by4 .ensures) ∙ fourth .if4 .left,
+      sym (third .before .marked-by3 .ensures) ∙ third .if3 .left,
+      sym (second .before .marked-by2 .ensures) ∙ second .if2 .left,
+      sym (first .before .marked-by .ensures) ∙ first .if1 .left,
+    )
+
+-- none of them
+returns-6 : tie.Need-returns-6
+unfolding rareMark
+returns-6 c =
+    let fifth = c in
+    let fourth = fifth .before .before .before in
+    let third = fourth .before .before .before in
+    let second = third .before .before .before in
+    let first = second .before .before .before in
+    simp (
+      sym (fifth .before .marked-by5 .ensures) ∙ fifth .if5 .left,
+      sym (fourth .before .marked-by4 .ensures) ∙ fourth .if4 .left,
       sym (third .before .marked-by3 .ensures) ∙ third .if3 .left,
       sym (second .before .marked-by2 .ensures) ∙ second .if2 .left,
       sym (first .before .marked-by .ensures) ∙ first .if1 .left,
@@ -52,13 +88,19 @@ pub rare-mark-spec : {M : Type 1} → statement M
 rare-mark-spec =
     tie.close
     (tie.spec
-    -- by search: two bytes are there
+    -- marked-by-requires: two bytes are there
     (λ c κs. search needs)
     returns
-    -- by search: two bytes are there
+    -- marked-by-requires-2: two bytes are there
     (λ c κs. search needs)
     returns-2
-    -- by search: two bytes are there
+    -- marked-by-requires-3: two bytes are there
     (λ c κs. search needs)
     returns-3
-    returns-4)
+    -- marked-by-requires-4: two bytes are there
+    (λ c κs. search needs)
+    returns-4
+    -- marked-by-requires-5: two bytes are there
+    (λ c κs. search needs)
+    returns-5
+    returns-6)

@@ -1,0 +1,87 @@
+use mathlib.Core.Path.{sym, _∙_}
+use borrow.Author.Needs.{needs}
+use Rattle.marks.specs.Marks.{headMark}
+use Rattle.marks.proofs.head_mark.Statement.{statement}
+use Rattle.marks.proofs.head_mark.Tie as tie
+
+-- SG
+returns : tie.Need-returns
+unfolding headMark
+returns c =
+    let first = c in
+    simp (sym (first .before .marked-by .ensures) ∙ first .if1 .taken)
+
+-- TG
+returns-2 : tie.Need-returns-2
+unfolding headMark
+returns-2 c =
+    let second = c in
+    let first = second .before .before .before in
+    simp (
+      sym (second .before .marked-by2 .ensures) ∙ second .if2 .taken,
+      sym (first .before .marked-by .ensures) ∙ first .if1 .left,
+    )
+
+-- MO
+returns-3 : tie.Need-returns-3
+unfolding headMark
+returns-3 c =
+    let third = c in
+    let second = third .before .before .before in
+    let first = second .before .before .before in
+    simp (
+      sym (third .before .marked-by3 .ensures) ∙ third .if3 .taken,
+      sym (second .before .marked-by2 .ensures) ∙ second .if2 .left,
+      sym (first .before .marked-by .ensures) ∙ first .if1 .left,
+    )
+
+-- MC
+returns-4 : tie.Need-returns-4
+unfolding headMark
+returns-4 c =
+    let fourth = c in
+    let third = fourth .before .before .before in
+    let second = third .before .before .before in
+    let first = second .before .before .before in
+    simp (
+      sym (fourth .before .marked-by4 .ensures) ∙ fourth .if4 .taken,
+      sym (third .before .marked-by3 .ensures) ∙ third .if3 .left,
+      sym (second .before .marked-by2 .ensures) ∙ second .if2 .left,
+      sym (first .before .marked-by .ensures) ∙ first .if1 .left,
+    )
+
+-- none of them
+returns-5 : tie.Need-returns-5
+unfolding headMark
+returns-5 c =
+    let fourth = c .before in
+    let third = fourth .before .before .before in
+    let second = third .before .before .before in
+    let first = second .before .before .before in
+    simp (
+      c .start-end-mark .ensures,
+      sym (fourth .before .marked-by4 .ensures) ∙ fourth .if4 .left,
+      sym (third .before .marked-by3 .ensures) ∙ third .if3 .left,
+      sym (second .before .marked-by2 .ensures) ∙ second .if2 .left,
+      sym (first .before .marked-by .ensures) ∙ first .if1 .left,
+    )
+
+pub head-mark-spec : {M : Type 1} → statement M
+head-mark-spec =
+    tie.close
+    (tie.spec
+    -- marked-by-requires: two bytes are there
+    (λ c κs. search needs)
+    returns
+    -- marked-by-requires-2: two bytes are there
+    (λ c κs. search needs)
+    returns-2
+    -- marked-by-requires-3: two bytes are there
+    (λ c κs. search needs)
+    returns-3
+    -- marked-by-requires-4: two bytes are there
+    (λ c κs. search needs)
+    returns-4
+    -- start-end-mark-requires
+    (λ c κs. search needs)
+    returns-5)
