@@ -44,7 +44,8 @@ returns-5 c =
     let args = c .before .before .before .before .args in
     let t = args .t .now in
     c .item-glance2 .ensures ∙ ap (itemGlance true) (c .before .fixed-width3 .ensures)
-    ∙ same-in-arm (λ n. itemGlance true (fixedWidth n)) (λ n. glanceBy (meaning n) t) (PH ∷ PO ∷ PC ∷ SC ∷ EC ∷ IS ∷ IE ∷ MO ∷ SM ∷ MC ∷ EM ∷ []) (args .m) (c .before .before .match .keys5) refl
+    ∙ same-in-arm (λ n. itemGlance true (fixedWidth n)) (λ n. glanceBy (meaning n) t)
+    (PH ∷ PO ∷ PC ∷ SC ∷ EC ∷ IS ∷ IE ∷ MO ∷ SM ∷ MC ∷ EM ∷ []) (args .m) (c .before .before .match .keys5) refl
 
 pub glance-by-spec : {M : Type 1} → statement M
 glance-by-spec =
