@@ -14,6 +14,7 @@ use Rattle.table.specs.declared.Form.{Form}
 use Rattle.table.specs.declared.Record.{Record}
 use Rattle.table.specs.declared.Record.the-variants.{Target, Text}
 use Rattle.table.specs.declared.Read.the-variants.{Good, Ill, Broken}
+use Rattle.marks.proofs.MarkLaws.{no-mark}
 use Rattle.table.proofs.ReadLaws.{record-is, no-record}
 use Rattle.glance.specs.declared.Glance.{Glance}
 use Rattle.glance.specs.Glances.{glanceIn, Agrees, on-good, on-ill, on-broken, Glanced, itemGlance, textGlance, targetGlance, glanceBy}
@@ -66,7 +67,7 @@ module _ (t : List ℕ) where
       by false = on-broken
 
   mark-agrees : (m : Mark) → Agrees (glanceBy m t) (recordBy m t false)
-  unfolding glanceBy recordBy unitOf segmentOf ignorableOf standaloneOf characterOf
+  unfolding recordBy unitOf segmentOf ignorableOf standaloneOf characterOf
   mark-agrees UN = sized-agrees false t 3 _ _ _ refl
   mark-agrees UE = on-good refl
   mark-agrees SG = sized-agrees true t 6 _ _ _ refl
@@ -96,6 +97,14 @@ glanced t g e =
       wide = r .1;
       agrees = subst (λ (z : Glance). Agrees z (recordOf t false)) (sym e) (mark-agrees t (mark-at t));
     }
+
+-- less than two bytes are no record
+pub too-short : (t : List ℕ) (g : Glance) → length t ≤ 1 → Glanced t g
+unfolding recordBy
+too-short t g h =
+    let r = record-is t (recordOf t false) refl in
+    let nothing : recordOf t false ≡ Broken false = simp (no-mark t h) in
+    record { found = recordOf t false; means = r .0; wide = r .1; agrees = rw nothing on-broken }
 
 -- beyond the end there is no record
 pub nothing-glanced : (s : List ℕ) (at : ℕ) (g : Glance) → length s ≤ at → Glanced (drop at s) g

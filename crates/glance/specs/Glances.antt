@@ -2,12 +2,13 @@
 use Prim.Native.Nat.{ℕ}
 use mathlib.Core.Path.{_≡_}
 use mathlib.Core.Bool.{Bool, true, false, cond}
-use mathlib.Core.List.{List}
+use mathlib.Core.List.{List, [], _∷_}
 use lib.ListN.{length}
 use lib.Dec.{leb}
 use Rattle.xliff.specs.Encode.{record-bytes}
 use Rattle.xliff.specs.Bytes.{two-at}
-use Rattle.xliff.specs.Parse.{Mark, UN, UE, SG, IG, TG, TX, CP, PH, PO, PC, SC, EC, IS, IE, MO, SM, MC, EM, unknown, code-size, annotation-start-size, annotation-end-size, size-of, read}
+use Rattle.xliff.specs.Parse.{Mark, UN, UE, SG, IG, TG, TX, CP, MO, SM, MC, EM, code-size, annotation-start-size, annotation-end-size, size-of, read}
+use Rattle.marks.specs.Marks.{one-of}
 use Rattle.table.specs.Meaning.{meaning, width, body}
 use Rattle.table.specs.declared.Item.{Item}
 use Rattle.table.specs.declared.Item.the-variants.{Character, Standalone, Isolated, Pair, AnnotationStart, AnnotationEnd}
@@ -85,23 +86,20 @@ targetGlance t =
     cond (leb (size-of TG t) (length t)) (record { head = 1; marker = false; order = two-at t 2; width = size-of TG t })
     (itemGlance false 0)
 
-unfoldable pub glanceBy : Mark → List ℕ → Glance
-glanceBy UN t = itemGlance false (size-of UN t)
-glanceBy UE t = itemGlance false (size-of UE t)
-glanceBy SG t = partGlance (size-of SG t)
-glanceBy IG t = partGlance (size-of IG t)
-glanceBy TG t = targetGlance t
-glanceBy TX t = textGlance t
-glanceBy CP t = itemGlance false (size-of CP t)
-glanceBy PH t = itemGlance true code-size
-glanceBy PO t = itemGlance true code-size
-glanceBy PC t = itemGlance true code-size
-glanceBy SC t = itemGlance true code-size
-glanceBy EC t = itemGlance true code-size
-glanceBy IS t = itemGlance true code-size
-glanceBy IE t = itemGlance true code-size
-glanceBy MO t = itemGlance true annotation-start-size
-glanceBy SM t = itemGlance true annotation-start-size
-glanceBy MC t = itemGlance true annotation-end-size
-glanceBy EM t = itemGlance true annotation-end-size
-glanceBy unknown t = itemGlance false 0
+-- what is no head and no text: of all that is left, only codes are good records
+abbrev pub restGlance : Mark → Glance
+restGlance m =
+    cond (one-of (MO ∷ SM ∷ []) m) (itemGlance true annotation-start-size)
+    (cond (one-of (MC ∷ EM ∷ []) m) (itemGlance true annotation-end-size)
+    (cond (one-of (CP ∷ []) m) (itemGlance false (size-of CP []))
+    (cond (one-of (UN ∷ []) m) (itemGlance false (size-of UN []))
+    (cond (one-of (UE ∷ []) m) (itemGlance false (size-of UE []))
+    (itemGlance true code-size)))))
+
+abbrev pub glanceBy : Mark → List ℕ → Glance
+glanceBy m t =
+    cond (one-of (TX ∷ []) m) (textGlance t)
+    (cond (one-of (TG ∷ []) m) (targetGlance t)
+    (cond (one-of (SG ∷ []) m) (partGlance (size-of SG t))
+    (cond (one-of (IG ∷ []) m) (partGlance (size-of IG t))
+    (restGlance m))))

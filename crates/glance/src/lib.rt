@@ -1,9 +1,9 @@
 // A glance at a record of a table that was read before: what a walk over the records asks of it, by its mark alone.
-use marks::Mark;
 ghost use mathlib.Core.Path.{_≡_};
-ghost use lib.ListN.{drop};
-ghost use Rattle.marks.specs.Marks.{meaning};
-ghost use Rattle.glance.specs.Glances.{partGlance, itemGlance, textGlance, targetGlance, glanceBy, Glanced};
+ghost use Prim.Native.Nat.{_≤_};
+ghost use lib.ListN.{length, drop};
+ghost use Rattle.xliff.specs.Parse.{mark-at};
+ghost use Rattle.glance.specs.Glances.{partGlance, itemGlance, textGlance, targetGlance, restGlance, Glanced};
 
 // 0 for SG and IG, 1 for TG, 2 for all else; whether it is a marker; the order that a TG sets; the width.
 pub struct Glance {
@@ -59,26 +59,55 @@ fn target_glance(t: &[u8]) -> Glance
     }
 }
 
-// A glance at the record of the mark `m` at the head of `t`.
-fn glance_by(m: Mark, t: &[u8]) -> Glance
-    ensures { λ r. ⌜ r ≡ glanceBy (meaning m) (now (t .entry)) ⌝ }
+// A glance at what is no head and no text. All that is left is taken for a code: there is no other good record.
+fn rest_glance(t: &[u8]) -> Glance
+    requires { ⌜ 2 ≤ length (now t) ⌝ }
+    ensures { λ r. ⌜ r ≡ restGlance (mark-at (now (t .entry))) ⌝ }
 {
-    match m {
-        Mark::TX => text_glance(t),
-        Mark::TG => target_glance(t),
-        Mark::SG | Mark::IG => part_glance(marks::fixed_width(m)),
-        Mark::UN | Mark::UE | Mark::CP | Mark::Unknown => {
-            item_glance(false, marks::fixed_width(m))
-        }
-        _ => item_glance(true, marks::fixed_width(m)),
+    if marks::marked_by(t, b"MO") {
+        return item_glance(true, marks::ANNOTATION_START_WIDTH);
     }
+    if marks::marked_by(t, b"SM") {
+        return item_glance(true, marks::ANNOTATION_START_WIDTH);
+    }
+    if marks::marked_by(t, b"MC") {
+        return item_glance(true, marks::ANNOTATION_END_WIDTH);
+    }
+    if marks::marked_by(t, b"EM") {
+        return item_glance(true, marks::ANNOTATION_END_WIDTH);
+    }
+    if marks::marked_by(t, b"CP") {
+        return item_glance(false, marks::CHARACTER_WIDTH);
+    }
+    if marks::marked_by(t, b"UN") {
+        return item_glance(false, marks::UNIT_WIDTH);
+    }
+    if marks::marked_by(t, b"UE") {
+        return item_glance(false, marks::UNIT_END_WIDTH);
+    }
+    item_glance(true, marks::CODE_WIDTH)
 }
 
 // A glance at the record at the head of `t`. It says nothing where there is no good record.
 fn glance_of(t: &[u8]) -> Glance
     ensures { λ r. ⌜ Glanced (now (t .entry)) r ⌝ }
 {
-    glance_by(marks::mark_of(t), t)
+    if t.len() < 2 {
+        return item_glance(false, 0);
+    }
+    if marks::marked_by(t, b"TX") {
+        return text_glance(t);
+    }
+    if marks::marked_by(t, b"TG") {
+        return target_glance(t);
+    }
+    if marks::marked_by(t, b"SG") {
+        return part_glance(marks::SEGMENT_WIDTH);
+    }
+    if marks::marked_by(t, b"IG") {
+        return part_glance(marks::IGNORABLE_WIDTH);
+    }
+    rest_glance(t)
 }
 
 // A glance at the record at an offset of `s`; beyond the end there is none.

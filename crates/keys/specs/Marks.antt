@@ -1,11 +1,12 @@
 -- The key of a marker from its bytes: the code's cases.
 use Prim.Native.Nat.{ℕ, _+_, _*_}
 use mathlib.Core.Bool.{Bool, not, _&&_, cond}
-use mathlib.Core.List.{List}
+use mathlib.Core.List.{List, [], _∷_}
 use lib.ListN.{length, getD}
 use lib.Dec.{eqb, leb, ltb}
 use Rattle.xliff.specs.Bytes.{two-at}
 use Rattle.xliff.specs.Parse.{Mark, UN, UE, SG, IG, TG, TX, CP, PH, PO, PC, SC, EC, IS, IE, MO, SM, MC, EM, unknown, mark-at, code-size, annotation-start-size, annotation-end-size}
+use Rattle.marks.specs.Marks.{one-of}
 use Rattle.table.specs.Letters.{yesNoNone, fieldsOk}
 use Rattle.table.specs.Records.{fieldsOf}
 
@@ -30,6 +31,9 @@ lowOf SM = 42
 lowOf MC = 45
 lowOf EM = 44
 lowOf unknown = 0
+
+abbrev pub annotationLow : Mark → ℕ
+annotationLow m = cond (one-of (MO ∷ MC ∷ SM ∷ EM ∷ []) m) (lowOf m) 0
 
 -- whether the fields are good
 abbrev pub codeGood : List ℕ → Bool → Bool

@@ -1,34 +1,61 @@
 // A marker as one number: what rule 7 asks of it, so that its loops read no table.
-use marks::Mark;
 use views::View;
 ghost use mathlib.Core.Path.{_≡_};
 ghost use Prim.Native.Nat.{_+_, _*_, _/_, _%_, _<_, _≤_};
 ghost use lib.ListN.{length, take};
-ghost use Rattle.xliff.specs.Parse.{annotation-end-size};
-ghost use Rattle.marks.specs.Marks.{meaning};
+ghost use Rattle.xliff.specs.Parse.{mark-at, annotation-end-size};
 ghost use Rattle.places.specs.Markers.{item-at};
 ghost use Rattle.views.specs.Views.{viewOf};
-ghost use Rattle.keys.specs.Marks.{lowOf, codeGood, startGood, endGood, markerGood, markerKey};
+ghost use Rattle.keys.specs.Marks.{lowOf, annotationLow, codeGood, startGood, endGood, markerGood, markerKey};
 ghost use Rattle.keys.specs.Keys.{key, keysAt, alikeKeys, otherKey, halfKey, formKey, classKey};
 
-// What a mark says of the key: 8 times the class, twice the half, 1 for PO PC MO MC; 0 where it is no marker's.
-fn low_of(m: Mark) -> u32
-    ensures { λ r. ⌜ (r ≡ lowOf (meaning m)) × (r ≤ 45) ⌝ }
+// What the mark of `t` says of the key: 8 times the class, twice the half, 1 for PO PC MO MC; 0 where it is no
+// marker's. First of annotations alone, then of all markers.
+fn annotation_low(t: &[u8]) -> u32
+    requires { ⌜ 2 ≤ length (now t) ⌝ }
+    ensures { λ r. ⌜ (r ≡ annotationLow (mark-at (now (t .entry)))) × (r ≤ 45) ⌝ }
 {
-    match m {
-        Mark::PO => 19,
-        Mark::PC => 21,
-        Mark::PH => 8,
-        Mark::SC => 18,
-        Mark::EC => 20,
-        Mark::IS => 24,
-        Mark::IE => 32,
-        Mark::MO => 43,
-        Mark::MC => 45,
-        Mark::SM => 42,
-        Mark::EM => 44,
-        _ => 0,
+    if marks::marked_by(t, b"MO") {
+        return 43;
     }
+    if marks::marked_by(t, b"MC") {
+        return 45;
+    }
+    if marks::marked_by(t, b"SM") {
+        return 42;
+    }
+    if marks::marked_by(t, b"EM") {
+        return 44;
+    }
+    0
+}
+
+fn low_of(t: &[u8]) -> u32
+    requires { ⌜ 2 ≤ length (now t) ⌝ }
+    ensures { λ r. ⌜ (r ≡ lowOf (mark-at (now (t .entry)))) × (r ≤ 45) ⌝ }
+{
+    if marks::marked_by(t, b"PO") {
+        return 19;
+    }
+    if marks::marked_by(t, b"PC") {
+        return 21;
+    }
+    if marks::marked_by(t, b"PH") {
+        return 8;
+    }
+    if marks::marked_by(t, b"SC") {
+        return 18;
+    }
+    if marks::marked_by(t, b"EC") {
+        return 20;
+    }
+    if marks::marked_by(t, b"IS") {
+        return 24;
+    }
+    if marks::marked_by(t, b"IE") {
+        return 32;
+    }
+    annotation_low(t)
 }
 
 // Whether the fields of a code are good; so of the start and of the end of an annotation.
@@ -78,7 +105,7 @@ fn marker_key(s: &[u8]) -> u32
     if s.len() < marks::ANNOTATION_END_WIDTH {
         return 0;
     }
-    let low = low_of(marks::mark_of(s));
+    let low = low_of(s);
     if low == 0 {
         return 0;
     }

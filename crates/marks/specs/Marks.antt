@@ -1,7 +1,7 @@
--- The marks by the code's cases. Stepping stones: `mark-same` (proofs/MarkLaws) ties them to the specification's
--- `mark-at`.
+-- The marks by the code's cases. Stepping stones: `found` and `other` (proofs/MarkLaws) tie them to the
+-- specification's `mark-at`.
 use Prim.Native.Nat.{ℕ}
-use mathlib.Core.Bool.{Bool, _&&_, cond}
+use mathlib.Core.Bool.{Bool, false, _&&_, _||_, cond}
 use mathlib.Core.List.{List, [], _∷_}
 use lib.ListN.{getD}
 use lib.Dec.{eqb}
@@ -13,39 +13,43 @@ use Rattle.marks.specs.declared.Mark.the-variants.{UN, UE, SG, IG, TG, T
 abbrev pub marked : List ℕ → List ℕ → Bool
 marked t m = eqb (getD t 0 0) (getD m 0 0) && eqb (getD t 1 0) (getD m 1 0)
 
-unfoldable pub rareMark : List ℕ → Mark
-rareMark t =
-    cond (marked t (67 ∷ 80 ∷ [])) CP  -- CP
-    (cond (marked t (73 ∷ 83 ∷ [])) IS  -- IS
-    (cond (marked t (73 ∷ 69 ∷ [])) IE  -- IE
-    (cond (marked t (85 ∷ 78 ∷ [])) UN  -- UN
-    (cond (marked t (85 ∷ 69 ∷ [])) UE  -- UE
-    Unknown))))
+-- a number for each mark, to compare marks by
+abbrev pub place : parse.Mark → ℕ
+place parse.UN = 0
+place parse.UE = 1
+place parse.SG = 2
+place parse.IG = 3
+place parse.TG = 4
+place parse.TX = 5
+place parse.CP = 6
+place parse.PH = 7
+place parse.PO = 8
+place parse.PC = 9
+place parse.SC = 10
+place parse.EC = 11
+place parse.IS = 12
+place parse.IE = 13
+place parse.MO = 14
+place parse.SM = 15
+place parse.MC = 16
+place parse.EM = 17
+place parse.unknown = 18
 
-unfoldable pub startEndMark : List ℕ → Mark
-startEndMark t =
-    cond (marked t (83 ∷ 67 ∷ [])) SC  -- SC
-    (cond (marked t (69 ∷ 67 ∷ [])) EC  -- EC
-    (cond (marked t (83 ∷ 77 ∷ [])) SM  -- SM
-    (cond (marked t (69 ∷ 77 ∷ [])) EM  -- EM
-    (cond (marked t (73 ∷ 71 ∷ [])) IG  -- IG
-    (rareMark t)))))
+abbrev pub one-of : List parse.Mark → parse.Mark → Bool
+one-of [] m = false
+one-of (n ∷ ns) m = eqb (place n) (place m) || one-of ns m
 
-unfoldable pub headMark : List ℕ → Mark
-headMark t =
-    cond (marked t (83 ∷ 71 ∷ [])) SG  -- SG
-    (cond (marked t (84 ∷ 71 ∷ [])) TG  -- TG
-    (cond (marked t (77 ∷ 79 ∷ [])) MO  -- MO
-    (cond (marked t (77 ∷ 67 ∷ [])) MC  -- MC
-    (startEndMark t))))
+-- Marks are tested in three groups, by how often they come: TX PO PC PH, then SG TG MO MC, then the rest. What the last
+-- group, and what the last two find: the mark where it is one of theirs, else none
+abbrev pub only : List parse.Mark → parse.Mark → parse.Mark
+only ms m = cond (one-of ms m) m parse.unknown
 
-unfoldable pub commonMark : List ℕ → Mark
-commonMark t =
-    cond (marked t (84 ∷ 88 ∷ [])) TX  -- TX
-    (cond (marked t (80 ∷ 79 ∷ [])) PO  -- PO
-    (cond (marked t (80 ∷ 67 ∷ [])) PC  -- PC
-    (cond (marked t (80 ∷ 72 ∷ [])) PH  -- PH
-    (headMark t))))
+abbrev pub rest : parse.Mark → parse.Mark
+rest m =
+    only (parse.SC ∷ parse.EC ∷ parse.SM ∷ parse.EM ∷ parse.IG ∷ parse.CP ∷ parse.IS ∷ parse.IE ∷ parse.UN ∷ parse.UE ∷ []) m
+
+abbrev pub later : parse.Mark → parse.Mark
+later m = cond (one-of (parse.SG ∷ parse.TG ∷ parse.MO ∷ parse.MC ∷ []) m) m (rest m)
 
 -- the mark of document 01 that a case is
 abbrev pub meaning : Mark → parse.Mark

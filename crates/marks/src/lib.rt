@@ -1,11 +1,11 @@
 // The eighteen marks of a table's records, compared as fixed two-byte strings; how many bytes a record of a mark takes;
 // and numbers of two bytes.
 ghost use mathlib.Core.Path.{_≡_};
-ghost use Prim.Native.Nat.{_+_, _<_, _≤_};
+ghost use Prim.Native.Nat.{_+_, _*_, _<_, _≤_};
 ghost use lib.ListN.{length};
 ghost use Rattle.xliff.specs.Bytes.{two-at};
 ghost use Rattle.xliff.specs.Parse.{mark-at, size-of};
-ghost use Rattle.marks.specs.Marks.{marked, startEndMark, headMark, rareMark, meaning, fixedWidth};
+ghost use Rattle.marks.specs.Marks.{marked, rest, later, meaning, fixedWidth};
 
 // How many bytes a record takes, a text's without its characters.
 pub const UNIT_WIDTH: usize = 3;
@@ -50,19 +50,48 @@ pub enum Mark {
     Unknown,
 }
 
-// Whether `t` begins with the mark `m`.
+fn wide_byte(x: u8) -> u16
+    ensures { λ r. ⌜ (r ≡ x) × (r < 256) ⌝ }
+{
+    x as u16
+}
+
+// The number of two bytes, the high one first.
+fn two_bytes(high: u8, low: u8) -> u16
+    ensures { λ r. ⌜ (r ≡ high * 256 + low) × (low < 256) ⌝ }
+{
+    wide_byte(high) * 256 + wide_byte(low)
+}
+
+// Whether `t` begins with the mark `m`. The two strings are compared as numbers: many such tests in a row become one
+// search.
 pub fn marked_by(t: &[u8], m: &[u8; 2]) -> bool
     requires { ⌜ 2 ≤ length (now t) ⌝ }
     ensures { λ r. ⌜ r ≡ marked (now (t .entry)) (now (m .entry)) ⌝ }
 {
-    (t[0] == m[0]) & (t[1] == m[1])
+    two_bytes(t[0], t[1]) == two_bytes(m[0], m[1])
 }
 
-// The rare marks.
-fn rare_mark(t: &[u8]) -> Mark
+// The mark at the head of `t`, if it is one of those that come seldom.
+fn rest_mark(t: &[u8]) -> Mark
     requires { ⌜ 2 ≤ length (now t) ⌝ }
-    ensures { λ r. ⌜ r ≡ rareMark (now (t .entry)) ⌝ }
+    ensures { λ r. ⌜ meaning r ≡ rest (mark-at (now (t .entry))) ⌝ }
 {
+    if marked_by(t, b"SC") {
+        return Mark::SC;
+    }
+    if marked_by(t, b"EC") {
+        return Mark::EC;
+    }
+    if marked_by(t, b"SM") {
+        return Mark::SM;
+    }
+    if marked_by(t, b"EM") {
+        return Mark::EM;
+    }
+    if marked_by(t, b"IG") {
+        return Mark::IG;
+    }
     if marked_by(t, b"CP") {
         return Mark::CP;
     }
@@ -81,33 +110,10 @@ fn rare_mark(t: &[u8]) -> Mark
     Mark::Unknown
 }
 
-// The marks of start and end, and of an ignorable.
-fn start_end_mark(t: &[u8]) -> Mark
+// The mark at the head of `t`, if it is none of those that come most often.
+fn later_mark(t: &[u8]) -> Mark
     requires { ⌜ 2 ≤ length (now t) ⌝ }
-    ensures { λ r. ⌜ r ≡ startEndMark (now (t .entry)) ⌝ }
-{
-    if marked_by(t, b"SC") {
-        return Mark::SC;
-    }
-    if marked_by(t, b"EC") {
-        return Mark::EC;
-    }
-    if marked_by(t, b"SM") {
-        return Mark::SM;
-    }
-    if marked_by(t, b"EM") {
-        return Mark::EM;
-    }
-    if marked_by(t, b"IG") {
-        return Mark::IG;
-    }
-    rare_mark(t)
-}
-
-// The marks of segments, targets and mrk.
-fn head_mark(t: &[u8]) -> Mark
-    requires { ⌜ 2 ≤ length (now t) ⌝ }
-    ensures { λ r. ⌜ r ≡ headMark (now (t .entry)) ⌝ }
+    ensures { λ r. ⌜ meaning r ≡ later (mark-at (now (t .entry))) ⌝ }
 {
     if marked_by(t, b"SG") {
         return Mark::SG;
@@ -121,7 +127,7 @@ fn head_mark(t: &[u8]) -> Mark
     if marked_by(t, b"MC") {
         return Mark::MC;
     }
-    start_end_mark(t)
+    rest_mark(t)
 }
 
 // The mark at the head of `t`. The tests stand by how often a mark comes.
@@ -143,7 +149,7 @@ pub fn mark_of(t: &[u8]) -> Mark
     if marked_by(t, b"PH") {
         return Mark::PH;
     }
-    head_mark(t)
+    later_mark(t)
 }
 
 // How many bytes a record of a mark takes, a text's without its characters.
@@ -163,12 +169,6 @@ pub fn fixed_width(m: Mark) -> usize
         Mark::MC | Mark::EM => ANNOTATION_END_WIDTH,
         _ => CODE_WIDTH,
     }
-}
-
-fn wide_byte(x: u8) -> u16
-    ensures { λ r. ⌜ (r ≡ x) × (r < 256) ⌝ }
-{
-    x as u16
 }
 
 // A number of two bytes as one that counts or places bytes.
@@ -198,7 +198,7 @@ pub fn number_at(s: &[u8], at: usize) -> u16
     requires { ⌜ at + 2 ≤ length (now s) ⌝ }
     ensures { λ r. ⌜ r ≡ two-at (now (s .entry)) at ⌝ }
 {
-    wide_byte(s[at]) * 256 + wide_byte(s[at + 1])
+    two_bytes(s[at], s[at + 1])
 }
 
 // How many bytes the record of the mark `m` at the head of `t` takes.

@@ -1,21 +1,82 @@
-use Rattle.xliff.specs.Parse.{Mark}
-use mathlib.Core.Path.{ap, _∙_}
+use mathlib.Core.Path.{_≡_, refl, sym, _∙_}
+use mathlib.Core.Bool.{false}
+use mathlib.Core.List.{[], _∷_}
+use native.Mathlib.Omega.{arith}
 use borrow.Author.Needs.{needs}
-use Rattle.glance.specs.Glances.{glanceBy}
-use Rattle.glance.proofs.GlanceLaws.{glanced}
+use Rattle.xliff.specs.Bytes.{'G', 'I', 'S', 'T', 'X'}
+use Rattle.xliff.specs.Parse.{is, mark-of, Mark, TX, TG, SG, IG}
+use Rattle.xliff.proofs.lists.Tests.{or-both}
+use Rattle.marks.proofs.MarkLaws.{found, hit, other}
+use Rattle.glance.specs.Glances.{restGlance, glanceBy}
+use Rattle.glance.proofs.GlanceLaws.{glanced, too-short}
 use Rattle.glance.proofs.glance_of.Statement.{statement}
 use Rattle.glance.proofs.glance_of.Tie as tie
 
--- the glance by the mark found
+-- `t.len() < 2`
 returns : tie.Need-returns
-returns c =
-    let t = c .before .before .before .args .t .now in
-    glanced t _ (c .glance-by .ensures ∙ ap (λ (m : Mark). glanceBy m t) (c .before .mark-of .ensures))
+returns c = too-short _ _ (omega (arith, c .before .if1 .taken))
+
+-- TX
+returns-2 : tie.Need-returns-2
+unfolding mark-of is
+returns-2 c =
+    let t = c .before .before .before .before .before .before .args .t .now in
+    let test = sym (c .before .before .marked-by .ensures) ∙ c .before .if2 .taken in
+    glanced t _ (c .text-glance .ensures ∙ found (λ (m : Mark). glanceBy m t) 'T' 'X' t (omega arith) test)
+
+-- TG
+returns-3 : tie.Need-returns-3
+unfolding mark-of is
+returns-3 c =
+    let t = c .before .before .before .before .before .before .before .before .before .args .t .now in
+    let test = sym (c .before .before .marked-by2 .ensures) ∙ c .before .if3 .taken in
+    glanced t _ (c .target-glance .ensures ∙ found (λ (m : Mark). glanceBy m t) 'T' 'G' t (omega arith) test)
+
+-- SG
+returns-4 : tie.Need-returns-4
+unfolding mark-of is
+returns-4 c =
+    let t = c .before .before .before .before .before .before .before .before .before .before .before .before .args .t .now in
+    let test = sym (c .before .before .marked-by3 .ensures) ∙ c .before .if4 .taken in
+    glanced t _ (c .part-glance .ensures ∙ found (λ (m : Mark). glanceBy m t) 'S' 'G' t (omega arith) test)
+
+-- IG
+returns-5 : tie.Need-returns-5
+unfolding mark-of is
+returns-5 c =
+    let t = c .before .before .before .before .before .before .before .before .before .before .before .before .before .before .before .args .t .now in
+    let test = sym (c .before .before .marked-by4 .ensures) ∙ c .before .if5 .taken in
+    glanced t _ (c .part-glance2 .ensures ∙ found (λ (m : Mark). glanceBy m t) 'I' 'G' t (omega arith) test)
+
+-- none of them
+returns-6 : tie.Need-returns-6
+returns-6 c =
+    let fourth = c .before in
+    let third = fourth .before .before .before in
+    let second = third .before .before .before in
+    let first = second .before .before .before in
+    let t = first .before .before .before .before .before .args .t .now in
+    let marks = TX ∷ TG ∷ SG ∷ IG ∷ [] in
+    let none : hit marks t ≡ false =
+    or-both _ _ (sym (first .before .marked-by .ensures) ∙ first .if2 .left)
+    (or-both _ _ (sym (second .before .marked-by2 .ensures) ∙ second .if3 .left)
+    (or-both _ _ (sym (third .before .marked-by3 .ensures) ∙ third .if4 .left)
+    (or-both _ _ (sym (fourth .before .marked-by4 .ensures) ∙ fourth .if5 .left)
+    refl))) in
+    glanced t _
+    (c .rest-glance .ensures ∙ other restGlance (λ (m : Mark). glanceBy m t) marks t (omega arith) none refl)
 
 pub glance-of-spec : {M : Type 1} → statement M
 glance-of-spec =
     tie.close
     (tie.spec
-    -- by search: no need of `mark_of` and `glance_by`
-    (λ c κs. search needs) (λ c κs. search needs)
-    returns)
+    -- by search: no need of `item_glance`
+    (λ c κs. search needs) returns
+    -- by search, before each test: two bytes are there; no need of the function called after it
+    (λ c κs. search needs) (λ c κs. search needs) returns-2
+    (λ c κs. search needs) (λ c κs. search needs) returns-3
+    (λ c κs. search needs) (λ c κs. search needs) returns-4
+    (λ c κs. search needs) (λ c κs. search needs) returns-5
+    -- by search: two bytes are there
+    (λ c κs. search needs)
+    returns-6)

@@ -1,94 +1,102 @@
-use mathlib.Core.Path.{refl}
+use mathlib.Core.Path.{_≡_, refl, sym, _∙_}
+use mathlib.Core.Bool.{false}
 use mathlib.Core.List.{[], _∷_}
 use native.Mathlib.Omega.{arith}
 use borrow.Author.Needs.{needs}
-use Rattle.marks.specs.Marks.{meaning}
-use Rattle.marks.specs.declared.Mark.the-variants.{UN, UE, SG, IG, TG, TX, CP, Unknown}
-use Rattle.marks.proofs.MarkLaws.{in-arm}
-use Rattle.keys.specs.Marks.{lowOf}
+use Rattle.xliff.specs.Bytes.{'C', 'E', 'H', 'I', 'O', 'P', 'S'}
+use Rattle.xliff.specs.Parse.{is, mark-of, PO, PC, PH, SC, EC, IS, IE}
+use Rattle.xliff.proofs.lists.Tests.{or-both}
+use Rattle.marks.proofs.MarkLaws.{found, hit, other}
+use Rattle.keys.specs.Marks.{lowOf, annotationLow}
 use Rattle.keys.proofs.low_of.Statement.{statement}
 use Rattle.keys.proofs.low_of.Tie as tie
 
 -- PO
 returns : tie.Need-returns
-unfolding lowOf
-returns c = (simp (c .enum-told .given .1), omega arith)
+unfolding lowOf mark-of is
+returns c =
+    let test = sym (c .before .marked-by .ensures) ∙ c .if1 .taken in
+    (found lowOf 'P' 'O' _ (omega arith) test, omega arith)
 
 -- PC
 returns-2 : tie.Need-returns-2
-unfolding lowOf
-returns-2 c = (simp (c .enum-told2 .given .1), omega arith)
+unfolding lowOf mark-of is
+returns-2 c =
+    let test = sym (c .before .marked-by2 .ensures) ∙ c .if2 .taken in
+    (found lowOf 'P' 'C' _ (omega arith) test, omega arith)
 
 -- PH
 returns-3 : tie.Need-returns-3
-unfolding lowOf
-returns-3 c = (simp (c .enum-told3 .given .1), omega arith)
+unfolding lowOf mark-of is
+returns-3 c =
+    let test = sym (c .before .marked-by3 .ensures) ∙ c .if3 .taken in
+    (found lowOf 'P' 'H' _ (omega arith) test, omega arith)
 
 -- SC
 returns-4 : tie.Need-returns-4
-unfolding lowOf
-returns-4 c = (simp (c .enum-told4 .given .1), omega arith)
+unfolding lowOf mark-of is
+returns-4 c =
+    let test = sym (c .before .marked-by4 .ensures) ∙ c .if4 .taken in
+    (found lowOf 'S' 'C' _ (omega arith) test, omega arith)
 
 -- EC
 returns-5 : tie.Need-returns-5
-unfolding lowOf
-returns-5 c = (simp (c .enum-told5 .given .1), omega arith)
+unfolding lowOf mark-of is
+returns-5 c =
+    let test = sym (c .before .marked-by5 .ensures) ∙ c .if5 .taken in
+    (found lowOf 'E' 'C' _ (omega arith) test, omega arith)
 
 -- IS
 returns-6 : tie.Need-returns-6
-unfolding lowOf
-returns-6 c = (simp (c .enum-told6 .given .1), omega arith)
+unfolding lowOf mark-of is
+returns-6 c =
+    let test = sym (c .before .marked-by6 .ensures) ∙ c .if6 .taken in
+    (found lowOf 'I' 'S' _ (omega arith) test, omega arith)
 
 -- IE
 returns-7 : tie.Need-returns-7
-unfolding lowOf
-returns-7 c = (simp (c .enum-told7 .given .1), omega arith)
+unfolding lowOf mark-of is
+returns-7 c =
+    let test = sym (c .before .marked-by7 .ensures) ∙ c .if7 .taken in
+    (found lowOf 'I' 'E' _ (omega arith) test, omega arith)
 
--- MO
+-- none of them
 returns-8 : tie.Need-returns-8
 unfolding lowOf
-returns-8 c = (simp (c .enum-told8 .given .1), omega arith)
-
--- MC
-returns-9 : tie.Need-returns-9
-unfolding lowOf
-returns-9 c = (simp (c .enum-told9 .given .1), omega arith)
-
--- SM
-returns-10 : tie.Need-returns-10
-unfolding lowOf
-returns-10 c = (simp (c .enum-told10 .given .1), omega arith)
-
--- EM
-returns-11 : tie.Need-returns-11
-unfolding lowOf
-returns-11 c = (simp (c .enum-told11 .given .1), omega arith)
-
--- no marker
-returns-12 : tie.Need-returns-12
-unfolding lowOf
-returns-12 c = (
-  in-arm (λ n. lowOf (meaning n)) 0 (UN ∷ UE ∷ SG ∷ IG ∷ TG ∷ TX ∷ CP ∷ Unknown ∷ []) (c .before .args .m)
-      (c .match .keys12) refl,
-  omega arith,
-)
+returns-8 c =
+    let seventh = c .before in
+    let sixth = seventh .before .before .before in
+    let fifth = sixth .before .before .before in
+    let fourth = fifth .before .before .before in
+    let third = fourth .before .before .before in
+    let second = third .before .before .before in
+    let first = second .before .before .before in
+    let t = first .before .before .before .before .args .t .now in
+    let marks = PO ∷ PC ∷ PH ∷ SC ∷ EC ∷ IS ∷ IE ∷ [] in
+    let none : hit marks t ≡ false =
+    or-both _ _ (sym (first .before .marked-by .ensures) ∙ first .if1 .left)
+    (or-both _ _ (sym (second .before .marked-by2 .ensures) ∙ second .if2 .left)
+    (or-both _ _ (sym (third .before .marked-by3 .ensures) ∙ third .if3 .left)
+    (or-both _ _ (sym (fourth .before .marked-by4 .ensures) ∙ fourth .if4 .left)
+    (or-both _ _ (sym (fifth .before .marked-by5 .ensures) ∙ fifth .if5 .left)
+    (or-both _ _ (sym (sixth .before .marked-by6 .ensures) ∙ sixth .if6 .left)
+    (or-both _ _ (sym (seventh .before .marked-by7 .ensures) ∙ seventh .if7 .left)
+    refl)))))) in
+    let low = c .annotation-low .ensures in
+    (low .0 ∙ other annotationLow lowOf marks t (omega arith) none refl, low .1)
 
 pub low-of-spec : {M : Type 1} → statement M
 low-of-spec =
     tie.close
     (tie.spec
-    -- by search: the mark of each arm that has one
-    (λ c. search needs) (λ c. search needs) (λ c. search needs) (λ c. search needs) (λ c. search needs) (λ c. search needs)
-    (λ c. search needs) (λ c. search needs) (λ c. search needs) (λ c. search needs) (λ c. search needs)
-    returns
-    returns-2
-    returns-3
-    returns-4
-    returns-5
-    returns-6
-    returns-7
-    returns-8
-    returns-9
-    returns-10
-    returns-11
-    returns-12)
+    -- by search, before each test: two bytes are there
+    (λ c κs. search needs) returns
+    (λ c κs. search needs) returns-2
+    (λ c κs. search needs) returns-3
+    (λ c κs. search needs) returns-4
+    (λ c κs. search needs) returns-5
+    (λ c κs. search needs) returns-6
+    (λ c κs. search needs) returns-7
+    -- by search: two bytes are there
+    (λ c κs. search needs)
+    returns-8)

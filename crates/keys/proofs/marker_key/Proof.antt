@@ -13,10 +13,8 @@ returns c = simp (lt-leb _ _ (c .if1 .taken))
 returns-2 : tie.Need-returns-2
 unfolding markerKey keyBy
 returns-2 c =
-    let if1 = c .before .before .before .if1 in
     simp (
-      le-leb _ _ (if1 .left),
-      ← c .before .before .mark-of .ensures,
+      le-leb _ _ (c .before .before .if1 .left),
       ← c .before .low-of .ensures .0,
       eq-eqb _ _ (c .if2 .taken),
     )
@@ -25,13 +23,11 @@ returns-2 c =
 returns-3 : tie.Need-returns-3
 unfolding markerKey keyBy
 returns-3 c =
-    let if1 = c .before .before .before .before .before .if1 in
-    let mark-of = c .before .before .before .before .mark-of in
+    let if1 = c .before .before .before .before .if1 in
     let low-of = c .before .before .before .low-of in
     let marker-good = c .before .marker-good in
     simp (
       le-leb _ _ (if1 .left),
-      ← mark-of .ensures,
       ← low-of .ensures .0,
       ne-eqb _ _ (c .before .before .if2 .left),
       ← marker-good .ensures,
@@ -43,14 +39,12 @@ returns-4 : tie.Need-returns-4
 unfolding markerKey keyBy
 returns-4 c =
     let after-low-of = c .before .before .before .before .before in
-    let if1 = after-low-of .before .before .if1 in
-    let mark-of = after-low-of .before .mark-of in
+    let if1 = after-low-of .before .if1 in
     let low-of = after-low-of .low-of in
     let if2 = c .before .before .before .before .if2 in
     let marker-good = c .before .before .before .marker-good in
     simp (
       le-leb _ _ (if1 .left),
-      ← mark-of .ensures,
       ← low-of .ensures .0,
       ne-eqb _ _ (if2 .left),
       ← marker-good .ensures,
@@ -65,8 +59,8 @@ marker-key-spec =
     tie.close
     (tie.spec
     returns
-    -- by search: no need of `mark_of` and `low_of`
-    (λ c κs. search needs) (λ c κs. search needs)
+    -- by search: two bytes are there
+    (λ c κs. search needs)
     returns-2
     -- by search: four bytes are there
     (λ c κs. search needs)

@@ -1,5 +1,5 @@
 use Prim.Native.Nat.{ℕ, suc, _+_, _*_}
-use mathlib.Core.Path.{_≡_, ap, ap₂, _∙_}
+use mathlib.Core.Path.{_≡_, ap, _∙_}
 use native.Mathlib.Omega.{arith}
 use lib.ListN.{getD}
 use borrow.Author.Needs.{needs}
@@ -11,17 +11,16 @@ use Rattle.marks.proofs.number_at.Tie as tie
 returns : tie.Need-returns
 unfolding two-at
 returns c =
-    let args = c .before .before .before .before .before .args in
+    let args = c .before .before .before .before .args in
     let s = args .s .now in
     let at = args .at in
     let next : at + 1 ≡ suc at = omega arith in
-    ap₂ (λ (x y : ℕ). x * 256 + y) (c .before .before .wide-byte .ensures .0) (c .wide-byte2 .ensures .0)
-    ∙ ap (λ (k : ℕ). getD s at 0 * 256 + getD s k 0) next
+    c .two-bytes .ensures .0 ∙ ap (λ (k : ℕ). getD s at 0 * 256 + getD s k 0) next
 
 pub number-at-spec : {M : Type 1} → statement M
 number-at-spec =
     tie.close
     (tie.spec
-    -- by search: the two bytes are there, and the number fits
-    (λ c. search needs) (λ c κs. search needs) (λ c. search needs) (λ c. search needs) (λ c. search needs) (λ c κs. search needs) (λ c. search needs)
+    -- by search: the two bytes are there
+    (λ c. search needs) (λ c. search needs) (λ c. search needs) (λ c κs. search needs)
     returns)
