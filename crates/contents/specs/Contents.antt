@@ -1,6 +1,6 @@
 -- The contents of a table, each by itself: the offsets of heads and markers in table order, and their keys. A head (SG,
 -- IG, TG) is a bar between two contents.
-use Prim.Native.Nat.{ℕ, _%_, _/_}
+use Prim.Native.Nat.{ℕ}
 use mathlib.Core.Path.{_≡_, refl}
 use mathlib.Core.Bool.{Bool, true, false, cond}
 use mathlib.Core.List.{List, [], _∷_, map}
@@ -11,7 +11,7 @@ use Rattle.xliff.specs.Encode.{Record, opening, closing, part-head, target-head
 use Rattle.xliff.specs.Parse.{read, unit}
 use Rattle.xliff.specs.Sequences.{Placed}
 use Rattle.places.specs.Found.{found, marker}
-use Rattle.keys.specs.Keys.{key}
+use Rattle.keys.specs.Keys.{key, classKey}
 
 -- the offset of a marker, where the walk stands in a content that is asked for
 unfoldable pub marker-offset : Bool → Placed → List ℕ
@@ -44,7 +44,7 @@ unfoldable pub barKeys : List ℕ → List ℕ → List ℕ
 barKeys t markers = map (λ (o : ℕ). bar-key (read (drop o t))) markers
 
 abbrev pub isBar : ℕ → Bool
-isBar k = eqb (k % 64 / 8) 0
+isBar k = eqb (classKey k) 0
 
 -- the keys up to the next bar: what is left of a content
 unfoldable pub run : List ℕ → List ℕ

@@ -1,6 +1,5 @@
 // The contents of a table, each by itself: the offsets of heads and markers in table order, and their keys.
 ghost use mathlib.Core.Path.{_≡_};
-ghost use mathlib.Core.List.{[]};
 ghost use Prim.Native.Nat.{_<_, _≤_};
 ghost use lib.ListN.{length, take, drop};
 ghost use lib.Dec.{eqb};

@@ -1,14 +1,14 @@
 -- The bytes of a unit's opening, of a part's head and of a target's.
-use Prim.Native.Nat.{ℕ, _+_, _/_, _%_, _≤_}
-use mathlib.Core.Path.{_≡_, refl, sym, ap, ap₂, _∙_, subst}
-use mathlib.Core.Bool.{Bool, true, false}
+use Prim.Native.Nat.{ℕ, _+_, _≤_}
+use mathlib.Core.Path.{_≡_, refl, sym, ap, _∙_, subst}
+use mathlib.Core.Bool.{true, false}
 use mathlib.Core.List.{List, [], _∷_, _++_}
 use native.Mathlib.Omega.{arith}
 use lib.ListN.{length, getD, length-append}
 use Rattle.table.specs.Meaning.{segment-meaning}
 use Rattle.xliff.specs.Bytes.{two, two-at}
 use Rattle.xliff.specs.Unit as unit
-use Rattle.xliff.specs.Unit.{Opening, Head, segment, ignorable, with-id, with-state}
+use Rattle.xliff.specs.Unit.{Head, segment, ignorable, with-id, with-state}
 use Rattle.xliff.specs.Encode.{opening, target-head, record-bytes, head-bytes}
 use Rattle.xliff.specs.Parse.{segment-at}
 use Rattle.xliff.proofs.lists.Tests.{two-value}

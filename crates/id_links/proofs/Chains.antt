@@ -96,13 +96,13 @@ module _ (keys links heads : List ℕ) (i : ℕ) (l : i < length keys) where
 
   pub linked-next : length keys ≤ length links → Linked (take i keys) links → Headed (take i keys) heads → Linked (take (i + 1) keys) (set links i (getD heads (group (getD keys i 0)) 0))
   linked-next room old last =
-      subst (λ (ks : List ℕ). Linked ks (set links i (getD heads (group (getD keys i 0)) 0))) (sym one-more)
+      subst (λ (some-keys : List ℕ). Linked some-keys (set links i (getD heads (group (getD keys i 0)) 0))) (sym one-more)
       (subst (λ (j : ℕ). Linked (take i keys ++ (getD keys i 0 ∷ [])) (set links j (getD heads (group (getD keys i 0)) 0))) so-many
       (linked-more (take i keys) (getD keys i 0) links heads (omega (arith, l, room, so-many)) old last small))
 
   pub headed-next : length heads ≡ 256 → Headed (take i keys) heads → Headed (take (i + 1) keys) (set heads (group (getD keys i 0)) (i + 1))
   headed-next all old =
-      subst (λ (ks : List ℕ). Headed ks (set heads (group (getD keys i 0)) (i + 1))) (sym one-more)
+      subst (λ (some-keys : List ℕ). Headed some-keys (set heads (group (getD keys i 0)) (i + 1))) (sym one-more)
       (subst (λ (j : ℕ). Headed (take i keys ++ (getD keys i 0 ∷ [])) (set heads (group (getD keys i 0)) (j + 1))) so-many
       (headed-more (take i keys) (getD keys i 0) heads all old))
 
@@ -123,4 +123,4 @@ up-to-next keys links heads links′ heads′ i l few old e f = (
 pub up-to-end : (keys links heads : List ℕ) (i : ℕ) → length keys ≤ i → LinkedUpTo keys i links heads → Linked keys links × Headed keys heads
 up-to-end keys links heads i l old =
     let e : take i keys ≡ keys = take-all i keys l in
-    (subst (λ (ks : List ℕ). Linked ks links) e (old .3), subst (λ (ks : List ℕ). Headed ks heads) e (old .4))
+    (subst (λ (some-keys : List ℕ). Linked some-keys links) e (old .3), subst (λ (some-keys : List ℕ). Headed some-keys heads) e (old .4))

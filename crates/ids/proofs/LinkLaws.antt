@@ -50,15 +50,15 @@ links-more keys links heads n k h all old links′ heads′ new = by (eqb k 0) n
     by true e = (
       ap length (e .0) ∙ old .0,
       ap length (e .1) ∙ old .1,
-      subst (λ (ks : List ℕ). Linked ks links′) (sym (take-set keys n k)) (subst (Linked (take n keys)) (sym (e .0)) (old .2)),
-      subst (λ (ks : List ℕ). Headed ks heads′) (sym (take-set keys n k)) (subst (Headed (take n keys)) (sym (e .1)) (old .3)),
+      subst (λ (some-keys : List ℕ). Linked some-keys links′) (sym (take-set keys n k)) (subst (Linked (take n keys)) (sym (e .0)) (old .2)),
+      subst (λ (some-keys : List ℕ). Headed some-keys heads′) (sym (take-set keys n k)) (subst (Headed (take n keys)) (sym (e .1)) (old .3)),
     )
     by false e = (
       ap length (e .0) ∙ length-set links n (getD heads (group k) 0) ∙ old .0,
       ap length (e .1) ∙ length-set heads (group k) (n + 1) ∙ old .1,
-      subst (λ (ks : List ℕ). Linked ks links′) more
+      subst (λ (some-keys : List ℕ). Linked some-keys links′) more
           (subst (Linked (take n keys ++ (k ∷ []))) (ap (λ (j : ℕ). set links j (getD heads (group k) 0)) many ∙ sym (e .0))
           (linked-more (take n keys) k links heads (omega (arith, h, all, many, old .0)) (old .2) (old .3) (omega arith))),
-      subst (λ (ks : List ℕ). Headed ks heads′) more
+      subst (λ (some-keys : List ℕ). Headed some-keys heads′) more
           (subst (Headed (take n keys ++ (k ∷ []))) (ap (λ (j : ℕ). set heads (group k) (j + 1)) many ∙ sym (e .1)) (headed-more (take n keys) k heads (old .1) (old .3))),
     )

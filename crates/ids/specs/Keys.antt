@@ -1,6 +1,6 @@
 -- Ids with their owners as numbers.
 use Rattle.places.specs.Offsets.{At}
-use Prim.Native.Nat.{ℕ, _+_, _-_, _*_, _/_, _%_, _<_}
+use Prim.Native.Nat.{ℕ, _+_, _*_, _/_, _%_, _<_}
 use mathlib.Core.Path.{_≡_}
 use mathlib.Core.Bool.{Bool, false, not, _&&_, _||_, cond}
 use mathlib.Core.List.{List, [], _∷_}
@@ -12,14 +12,13 @@ use Rattle.xliff.specs.Item as spec
 use Rattle.xliff.specs.Rules.{Owner, of-part, of-source, of-target, Named, start-name}
 use Rattle.places.specs.Found.{found-at, head-name, no-name}
 use Rattle.table.specs.Meaning.{half, fields, item, record-meaning, meaning}
+use Rattle.keys.specs.Keys.{idKey, classKey, halfKey}
 use Rattle.table.specs.declared.Fields.{Fields}
 use Rattle.table.specs.declared.Form.{Form}
 use Rattle.table.specs.declared.Half.{Half}
 use Rattle.table.specs.declared.Item.{Item}
 use Rattle.table.specs.declared.Record.{Record}
-use Rattle.table.specs.declared.Record.the-variants.{Unit as UnitStart, UnitEnd, Segment, Ignorable, Target, Text, Inline}
 use Rattle.table.specs.declared.Read.{Read}
-use Rattle.table.specs.declared.Read.the-variants.{Good, Ill, Broken}
 
 unfoldable pub owner : ℕ → Owner
 owner o = cond (eqb o 2) of-source (cond (eqb o 3) of-target of-part)
@@ -54,7 +53,7 @@ clashTest a b =
 
 -- the number by a marker's key: an end gives no id
 unfoldable pub nameBy : ℕ → ℕ → ℕ
-nameBy o k = cond (eqb (k % 64 / 8) 0 || eqb (k % 8 / 2) 2) 0 (k / 64 * 64 + o)
+nameBy o k = cond (eqb (classKey k) 0 || eqb (halfKey k) 2) 0 (idKey k * 64 + o)
 
 -- the owner after a head: 0 for SG and IG, 1 for TG, 2 for all else
 abbrev pub ownerBy : ℕ → ℕ → ℕ

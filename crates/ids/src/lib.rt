@@ -88,10 +88,10 @@ fn name_by(o: u32, k: u32) -> u32
     requires { ⌜ o ≤ 3 ⌝ }
     ensures { λ r. ⌜ r ≡ nameBy o k ⌝ }
 {
-    if (k % 64 / 8 == 0) | (k % 8 / 2 == 2) {
+    if (keys::class_of(k) == 0) | (keys::half_of(k) == 2) {
         return 0;
     }
-    k / 64 * 64 + o
+    keys::id_of(k) * 64 + o
 }
 
 // The number of the id that the record at an offset gives; `head` is 0 for SG and IG.

@@ -1,6 +1,6 @@
 -- Joined targets and parts, with another order.
 use Prim.Native.Nat.{ℕ, _+_, _≤_, _<_}
-use mathlib.Core.List.{List, _++_}
+use mathlib.Core.List.{List}
 use lib.ListN.{length}
 use Rattle.xliff.specs.Unit.{Target, Part}
 use Rattle.xliff.specs.Encode.{target-records, part-records, spell}

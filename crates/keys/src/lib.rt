@@ -7,7 +7,7 @@ ghost use Rattle.xliff.specs.Parse.{mark-at, annotation-end-size};
 ghost use Rattle.places.specs.Markers.{item-at};
 ghost use Rattle.views.specs.Views.{viewOf};
 ghost use Rattle.keys.specs.Marks.{lowOf, annotationLow, codeGood, startGood, endGood, markerGood, markerKey};
-ghost use Rattle.keys.specs.Keys.{key, keysAt, alikeKeys, otherKey, halfKey, formKey, classKey};
+ghost use Rattle.keys.specs.Keys.{key, keysAt, alikeKeys, otherKey, idKey, halfKey, formKey, classKey};
 
 // What the mark of `t` says of the key: 8 times the class, twice the half, 1 for PO PC MO MC; 0 where it is no
 // marker's. First of annotations alone, then of all markers.
@@ -157,6 +157,13 @@ pub fn keys_at(t: &[u8], markers: &[u16], out: &mut [u32]) -> usize
         i += 1;
     }
     i
+}
+
+// The parts of a key: id, half, class and form.
+pub fn id_of(k: u32) -> u32
+    ensures { λ r. ⌜ r ≡ idKey k ⌝ }
+{
+    k / 64
 }
 
 pub fn half_of(k: u32) -> u32

@@ -1,12 +1,10 @@
 -- Rule 8 on markers: texts and characters do not bear on it.
-use mathlib.Core.Path.{_≡_, refl, ap}
-use mathlib.Core.Bool.{Bool, true, false, cond}
-use mathlib.Core.List.{[], _∷_}
-use mathlib.Core.Option.{some}
-use Rattle.xliff.specs.Bytes.{among, keep}
-use Rattle.xliff.specs.Item.{Item, Content, other-half, is-fixed}
-use Rattle.xliff.specs.Rules.{nearest, bad-8-target, bad-8-source, fixed-but-free, is-F, unled}
-use Rattle.places.specs.Markers.{is-marked, only-markers, OnMarks}
+use mathlib.Core.Path.{_≡_}
+use mathlib.Core.Bool.{false}
+use Rattle.xliff.specs.Bytes.{among}
+use Rattle.xliff.specs.Item.{Item, other-half, is-fixed}
+use Rattle.xliff.specs.Rules.{bad-8-target, bad-8-source, fixed-but-free, is-F, unled}
+use Rattle.places.specs.Markers.{is-marked, OnMarks}
 use Rattle.places.proofs.Tests.{any-marked}
 use Rattle.places.proofs.Ten.{no-class}
 use Rattle.halves.proofs.Others.{other-unmarked, nearest-marked}

@@ -85,11 +85,11 @@ unfolding from-part markers
 part-is l qs = ap {B = List Placed} (λ r. record { item = text 0; at = l .at } ∷ r) (append-assoc (gather (marker true) (placed-source l)) (of-the-target (order-at l) (l .part .target)) qs)
 
 -- a target, or none, before a bar
-target-content-blamed : (before : Content) (at : ℕ) (g : Target) (qs : List Placed) (os : List ℕ) → run-items (items qs) ≡ []
-    → ((before : Content) → blamed lone-bar before qs ≡ os) → blamed lone-bar before (of-the-target at g ++ qs) ≡ blamed lone-P [] (placed-target (at + 4) g) ++ os
+target-content-blamed : (before : Content) (at : ℕ) (g : Target) (qs : List Placed) (blames : List ℕ) → run-items (items qs) ≡ []
+    → ((before : Content) → blamed lone-bar before qs ≡ blames) → blamed lone-bar before (of-the-target at g ++ qs) ≡ blamed lone-P [] (placed-target (at + 4) g) ++ blames
 unfolding target-gathered placed-target blamed markers
-target-content-blamed before at no-target qs os e h = h before
-target-content-blamed before at (target q xs) qs os e h =
+target-content-blamed before at no-target qs blames e h = h before
+target-content-blamed before at (target q xs) qs blames e h =
     content-blamed before at (placed-from (at + 4) [] xs) qs e
     ∙ ap (λ (l : List ℕ). blamed lone-P [] (placed-from (at + 4) [] xs) ++ l) (h (reverseAux (items (markers (placed-from (at + 4) [] xs))) (text 0 ∷ before)))
 

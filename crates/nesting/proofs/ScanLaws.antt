@@ -216,10 +216,11 @@ lone-not before k after e = by (not (eqb (halfKey k) 0)) (formKey k) _ e
     by true false c h = refl
     by false b c h = refl
 
-pub lone-scan : (keys : List ℕ) (i k : ℕ) (met : Bool) → isHalfP k ≡ true → met ≡ met-from (k ∷ []) (away (not (eqb (halfKey k) 1)) i 0 keys)
+pub lone-scan : (keys : List ℕ) (i k half : ℕ) (met : Bool)
+    → isHalfP k ≡ true → half ≡ halfKey k → met ≡ met-from (k ∷ []) (away (not (eqb half 1)) i 0 keys)
     → not met ≡ lonePKey (run (reverse (take i keys))) k (run (drop (i + 1) keys))
 unfolding lonePKey away
-lone-scan keys i k met e f = rw f (by (not (eqb (halfKey k) 0)) (formKey k) (eqb (halfKey k) 1) e)
+lone-scan keys i k half met e h f = rw (f, h) (by (not (eqb (halfKey k) 0)) (formKey k) (eqb (halfKey k) 1) e)
   where
     by : (a b c : Bool) → a && b ≡ true
         → not (met-from (k ∷ []) (cond (not c) (reverse (take (i - 0) keys)) (drop (i + 1 + 0) keys)))

@@ -40,7 +40,8 @@ fn key_away(keys: &[u32], back: bool, i: usize, j: usize) -> u32
 fn is_apart(x: u32, k: u32) -> bool
     ensures { λ r. ⌜ r ≡ isApart x k ⌝ }
 {
-    (k % 64 / 8 == 0) | ((k % 2 == 1) & (!(x % 8 / 2 == k % 8 / 2) & !keys::is_other(x, k)))
+    let turned = !(keys::half_of(x) == keys::half_of(k)) & !keys::is_other(x, k);
+    (keys::class_of(k) == 0) | (keys::is_form_p(k) & turned)
 }
 
 // How many halves are open after one more key; `x` is the nearest of the `depth` before.
@@ -48,8 +49,8 @@ fn depth_after(x: u32, k: u32, depth: usize) -> usize
     requires { ⌜ (1 ≤ depth) × (depth < most-records) ⌝ }
     ensures { λ r. ⌜ r ≡ depthAfter x k depth ⌝ }
 {
-    if k % 2 == 1 {
-        if x % 8 / 2 == k % 8 / 2 {
+    if keys::is_form_p(k) {
+        if keys::half_of(x) == keys::half_of(k) {
             return depth + 1;
         }
         return depth - 1;
@@ -87,7 +88,7 @@ fn is_met(keys: &[u32], back: bool, i: usize, stack: &mut [u32]) -> bool
 fn is_half_p(k: u32) -> bool
     ensures { λ r. ⌜ r ≡ isHalfP k ⌝ }
 {
-    !(k % 8 / 2 == 0) & (k % 2 == 1)
+    !(keys::half_of(k) == 0) & keys::is_form_p(k)
 }
 
 // Whether the marker at `i` is a half of pc or mrk without partner in its content.
@@ -100,7 +101,7 @@ pub fn is_lone(keys: &[u32], i: usize, stack: &mut [u32]) -> bool
     if !is_half_p(k) {
         return false;
     }
-    !is_met(keys, !(k % 8 / 2 == 1), i, stack)
+    !is_met(keys, !(keys::half_of(k) == 1), i, stack)
 }
 
 // The first half of pc or mrk without partner, over all contents.

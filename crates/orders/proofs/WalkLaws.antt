@@ -1,6 +1,6 @@
 -- A walk over a table that passes, one record further.
 use Rattle.xliff.specs.Good.{each-cons, GoodRecord, AllGood, part-heads}
-use Prim.Native.Nat.{ℕ, _+_, _-_, _≤_, _<_}
+use Prim.Native.Nat.{ℕ, _+_, _≤_, _<_}
 use mathlib.Core.Path.{_≡_, refl, sym, _∙_, ap, subst}
 use mathlib.Core.Bool.{Bool, cond}
 use mathlib.Core.List.{List, _∷_}

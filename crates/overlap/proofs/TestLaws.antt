@@ -126,7 +126,7 @@ module _ (t markers : List ℕ) (i : ℕ) (h : i < length markers) where
 pub end-there : (t markers keys starts ends : List ℕ) → keys ≡ keysAt t markers → Halves keys starts ends → (i e : ℕ) → i < length markers → e ≡ getD ends i 0
     → e ≡ half-after (keysAt t markers) i
 end-there t markers keys starts ends k h i e l f =
-    f ∙ h .1 i (omega (arith, keys-long t markers keys k)) ∙ ap (λ (ks : List ℕ). half-after ks i) k
+    f ∙ h .1 i (omega (arith, keys-long t markers keys k)) ∙ ap (λ (some-keys : List ℕ). half-after some-keys i) k
 
 pub stray-there : (keys starts ends : List ℕ) (first end j : ℕ) → Halves keys starts ends → j < length keys → (a b : ℕ) (m : Bool)
     → a ≡ getD starts j 0 → b ≡ getD ends j 0 → m ≡ strayKey (getD keys j 0) first end a b → m ≡ strayAt keys first end j

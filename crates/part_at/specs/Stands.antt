@@ -9,7 +9,7 @@ use lib.ListN.{length, take, drop}
 use Rattle.xliff.specs.Bytes.{gather}
 use Rattle.xliff.specs.Unit.{Head, Target, no-target, target, Part, has-target}
 use Rattle.xliff.specs.Encode.{Record, opening, closing, part-head, target-head, record-bytes, head-bytes, target-records, part-records, spell, content-bytes}
-use Rattle.xliff.specs.Parse.{unit}
+use Rattle.xliff.specs.Parse.{UN, TG, size-of, unit}
 use Rattle.xliff.specs.Focus.{Focus, nowhere, here, focus}
 use Rattle.xliff.specs.Check.{table-refusal}
 use Rattle.heads.specs.Heads.{is-segment}
@@ -63,12 +63,13 @@ abbrev pub TargetStands : List ℕ → PartPlace → Target → Type 0
 TargetStands t place no-target = (place .«has_target» ≡ false) × (place .order ≡ 0) × (place .end ≡ place .target)
 TargetStands t place (target q xs) =
     (place .«has_target» ≡ true) × (place .order ≡ q)
-    × Slice t (place .target) (place .target + 4) (record-bytes (target-head q)) × Slice t (place .target + 4) (place .end) (content-bytes xs)
+    × Slice t (place .target) (place .target + size-of TG []) (record-bytes (target-head q))
+    × Slice t (place .target + size-of TG []) (place .end) (content-bytes xs)
 
 -- the part p, behind the parts b and before the parts a, has these offsets
 pub record PartStands (t : List ℕ) (b : List Part) (p : Part) (a : List Part) (place : PartPlace) : Type 0 where
   pub all : unit t .parts ≡ b ++ (p ∷ a)
-  pub offset : place .head ≡ 3 + length (spell (gather part-records b))
+  pub offset : place .head ≡ size-of UN [] + length (spell (gather part-records b))
   pub before : take (place .head) t ≡ record-bytes (opening (unit t .opening)) ++ spell (gather part-records b)
   pub head : Slice t (place .head) (place .source) (head-bytes (p .head))
   pub source : Slice t (place .source) (place .target) (content-bytes (p .source))

@@ -12,7 +12,6 @@ use Rattle.xliff.specs.Encode as encode
 use Rattle.xliff.specs.Encode.{opening, closing, part-head, record-bytes, part-records, content-records, target-records, spell}
 use Rattle.xliff.specs.Parse.{unit}
 use Rattle.xliff.specs.Join.{bad-orders}
-use Rattle.places.proofs.Places.{at-next}
 use Rattle.table.specs.Meaning.{meaning, body}
 use Rattle.table.specs.declared.Record.the-variants.{Unit as UnitStart, UnitEnd, Segment, Ignorable, Target as TargetHead, Text, Inline}
 use Rattle.table.specs.declared.Read.{Read}

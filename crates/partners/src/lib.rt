@@ -71,7 +71,7 @@ fn any_half(keys: &[u32], id: u32) -> bool
     let mut i = 0;
     while i < keys.len() {
         let k = keys[i];
-        if !(keys::half_of(k) == 0) & (k / 64 == id) {
+        if !(keys::half_of(k) == 0) & (keys::id_of(k) == id) {
             return true;
         }
         i += 1;
@@ -84,7 +84,7 @@ fn only_half(keys: &[u32], i: usize) -> bool
     requires { ⌜ i < length (now keys) ⌝ }
     ensures { λ r. ⌜ r ≡ onlyHalf (reverse (take i (now (keys .entry)))) (getD (now (keys .entry)) i 0) (drop (i + 1) (now (keys .entry))) ⌝ }
 {
-    let id = keys[i] / 64;
+    let id = keys::id_of(keys[i]);
     !any_half(&keys[..i], id) & !any_half(&keys[i + 1..], id)
 }
 

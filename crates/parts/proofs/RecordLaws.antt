@@ -5,7 +5,6 @@ use mathlib.Core.Bool.{Bool, true, false, true≢false}
 use mathlib.Core.List.{List, [], _∷_, _++_, append-nil}
 use native.Mathlib.Omega.{arith}
 use lib.ListN.{length}
-use Rattle.xliff.specs.Bytes.{two}
 use Rattle.xliff.specs.Item.{Item, start, end, form-P, form-S, text, character, standalone, isolated, pair, annotation-start, annotation-end, mark}
 use Rattle.xliff.specs.Unit.{segment, ignorable}
 use Rattle.xliff.specs.Encode.{Record, part-head, target-head, text-run, inline, head-bytes, record-bytes}

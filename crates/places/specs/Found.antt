@@ -51,7 +51,7 @@ orders-found at rs = found {S = Unit {0}} tt (λ q. tt) (λ h at. []) (λ q at. 
 
 unfoldable pub first-bad-in : ℕ → List ℕ → List Ordered → Option Refusal
 first-bad-in n used [] = none
-first-bad-in n used (o ∷ os) = cond (bad-order n used (o .order)) (refusal 5 (o .at)) (first-bad-in n (o .order ∷ used) os)
+first-bad-in n used (o ∷ later) = cond (bad-order n used (o .order)) (refusal 5 (o .at)) (first-bad-in n (o .order ∷ used) later)
 
 -- Rule 6: the ids, each with its owner and its offset
 abbrev pub head-name : Head → ℕ → List Named

@@ -39,7 +39,7 @@ unfoldable pub item-at : List ℕ → ℕ → Item
 item-at t o = item-in (read (drop o t))
 
 unfoldable pub placed-at : List ℕ → List ℕ → List Placed
-placed-at t os = map (λ o. record { item = item-at t o; at = o }) os
+placed-at t offsets = map (λ o. record { item = item-at t o; at = o }) offsets
 
 -- the offsets of the markers of the targets, the n orders after q
 unfoldable pub target-offsets : List ℕ → ℕ → ℕ → List ℕ

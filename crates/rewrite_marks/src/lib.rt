@@ -74,7 +74,7 @@ fn put_form(out: &mut [u8], t: &[u8], at: usize, inside: bool, id: u32, p: bool)
     if inside {
         let k = keys::key_at(t, at);
         let half = keys::half_of(k);
-        if !(half == 0) & (k / 64 == id) {
+        if !(half == 0) & (keys::id_of(k) == id) {
             let e = put_half(out, at, keys::class_of(k), half, p);
         }
     }

@@ -15,14 +15,14 @@ use Rattle.sequences.specs.Markers.{Markers}
 
 -- k offsets at the front of an array of 1,024
 abbrev pub Front : List ℕ → List ℕ → ℕ → Type 0
-Front os l k = (take k l ≡ os) × (k ≤ most-records) × (length l ≡ most-records)
+Front offsets l k = (take k l ≡ offsets) × (k ≤ most-records) × (length l ≡ most-records)
 
-pub front-long : (os l : List ℕ) (k : ℕ) → Front os l k → k ≡ length (take k l)
-front-long os l k f = sym (length-take-le k l (omega (arith, f .1, f .2)))
+pub front-long : (offsets l : List ℕ) (k : ℕ) → Front offsets l k → k ≡ length (take k l)
+front-long offsets l k f = sym (length-take-le k l (omega (arith, f .1, f .2)))
 
-keys-front : (t os l keys : List ℕ) (k r : ℕ) → Front os l k → r ≡ length (take k l) → take r keys ≡ keysAt t (take k l)
+keys-front : (t offsets l keys : List ℕ) (k r : ℕ) → Front offsets l k → r ≡ length (take k l) → take r keys ≡ keysAt t (take k l)
     → take k keys ≡ keysAt t (take k l)
-keys-front t os l keys k r f e g = ap (λ (n : ℕ). take n keys) (front-long os l k f ∙ sym e) ∙ g
+keys-front t offsets l keys k r f e g = ap (λ (n : ℕ). take n keys) (front-long offsets l k f ∙ sym e) ∙ g
 
 pub both-markers : (t : List ℕ) (parts : ℕ) → Passes t → length t ≤ most-bytes → parts ≡ length (unit t .parts)
     → (source-markers source-keys target-markers target-keys : List ℕ) (k m i j : ℕ) → Front (offsets true 0 t) source-markers k → Front (target-offsets t 0 parts) target-markers m

@@ -59,7 +59,7 @@ fn one_more(t: &[u8], at: usize, k: u32, id: u16, x: View, found: Matches) -> Ma
     requires { ⌜ k ≡ key (item-at (now t) at) ⌝ }
     ensures { λ r. ⌜ r ≡ joined found (matchesBy id x (item-at (now (t .entry)) at)) ⌝ }
 {
-    if !(k / 64 == (id as u32)) {
+    if !(keys::id_of(k) == (id as u32)) {
         return found;
     }
     let m = matches_of(x, keys::view_at(t, at, k));

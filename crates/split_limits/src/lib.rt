@@ -5,7 +5,6 @@ use limits::MOST_RECORDS;
 use part_at::PartPlace;
 ghost use mathlib.Core.Path.{_≡_};
 ghost use Prim.Native.Nat.{_+_, _-_, _*_, _<_};
-ghost use lib.ListN.{length};
 ghost use Rattle.xliff.specs.Parse.{unit};
 ghost use Rattle.xliff.specs.Check.{too-large};
 ghost use Rattle.xliff.specs.Split.{split-unit};

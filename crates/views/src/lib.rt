@@ -7,7 +7,6 @@ use table::Read;
 use table::Record;
 ghost use mathlib.Core.Path.{_≡_};
 ghost use mathlib.Core.Bool.{true, false};
-ghost use mathlib.Core.List.{[]};
 ghost use Rattle.places.specs.Markers.{item-at};
 ghost use Rattle.views.specs.Views.{nothing, codeView, annotationView, halfNumber, isolatedClass, formFlag, itemView, recordView, readView, viewOf, isCode};
 

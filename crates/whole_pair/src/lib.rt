@@ -28,7 +28,7 @@ fn find_start(keys: &[u32], id: u32) -> usize
     let mut i: usize = 0;
     while i < keys.len() {
         let k = keys[i];
-        if (k % 8 / 2 == 1) & (k / 64 == id) {
+        if (keys::half_of(k) == 1) & (keys::id_of(k) == id) {
             return i;
         }
         i += 1;

@@ -1,5 +1,4 @@
 use Rattle.cut.proofs.CutLaws.{text-over}
-use Prim.Native.Nat.{_-_}
 use native.Mathlib.Omega.{arith}
 use borrow.Author.Needs.{needs}
 use Rattle.cut.proofs.put_text.Statement.{statement}

@@ -2,7 +2,6 @@ use Rattle.heads.proofs.HeadLaws.{head-long, segment-read}
 use native.Mathlib.Omega.{arith}
 use lib.ListN.{length}
 use mathlib.Core.Path.{ap, _∙_}
-use borrow.Author.Needs.{needs}
 use Rattle.heads.proofs.is_segment.Statement.{statement}
 use Rattle.heads.proofs.is_segment.Tie as tie
 

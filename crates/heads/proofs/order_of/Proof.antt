@@ -1,6 +1,5 @@
 use Rattle.heads.proofs.HeadLaws.{target-least, order-read}
 use mathlib.Core.Path.{_∙_}
-use borrow.Author.Needs.{needs}
 use Rattle.heads.proofs.order_of.Statement.{statement}
 use Rattle.heads.proofs.order_of.Tie as tie
 

@@ -1,4 +1,3 @@
-use Prim.Native.Nat.{_-_}
 use native.Mathlib.Omega.{arith}
 use Rattle.id_links.proofs.After.{LinkedDownTo, down-to-next, down-to-start, down-to-end}
 use borrow.Author.Needs.{needs}

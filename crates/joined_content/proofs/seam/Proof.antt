@@ -2,7 +2,6 @@ use Rattle.joined_content.proofs.JoinLaws.{seam-none, seam-last, seam-a
 use mathlib.Core.Bool.{Bool, _&&_}
 use Rattle.xliff.proofs.lists.Slices.{tail-is}
 use mathlib.Core.Path.{sym, _∙_, ap₂}
-use Prim.Native.Nat.{_-_}
 use native.Mathlib.Omega.{arith}
 use borrow.Author.Needs.{needs}
 use Rattle.joined_content.proofs.seam.Statement.{statement}

@@ -1,7 +1,6 @@
 use Rattle.joined_part.proofs.HeadLaws.{both-segments, first-segment, second-segment, no-segment, segment-room, segment-wrote}
 use Rattle.heads.proofs.HeadLaws.{some-segment}
 use Rattle.writer.specs.Pieces.{Written}
-use Rattle.xliff.specs.Encode.{head-bytes}
 use native.Mathlib.Omega.{arith}
 use lib.ListN.{length}
 use mathlib.Core.List.{List}

@@ -1,6 +1,6 @@
 use Rattle.lines.proofs.LineLaws.{refused-returns}
 use lib.ListN.{length, length-append}
-use Prim.Native.Nat.{_-_, _+_}
+use Prim.Native.Nat.{_+_}
 use mathlib.Core.List.{[], _∷_, _++_}
 use mathlib.Core.Path.{_≡_}
 use native.Mathlib.Omega.{arith}

@@ -2,14 +2,22 @@ use borrow.Author.Needs.{needs}
 use Rattle.nesting.proofs.is_apart.Statement.{statement}
 use Rattle.nesting.proofs.is_apart.Tie as tie
 
--- (k % 64 / 8 == 0) | ((k % 2 == 1) & (!(x % 8 / 2 == k % 8 / 2) & !keys::is_other(x, k)))
+-- a bar, or a half in form P that is turned away
 returns : tie.Need-returns
-returns c = simp (c .is-other .ensures)
+returns c =
+    let after-turned = c .before .before in
+    simp (
+      after-turned .before .before .half-of .ensures,
+      after-turned .before .half-of2 .ensures,
+      after-turned .is-other .ensures,
+      c .before .class-of .ensures,
+      c .is-form-p .ensures,
+    )
 
 pub is-apart-spec : {M : Type 1} → statement M
 is-apart-spec =
     tie.close
     (tie.spec
-    -- by search: is-other-requires
-    (λ c κs. search needs)
+    -- by search: no need of the functions called
+    (λ c κs. search needs) (λ c κs. search needs) (λ c κs. search needs) (λ c κs. search needs) (λ c κs. search needs)
     returns)

@@ -21,18 +21,19 @@ returns c =
       start .pre .2,
     )
 
--- !is_met(keys, !(k % 8 / 2 == 1), i, stack)
+-- the half before or after which its partner is looked for
 returns-2 : tie.Need-returns-2
 returns-2 c =
-    let after-is-half-p = c .before .before .before .before .before in
+    let after-half-of = c .before .before .before .before in
+    let after-is-half-p = after-half-of .before .before in
     let args = after-is-half-p .before .before .before .before .args in
     let keys = args .keys .now in
     let i = args .i in
     let is-half-p = after-is-half-p .is-half-p in
-    let if1 = c .before .before .before .before .if1 in
+    let if1 = after-half-of .before .if1 in
     let is-met = c .before .before .is-met in (
-      lone-scan keys i (getD keys i 0) (is-met .result) (sym (is-half-p .ensures) ∙ not-false _ (if1 .left))
-          (is-met .ensures .0),
+      lone-scan keys i (getD keys i 0) _ (is-met .result) (sym (is-half-p .ensures) ∙ not-false _ (if1 .left))
+          (after-half-of .half-of .ensures) (is-met .ensures .0),
       is-met .ensures .1,
     )
 
@@ -40,9 +41,9 @@ pub is-lone-spec : {M : Type 1} → statement M
 is-lone-spec =
     tie.close
     (tie.spec
-    -- by search: mul-k, shared-slice-read-k, is-half-p-requires
+    -- by search: the key is there; no need of `is_half_p`
     (λ c. search needs) (λ c. search needs) (λ c κs. search needs)
     returns
-    -- by search: is-met-requires, same-length
-    (λ c κs. search needs) (λ c. search needs)
+    -- by search: no need of `half_of`; what `is_met` asks; the length after it
+    (λ c κs. search needs) (λ c κs. search needs) (λ c. search needs)
     returns-2)

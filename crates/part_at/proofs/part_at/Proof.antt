@@ -4,7 +4,7 @@ use Rattle.xliff.specs.Parse.{unit}
 use borrow.Author.Tests.{not-true, not-false}
 use native.Mathlib.Omega.{arith}
 use mathlib.Core.Path.{sym, _∙_, ap}
-use Prim.Native.Nat.{ℕ, _-_}
+use Prim.Native.Nat.{ℕ}
 use borrow.Author.Needs.{needs}
 use Rattle.part_at.proofs.part_at.Statement.{statement}
 use Rattle.part_at.proofs.part_at.Tie as tie

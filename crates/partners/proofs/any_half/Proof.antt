@@ -18,24 +18,24 @@ abbrev μ-loop : tie.MeasureT-loop
 returns : tie.Need-returns Inv-loop μ-loop
 unfolding halfOfId
 returns c =
-    let args = c .before .before .before .before .before .before .args in
-    let loop = c .before .before .before .before .loop in
-    let loop-test = c .before .before .before .loop-test in
+    let loop-test = c .before .before .before .before .loop-test in
+    let loop = c .before .before .before .before .before .loop in
+    let args = c .before .before .before .before .before .before .before .args in
     sym (loop .inv .1
     ∙ any-on (halfOfId (args .id)) (args .keys .now) (loop .i) (loop-test .taken)
-    (rw (c .before .half-of .ensures) at (c .if1 .taken)))
+    (rw (c .before .before .half-of .ensures, c .before .id-of .ensures) at (c .if1 .taken)))
 
 -- the loop's step
 loop-again : tie.Need-loop-again Inv-loop μ-loop
 unfolding halfOfId
 loop-again c =
-    let args = c .before .before .before .before .before .before .args in
-    let loop = c .before .before .before .before .loop in
-    let loop-test = c .before .before .before .loop-test in (
+    let loop-test = c .before .before .before .before .loop-test in
+    let loop = c .before .before .before .before .before .loop in
+    let args = c .before .before .before .before .before .before .before .args in (
       search needs,
       loop .inv .1
           ∙ any-off (halfOfId (args .id)) (args .keys .now) (loop .i) (loop-test .taken)
-          (rw (c .before .half-of .ensures) at (c .if1 .left)),
+          (rw (c .before .before .half-of .ensures, c .before .id-of .ensures) at (c .if1 .left)),
     )
 
 -- false
@@ -53,8 +53,8 @@ any-half-spec =
     (tie.spec
     Inv-loop
     μ-loop
-    -- by one step: loop-holds, mul-k, shared-slice-read-k, half-of-requires
-    (λ c. (search needs, refl)) (λ c. search needs) (λ c. search needs) (λ c κs. search needs)
+    -- by one step: the loop's start; by search: the key is there; no need of `half_of` and `id_of`
+    (λ c. (search needs, refl)) (λ c. search needs) (λ c. search needs) (λ c κs. search needs) (λ c κs. search needs)
     returns
     -- by search: add-i, loop-less
     (λ c. search needs) (λ c. search needs)

@@ -48,13 +48,13 @@ pub lone-in-contents-spec : {M : Type 1} → statement M
 lone-in-contents-spec =
     tie.close
     (tie.spec
-    -- by search: slice-aggregate-contents, contents-requires, array-share-prefix-os
+    -- by search: room for the offsets; what `contents` asks; their front
     (λ c. search needs) (λ c κs. search needs) (λ c. search needs)
     slice-aggregate-bar-keys
     -- by search: slice-aggregate-bar-keys-2
     (λ c. search needs)
     bar-keys-requires
-    -- by search: array-share-prefix-os-2
+    -- by search: the front of the offsets
     (λ c. search needs)
     slice-aggregate-first-lone
     -- by search: array-share-prefix-bars

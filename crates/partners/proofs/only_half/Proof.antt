@@ -11,21 +11,29 @@ use Rattle.partners.proofs.only_half.Tie as tie
 slice-aggregate-any-half : tie.Need-slice-aggregate-any-half
 unfolding onlyHalf
 slice-aggregate-any-half c =
-    let args = c .before .before .before .args in
+    let args = c .before .before .before .before .args in
     omega (arith, length-take (args .i) (args .keys .now))
 
--- !any_half(&keys[..i], id) & !any_half(&keys[i + 1..], id)
+-- none before it, and none behind it
 returns : tie.Need-returns
 unfolding onlyHalf
-returns c = simp (c .before .before .any-half .ensures, c .any-half2 .ensures, tail-is, any-reverse)
+returns c =
+    let before = c .before .before in
+    simp (
+      before .any-half .ensures,
+      c .any-half2 .ensures,
+      before .before .before .id-of .ensures,
+      tail-is,
+      any-reverse,
+    )
 
 pub only-half-spec : {M : Type 1} → statement M
 unfolding onlyHalf
 only-half-spec =
     tie.close
     (tie.spec
-    -- by search: mul-id, shared-slice-read-id
-    (λ c. search needs) (λ c. search needs)
+    -- by search: the key is there; no need of `id_of`
+    (λ c. search needs) (λ c. search needs) (λ c κs. search needs)
     slice-aggregate-any-half
     -- by search: any-half-requires, add-any-half, mul-any-half, sub-any-half,
     -- part-any-half-start, part-any-half-end, any-half-requires-2

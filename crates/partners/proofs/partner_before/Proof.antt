@@ -5,7 +5,7 @@ use lib.Seq.{take-all}
 use lib.ListN.{take, length}
 use mathlib.Core.List.{List, reverse}
 use mathlib.Core.Path.{_≡_, _∙_, sym, ap}
-use Prim.Native.Nat.{ℕ, _≤_, _-_}
+use Prim.Native.Nat.{ℕ, _≤_}
 use borrow.Author.Needs.{needs}
 use Rattle.partners.proofs.partner_before.Statement.{statement}
 use Rattle.partners.proofs.partner_before.Tie as tie

@@ -2,9 +2,6 @@ use Rattle.parts.proofs.RecordLaws.{one-least, target-marked, mark-test
 use Rattle.parts.specs.Parts.{moved}
 use native.Mathlib.Omega.{arith}
 use mathlib.Core.Bool.{true, false}
-use mathlib.Core.List.{List, [], _∷_}
-use mathlib.Core.Path.{sym, ap, _∙_}
-use Prim.Native.Nat.{ℕ}
 use borrow.Author.Needs.{needs}
 use Rattle.parts.proofs.put_record.Statement.{statement}
 use Rattle.parts.proofs.put_record.Tie as tie

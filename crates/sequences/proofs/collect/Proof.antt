@@ -5,7 +5,7 @@ use Rattle.sequences.proofs.FillLaws.{Filled, fill-room, fill-on, fill-
 use Rattle.xliff.specs.Bytes.{gather}
 use lib.ListN.{length, take, drop}
 use native.Mathlib.Omega.{arith}
-use mathlib.Core.Path.{_≡_, refl, sym, ap}
+use mathlib.Core.Path.{refl, sym, ap}
 use mathlib.Core.List.{List, _++_}
 use mathlib.Core.Bool.{false}
 use Prim.Native.Nat.{ℕ, _-_, _+_}

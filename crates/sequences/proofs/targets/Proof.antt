@@ -3,13 +3,12 @@ use Rattle.sequences.proofs.MarkLaws.{order-on, order-end, order-start}
 use Rattle.sequences.specs.Marks.{offsets}
 use Rattle.places.specs.Markers.{target-offsets}
 use Rattle.places.proofs.Few.{few-targets}
-use lib.ListN.{length, take}
+use lib.ListN.{length}
 use lib.Seq.{length-take-le}
 use native.Mathlib.Omega.{arith}
-use mathlib.Core.Path.{_≡_, refl, sym, _∙_, ap}
-use mathlib.Core.List.{List}
+use mathlib.Core.Path.{refl, sym, _∙_, ap}
 use mathlib.Core.Bool.{false}
-use Prim.Native.Nat.{ℕ, _≤_, _-_, _+_}
+use Prim.Native.Nat.{_≤_, _-_, _+_}
 use borrow.Author.Needs.{needs}
 use Rattle.sequences.proofs.targets.Statement.{statement}
 use Rattle.sequences.proofs.targets.Tie as tie

@@ -12,15 +12,17 @@ use Rattle.source_match.proofs.one_more.Tie as tie
 -- return found
 returns : tie.Need-returns
 returns c =
-    let args = c .before .before .args in
+    let start = c .before .before .before in
+    let args = start .args in
     matches-other-id (args .id) (args .x) (item-at (args .t .now) (args .at)) (args .k) (args .found)
-    (c .before .before .pre) (not-true _ (c .if1 .taken))
+    (start .pre) (not-true _ (rw (c .before .id-of .ensures) at (c .if1 .taken)))
 
 -- the end
 returns-2 : tie.Need-returns-2
 returns-2 c =
     let after-matches-of = c .before .before .before .before .before .before .before .before in
-    let start = after-matches-of .before .before .before .before in
+    let start = after-matches-of .before .before .before .before .before in
+    let id-of = after-matches-of .before .before .before .id-of in
     let args = start .args in
     let x = args .x in
     let if1 = after-matches-of .before .before .if1 in
@@ -30,12 +32,14 @@ returns-2 c =
     (matches-of .ensures
     ∙ ap (λ (v : View). matchesOf x v) (view-at .ensures)
     ∙ matches-same-id (args .id) x (item-at (args .t .now) (args .at)) (args .k) (start .pre)
-    (not-false _ (if1 .left)))
+    (not-false _ (rw (id-of .ensures) at (if1 .left))))
 
 pub one-more-spec : {M : Type 1} → statement M
 one-more-spec =
     tie.close
     (tie.spec
+    -- by search: no need of `id_of`
+    (λ c κs. search needs)
     returns
     -- by search: view-at-requires, matches-of-requires
     (λ c κs. search needs) (λ c κs. search needs)

@@ -1,5 +1,4 @@
 use native.Mathlib.Omega.{arith}
-use Prim.Native.Nat.{_-_}
 use Rattle.split_limits.proofs.AddedLaws.{part-added}
 use borrow.Author.Needs.{needs}
 use Rattle.split_limits.proofs.added.Statement.{statement}

@@ -1,5 +1,4 @@
 use native.Mathlib.Omega.{arith}
-use Prim.Native.Nat.{_-_}
 use mathlib.Core.Path.{subst}
 use Rattle.split_limits.proofs.AddedLaws.{content-added, none-zero, some-one}
 use Rattle.split_limits.specs.Added.{ContentAdded}

@@ -1,5 +1,4 @@
 use native.Mathlib.Omega.{arith}
-use Prim.Native.Nat.{_-_}
 use Rattle.orders.proofs.WalkLaws.{few-parts}
 use Rattle.xliff.proofs.unit.Result.{small-table}
 use Rattle.part_at.proofs.CheckedLaws.{table-passes, placed-checked}

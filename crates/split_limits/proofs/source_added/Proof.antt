@@ -1,4 +1,3 @@
-use Prim.Native.Nat.{_-_}
 use Rattle.part_at.proofs.HoldLaws.{holds-source}
 use Rattle.table.proofs.WidthLaws.{bytes-known}
 use borrow.Author.Needs.{needs}

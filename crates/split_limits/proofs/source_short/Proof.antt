@@ -1,4 +1,3 @@
-use Prim.Native.Nat.{_-_}
 use lib.ListN.{length}
 use mathlib.Core.Bool.{not}
 use mathlib.Core.Path.{ap, _∙_}

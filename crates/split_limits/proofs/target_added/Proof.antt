@@ -1,5 +1,4 @@
 use native.Mathlib.Omega.{arith}
-use Prim.Native.Nat.{_-_}
 use Rattle.xliff.specs.Unit.{target-items}
 use Rattle.split_limits.proofs.AddedLaws.{grown-there, nothing-grown}
 use Rattle.part_at.proofs.HoldLaws.{target-there}

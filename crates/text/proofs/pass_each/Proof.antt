@@ -1,11 +1,10 @@
 use lib.ListN.{length, drop, length-drop}
 use native.Mathlib.Omega.{arith}
-use mathlib.Core.Path.{_≡_, sym, _∙_, ap, refl}
-use Prim.Native.Nat.{ℕ, _+_, _-_, _≤_}
+use mathlib.Core.Path.{_≡_, sym, _∙_, refl}
+use Prim.Native.Nat.{_+_, _-_, _≤_}
 use borrow.Author.Tests.{not-true, not-false}
 use Rattle.xliff.proofs.lists.Slices.{tail-is}
-use Rattle.text.specs.declared.Char.the-variants.{Point}
-use Rattle.text.specs.Utf8.{textOk, charOf}
+use Rattle.text.specs.Utf8.{textOk}
 use Rattle.text.proofs.Utf8Laws.{width-at, text-on, text-off, text-bad}
 use Rattle.text.proofs.BlockLaws.{plain-on}
 use borrow.Author.Needs.{needs}

@@ -18,40 +18,43 @@ abbrev μ-loop : tie.MeasureT-loop
 
 -- the loop's start
 loop-holds : tie.Need-loop-holds Inv-loop μ-loop
-loop-holds c = (
-  omega arith,
-  ap (next (startsAt (c .args .keys .now) (c .args .id)) 0)
-      (let z : length (c .args .keys .now) ≡ length (c .args .keys .now) - 0 = omega arith in z),
-)
+loop-holds c =
+    let args = c .before .args in
+    let keys = args .keys .now in (
+      omega arith,
+      ap (next (startsAt keys (args .id)) 0) (let z : length keys ≡ length keys - 0 = omega arith in z),
+    )
 
 -- return i
 returns : tie.Need-returns Inv-loop μ-loop
 returns c =
-    let args = c .before .before .before .before .args in
+    let after-test = c .before .before .before .before in
+    let args = after-test .before .before .before .args in
     let keys = args .keys .now in
-    let loop = c .before .before .before .loop in (
+    let loop = after-test .before .loop in (
       sym (loop .inv .1
-          ∙ next-hit (startsAt keys (args .id)) (length keys) (loop .i) (c .before .before .loop-test .taken)
-          (c .if1 .taken)),
+          ∙ next-hit (startsAt keys (args .id)) (length keys) (loop .i) (after-test .loop-test .taken)
+          (rw (c .before .before .half-of .ensures, c .before .id-of .ensures) at (c .if1 .taken))),
       loop .inv .0,
     )
 
 -- the loop's step
 loop-again : tie.Need-loop-again Inv-loop μ-loop
 loop-again c =
-    let args = c .before .before .before .before .args in
+    let after-test = c .before .before .before .before in
+    let args = after-test .before .before .before .args in
     let keys = args .keys .now in
-    let loop = c .before .before .before .loop in (
+    let loop = after-test .before .loop in (
       omega arith,
       loop .inv .1
-          ∙ next-miss (startsAt keys (args .id)) (length keys) (loop .i) (c .before .before .loop-test .taken)
-          (c .if1 .left),
+          ∙ next-miss (startsAt keys (args .id)) (length keys) (loop .i) (after-test .loop-test .taken)
+          (rw (c .before .before .half-of .ensures, c .before .id-of .ensures) at (c .if1 .left)),
     )
 
 -- i
 returns-2 : tie.Need-returns-2 Inv-loop μ-loop
 returns-2 c =
-    let args = c .before .before .args in
+    let args = c .before .before .before .args in
     let keys = args .keys .now in
     let loop = c .before .loop in (
       sym (loop .inv .1 ∙ next-end (startsAt keys (args .id)) (length keys) (loop .i) (c .loop-test .left)),
@@ -65,8 +68,8 @@ find-start-spec =
     Inv-loop
     μ-loop
     loop-holds
-    -- by search: mul-k, shared-slice-read-k
-    (λ c. search needs) (λ c. search needs)
+    -- by search: the key is there; no need of `half_of` and `id_of`
+    (λ c. search needs) (λ c. search needs) (λ c κs. search needs) (λ c κs. search needs)
     returns
     -- by search: add-i, loop-less
     (λ c. search needs) (λ c. search needs)

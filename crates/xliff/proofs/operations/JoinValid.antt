@@ -6,7 +6,7 @@ use mathlib.Core.List.{List, [], _∷_, _++_, map}
 use mathlib.Core.Option.{Option, none, some}
 use lib.Dec.{eqb, leb}
 use Rattle.xliff.specs.Bytes.{'-', 'N', 'Y', Bytes, among}
-use Rattle.xliff.specs.Answer.{Refusal, applies, _then_, is-fault, result}
+use Rattle.xliff.specs.Answer.{Refusal, applies, is-fault, result}
 use Rattle.xliff.specs.Unit.{Head, segment, ignorable, Target, no-target, target, Part, XliffUnit, is-closed, source-sequence}
 use Rattle.xliff.specs.Parse.{unit}
 use Rattle.xliff.specs.Rules.{fault-5, fault-6, fault-7, fault-8, fault-9, fault-6-to-10}

@@ -6,7 +6,7 @@ use mathlib.Core.List.{List, [], _∷_, map}
 use mathlib.Core.Option.{Option, none, some}
 use lib.Dec.{eqb}
 use Rattle.xliff.specs.Bytes.{'P', 'S', 'T', Bytes, any, among}
-use Rattle.xliff.specs.Answer.{applies, _then_, result}
+use Rattle.xliff.specs.Answer.{applies, result}
 use Rattle.xliff.specs.Item.{Item, Content, Half, Form, form-P, form-S, in-form}
 use Rattle.xliff.specs.Unit.{Target, no-target, target, Part, XliffUnit, target-items, source-sequence, target-sequence}
 use Rattle.xliff.specs.Parse.{unit}

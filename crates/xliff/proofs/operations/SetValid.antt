@@ -1,5 +1,5 @@
 -- Laws of set target and remove target: an accepted setting leaves a valid table.
-use Prim.Native.Nat.{ℕ, suc, _+_, _-_, _<_, _≤_}
+use Prim.Native.Nat.{ℕ, suc, _+_, _<_, _≤_}
 use mathlib.Core.Path.{_≡_, refl, sym, ap, ap₂, _∙_, subst}
 use mathlib.Core.Bool.{Bool, true, false, not, _&&_, _||_, cond, true≢false, false≢true}
 use mathlib.Core.List.{List, [], _∷_, _++_}
@@ -9,7 +9,7 @@ use lib.ListN.{length, length-append}
 use lib.Dec.{eqb, ltb}
 use borrow.Author.Tests.{eq-eqb, ne-eqb, le-ltb}
 use Rattle.xliff.specs.Bytes.{Bytes, among, gather}
-use Rattle.xliff.specs.Answer.{refusal, applies, _then_, result}
+use Rattle.xliff.specs.Answer.{refusal, applies, result}
 use Rattle.xliff.specs.Item.{Content}
 use Rattle.xliff.specs.Unit.{Head, segment, ignorable, Target, no-target, target, Part, XliffUnit, order-list, orders, with-state}
 use Rattle.xliff.specs.Parse.{unit, content, content-fault}

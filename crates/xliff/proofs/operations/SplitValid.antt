@@ -9,7 +9,7 @@ use lib.Dec.{eqb}
 use lib.ListN.{take, drop, take-append-drop}
 use borrow.Author.Tests.{eqb-true}
 use Rattle.xliff.specs.Bytes.{Bytes, any}
-use Rattle.xliff.specs.Answer.{applies, _then_, result}
+use Rattle.xliff.specs.Answer.{applies, result}
 use Rattle.xliff.specs.Item.{Item, Content, form-S, in-form, flattened, id-of, is-start, other-half}
 use Rattle.xliff.specs.Unit.{Head, segment, ignorable, Target, no-target, target, Part, XliffUnit, head-id, target-items, is-closed, source-sequence, target-sequence, with-id}
 use Rattle.xliff.specs.Parse.{unit}

@@ -1,5 +1,5 @@
 -- Laws of tables: a unit is read back from its bytes.
-use Prim.Native.Nat.{ℕ, zero, suc, _+_, _-_, _<_, _≤_}
+use Prim.Native.Nat.{ℕ, zero, suc, _+_, _<_, _≤_}
 use mathlib.Core.Path.{_≡_, refl, ap, _∙_}
 use mathlib.Core.Bool.{false}
 use mathlib.Core.List.{List, [], _∷_, _++_, map, append-assoc, append-nil}
@@ -11,7 +11,7 @@ use Rattle.xliff.specs.Item.{Item, Content, start, end, form-P, form-S, 
 use Rattle.xliff.specs.Unit.{segment, ignorable, Target, no-target, target, Part, XliffUnit}
 use Rattle.xliff.specs.Encode.{Record, opening, closing, part-head, target-head, text-run, inline, ill-text, broken, head-bytes, record-bytes, text-before, item-before, content-records, target-records, part-records, unit-records, spell, encode}
 use Rattle.xliff.specs.Parse.{is-broken, read, Entry, walk, most-records, entries, records, Reading, take-record, reading, opening-of, unit}
-use Rattle.xliff.specs.Good.{Each, each-cons, GoodRecord, AllGood}
+use Rattle.xliff.specs.Good.{each-cons, GoodRecord, AllGood}
 use Rattle.xliff.proofs.records.Read.{read-bytes}
 
 -- records one after the other, with their offsets

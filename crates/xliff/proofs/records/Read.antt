@@ -9,14 +9,14 @@ use lib.ListN.{length, getD, take, drop, take-append-drop}
 use lib.Seq.{take-append-seam, drop-drop}
 use lib.Dec.{eqb}
 use borrow.Author.Tests.{eqb-true}
-use Rattle.xliff.specs.Bytes.{'-', 'C', 'E', 'F', 'G', 'H', 'I', 'M', 'N', 'O', 'P', 'R', 'S', 'T', 'U', 'X', 'Y', two, four, two-at, four-at, enough, among, Bytes}
+use Rattle.xliff.specs.Bytes.{'-', 'C', 'E', 'G', 'H', 'I', 'M', 'N', 'O', 'P', 'S', 'T', 'U', 'X', 'Y', two, four, two-at, four-at, enough, among, Bytes}
 use Rattle.xliff.specs.Text.{utf8s, text-of}
 use Rattle.xliff.specs.Item.{Item, Fields, start, end, Form, form-P, form-S, text, character, standalone, isolated, pair, annotation-start, annotation-end, mark}
-use Rattle.xliff.specs.Unit.{Head, segment, ignorable}
+use Rattle.xliff.specs.Unit.{segment, ignorable}
 use Rattle.xliff.specs.Encode.{Record, opening, closing, part-head, target-head, text-run, inline, ill-text, broken, code-bytes, field-bytes, head-bytes, record-bytes}
 use Rattle.xliff.specs.Parse.{Mark, UN, UE, SG, IG, TG, TX, CP, PH, PO, PC, SC, EC, IS, IE, MO, SM, MC, EM, unknown, is-broken, is, mark-of, mark-at, whole, whole-part, opening-at, good-opening, segment-at, good-segment, code-at, good-id, good-code, code, mark-start, mark-end, text-record, read-as, read}
 use Rattle.xliff.proofs.lists.Tests.{and-left, and-right, two-value, two-bytes, four-value, four-bytes, enough-append, peel, byte-at}
-use Rattle.xliff.specs.Good.{Allowed, gets, GoodItem, GoodRecord}
+use Rattle.xliff.specs.Good.{gets, GoodItem, GoodRecord}
 use Rattle.xliff.proofs.text.Utf8.{text-of-utf8s, text-of-some}
 
 -- the fields of a code, read back

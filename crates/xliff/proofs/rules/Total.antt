@@ -1,6 +1,6 @@
 -- Sums over the two sequences are sums over the parts: each source content stands once in the source sequence, each
 -- target once at most in the target sequence, and once where rule 5 is met.
-use Prim.Native.Nat.{ℕ, zero, suc, _+_, _-_, _≤_, _<_}
+use Prim.Native.Nat.{ℕ, zero, suc, _+_, _≤_, _<_}
 use native.Mathlib.Omega.{arith}
 use mathlib.Core.Path.{_≡_, refl, sym, ap₂, _∙_}
 use mathlib.Core.Bool.{Bool, true, false, not, _||_, cond}

@@ -5,7 +5,7 @@ use mathlib.Core.Path.{_≡_, sym, ap, _∙_}
 use mathlib.Core.List.{List, [], _∷_, _++_, append-assoc, append-nil}
 use Rattle.xliff.specs.Bytes.{gather}
 use Rattle.xliff.specs.Unit.{Part, XliffUnit}
-use Rattle.xliff.specs.Encode.{Record, opening, closing, record-bytes, head-bytes, content-records, target-records, part-records, unit-records, spell, content-bytes, encode}
+use Rattle.xliff.specs.Encode.{Record, closing, record-bytes, head-bytes, content-records, target-records, part-records, unit-records, spell, content-bytes, encode}
 use Rattle.xliff.proofs.lists.Tests.{gather-append}
 
 -- records one after the other

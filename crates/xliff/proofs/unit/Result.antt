@@ -1,7 +1,7 @@
 -- Laws of results: a unit of good parts, within the limits, that meets 5 to 10 is valid as bytes. And what acceptance
 -- says.
 use Rattle.xliff.specs.Good.{each-cons, GoodRecord, AllGood, GoodParts}
-use Prim.Native.Nat.{ℕ, _-_, _≤_}
+use Prim.Native.Nat.{ℕ, _≤_}
 use mathlib.Core.Path.{_≡_, refl, sym, ap, _∙_, subst}
 use mathlib.Core.Bool.{Bool, true, false, true≢false, false≢true}
 use mathlib.Core.List.{List, [], _∷_}
