@@ -1,12 +1,12 @@
 -- A glance agrees with what the reader finds.
 use Prim.Native.Nat.{ℕ, _-_, _≤_}
-use mathlib.Core.Path.{_≡_, refl, sym, subst}
+use mathlib.Core.Path.{_≡_, refl, sym, _∙_, subst}
 use mathlib.Core.Bool.{Bool, true, false, cond}
-use mathlib.Core.List.{List}
+use mathlib.Core.List.{List, [], _∷_}
 use lib.ListN.{length, take, drop}
 use lib.Dec.{leb}
 use Rattle.xliff.specs.Bytes.{two-at}
-use Rattle.xliff.specs.Parse.{Mark, UN, UE, SG, IG, TG, TX, CP, PH, PO, PC, SC, EC, IS, IE, MO, SM, MC, EM, unknown, mark-at, size-of}
+use Rattle.xliff.specs.Parse.{Mark, UN, UE, SG, IG, TG, TX, CP, PH, PO, PC, SC, EC, IS, IE, MO, SM, MC, EM, unknown, mark-of, mark-at, size-of}
 use Rattle.text.specs.Utf8.{textOk}
 use Rattle.table.specs.Records.{sized, unitOf, segmentOf, ignorableOf, targetOf, standaloneOf, isolatedOf, pairOf, annotationStartOf, annotationEndOf, textOf, characterOf, recordBy, recordOf}
 use Rattle.table.specs.declared.Half.{Half}
@@ -14,7 +14,8 @@ use Rattle.table.specs.declared.Form.{Form}
 use Rattle.table.specs.declared.Record.{Record}
 use Rattle.table.specs.declared.Record.the-variants.{Target, Text}
 use Rattle.table.specs.declared.Read.the-variants.{Good, Ill, Broken}
-use Rattle.marks.proofs.MarkLaws.{no-mark}
+use Rattle.marks.specs.Marks.{marked}
+use Rattle.marks.proofs.MarkLaws.{found, no-mark}
 use Rattle.table.proofs.ReadLaws.{record-is, no-record}
 use Rattle.glance.specs.declared.Glance.{Glance}
 use Rattle.glance.specs.Glances.{glanceIn, Agrees, on-good, on-ill, on-broken, Glanced, itemGlance, textGlance, targetGlance, glanceBy}
@@ -97,6 +98,11 @@ glanced t g e =
       wide = r .1;
       agrees = subst (λ (z : Glance). Agrees z (recordOf t false)) (sym e) (mark-agrees t (mark-at t));
     }
+
+-- by the mark that a test found
+pub glance-found : (x y : ℕ) (t : List ℕ) (g : Glance)
+    → 2 ≤ length t → marked t (x ∷ y ∷ []) ≡ true → g ≡ glanceBy (mark-of x y) t → Glanced t g
+glance-found x y t g h e is = glanced t g (is ∙ found (λ (m : Mark). glanceBy m t) x y t h e)
 
 -- less than two bytes are no record
 pub too-short : (t : List ℕ) (g : Glance) → length t ≤ 1 → Glanced t g

@@ -6,9 +6,9 @@ use borrow.Author.Needs.{needs}
 use Rattle.xliff.specs.Bytes.{'G', 'I', 'S', 'T', 'X'}
 use Rattle.xliff.specs.Parse.{is, mark-of, Mark, TX, TG, SG, IG}
 use Rattle.xliff.proofs.lists.Tests.{or-both}
-use Rattle.marks.proofs.MarkLaws.{found, hit, other}
+use Rattle.marks.proofs.MarkLaws.{hit, other}
 use Rattle.glance.specs.Glances.{restGlance, glanceBy}
-use Rattle.glance.proofs.GlanceLaws.{glanced, too-short}
+use Rattle.glance.proofs.GlanceLaws.{glanced, glance-found, too-short}
 use Rattle.glance.proofs.glance_of.Statement.{statement}
 use Rattle.glance.proofs.glance_of.Tie as tie
 
@@ -20,33 +20,29 @@ returns c = too-short _ _ (omega (arith, c .before .if1 .taken))
 returns-2 : tie.Need-returns-2
 unfolding mark-of is
 returns-2 c =
-    let t = c .before .before .before .before .before .before .args .t .now in
     let test = sym (c .before .before .marked-by .ensures) ∙ c .before .if2 .taken in
-    glanced t _ (c .text-glance .ensures ∙ found (λ (m : Mark). glanceBy m t) 'T' 'X' t (omega arith) test)
+    glance-found 'T' 'X' _ _ (omega arith) test (c .text-glance .ensures)
 
 -- TG
 returns-3 : tie.Need-returns-3
 unfolding mark-of is
 returns-3 c =
-    let t = c .before .before .before .before .before .before .before .before .before .args .t .now in
     let test = sym (c .before .before .marked-by2 .ensures) ∙ c .before .if3 .taken in
-    glanced t _ (c .target-glance .ensures ∙ found (λ (m : Mark). glanceBy m t) 'T' 'G' t (omega arith) test)
+    glance-found 'T' 'G' _ _ (omega arith) test (c .target-glance .ensures)
 
 -- SG
 returns-4 : tie.Need-returns-4
 unfolding mark-of is
 returns-4 c =
-    let t = c .before .before .before .before .before .before .before .before .before .before .before .before .args .t .now in
     let test = sym (c .before .before .marked-by3 .ensures) ∙ c .before .if4 .taken in
-    glanced t _ (c .part-glance .ensures ∙ found (λ (m : Mark). glanceBy m t) 'S' 'G' t (omega arith) test)
+    glance-found 'S' 'G' _ _ (omega arith) test (c .part-glance .ensures)
 
 -- IG
 returns-5 : tie.Need-returns-5
 unfolding mark-of is
 returns-5 c =
-    let t = c .before .before .before .before .before .before .before .before .before .before .before .before .before .before .before .args .t .now in
     let test = sym (c .before .before .marked-by4 .ensures) ∙ c .before .if5 .taken in
-    glanced t _ (c .part-glance2 .ensures ∙ found (λ (m : Mark). glanceBy m t) 'I' 'G' t (omega arith) test)
+    glance-found 'I' 'G' _ _ (omega arith) test (c .part-glance2 .ensures)
 
 -- none of them
 returns-6 : tie.Need-returns-6
