@@ -7,12 +7,12 @@ use mathlib.Core.List.{List, [], _∷_, _++_}
 use native.Mathlib.Omega.{arith}
 use lib.ListN.{length, getD, drop}
 use lib.Dec.{eqb}
-use borrow.Author.Tests.{eqb-true, ne-eqb}
+use borrow.Author.Tests.{eqb-true, ne-eqb, not-true, not-false}
 use Rattle.xliff.specs.Bytes.{equal, among, any}
 use Rattle.xliff.specs.Item.{Item, Content, start, end, text, character, standalone, isolated, pair, annotation-start, annotation-end, class, non-removable}
 use Rattle.xliff.specs.Encode.{Record, text-run, inline, record-bytes, content-records}
 use Rattle.xliff.specs.SetTarget.{same-flat, is-lost}
-use Rattle.xliff.proofs.lists.Tests.{not-true, not-false, and-false}
+use Rattle.xliff.proofs.lists.Tests.{and-false}
 use Rattle.walk.specs.Kept.{items}
 use Rattle.walk.proofs.WalkLaws.{Next, Searched, search-found, search-on}
 use Rattle.walk.specs.Place.{Begins}

@@ -15,7 +15,7 @@ use Rattle.table.specs.declared.Record.{Record}
 use Rattle.table.specs.declared.Record.the-variants.{Target, Text}
 use Rattle.table.specs.declared.Read.the-variants.{Good, Ill, Broken}
 use Rattle.marks.specs.Marks.{marked}
-use Rattle.marks.proofs.MarkLaws.{found, no-mark}
+use Rattle.marks.proofs.MarkLaws.{mark-found, no-mark}
 use Rattle.table.proofs.ReadLaws.{record-is, no-record}
 use Rattle.glance.specs.declared.Glance.{Glance}
 use Rattle.glance.specs.Glances.{glanceIn, Agrees, on-good, on-ill, on-broken, Glanced, itemGlance, textGlance, targetGlance, glanceBy}
@@ -102,7 +102,7 @@ glanced t g e =
 -- by the mark that a test found
 pub glance-found : (x y : ℕ) (t : List ℕ) (g : Glance)
     → 2 ≤ length t → marked t (x ∷ y ∷ []) ≡ true → g ≡ glanceBy (mark-of x y) t → Glanced t g
-glance-found x y t g h e is = glanced t g (is ∙ found (λ (m : Mark). glanceBy m t) x y t h e)
+glance-found x y t g h e told = glanced t g (told ∙ mark-found (λ (m : Mark). glanceBy m t) x y t h e)
 
 -- less than two bytes are no record
 pub too-short : (t : List ℕ) (g : Glance) → length t ≤ 1 → Glanced t g

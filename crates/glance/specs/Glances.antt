@@ -8,7 +8,7 @@ use lib.Dec.{leb}
 use Rattle.xliff.specs.Encode.{record-bytes}
 use Rattle.xliff.specs.Bytes.{two-at}
 use Rattle.xliff.specs.Parse.{Mark, UN, UE, SG, IG, TG, TX, CP, MO, SM, MC, EM, code-size, annotation-start-size, annotation-end-size, size-of, read}
-use Rattle.marks.specs.Marks.{one-of}
+use Rattle.marks.specs.Marks.{same-mark, one-of}
 use Rattle.table.specs.Meaning.{meaning, width, body}
 use Rattle.table.specs.declared.Item.{Item}
 use Rattle.table.specs.declared.Item.the-variants.{Character, Standalone, Isolated, Pair, AnnotationStart, AnnotationEnd}
@@ -91,15 +91,15 @@ abbrev pub restGlance : Mark → Glance
 restGlance m =
     cond (one-of (MO ∷ SM ∷ []) m) (itemGlance true annotation-start-size)
     (cond (one-of (MC ∷ EM ∷ []) m) (itemGlance true annotation-end-size)
-    (cond (one-of (CP ∷ []) m) (itemGlance false (size-of CP []))
-    (cond (one-of (UN ∷ []) m) (itemGlance false (size-of UN []))
-    (cond (one-of (UE ∷ []) m) (itemGlance false (size-of UE []))
+    (cond (same-mark CP m) (itemGlance false (size-of CP []))
+    (cond (same-mark UN m) (itemGlance false (size-of UN []))
+    (cond (same-mark UE m) (itemGlance false (size-of UE []))
     (itemGlance true code-size)))))
 
 abbrev pub glanceBy : Mark → List ℕ → Glance
 glanceBy m t =
-    cond (one-of (TX ∷ []) m) (textGlance t)
-    (cond (one-of (TG ∷ []) m) (targetGlance t)
-    (cond (one-of (SG ∷ []) m) (partGlance (size-of SG t))
-    (cond (one-of (IG ∷ []) m) (partGlance (size-of IG t))
+    cond (same-mark TX m) (textGlance t)
+    (cond (same-mark TG m) (targetGlance t)
+    (cond (same-mark SG m) (partGlance (size-of SG t))
+    (cond (same-mark IG m) (partGlance (size-of IG t))
     (restGlance m))))

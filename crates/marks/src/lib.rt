@@ -5,7 +5,7 @@ ghost use Prim.Native.Nat.{_+_, _*_, _<_, _≤_};
 ghost use lib.ListN.{length};
 ghost use Rattle.xliff.specs.Bytes.{two-at};
 ghost use Rattle.xliff.specs.Parse.{mark-at, size-of};
-ghost use Rattle.marks.specs.Marks.{marked, rest, later, meaning, fixedWidth};
+ghost use Rattle.marks.specs.Marks.{marked, only-rest, only-later, meaning, fixedWidth};
 
 // How many bytes a record takes, a text's without its characters.
 pub const UNIT_WIDTH: usize = 3;
@@ -75,7 +75,7 @@ pub fn marked_by(t: &[u8], m: &[u8; 2]) -> bool
 // The mark at the head of `t`, if it is one of those that come seldom.
 fn rest_mark(t: &[u8]) -> Mark
     requires { ⌜ 2 ≤ length (now t) ⌝ }
-    ensures { λ r. ⌜ meaning r ≡ rest (mark-at (now (t .entry))) ⌝ }
+    ensures { λ r. ⌜ meaning r ≡ only-rest (mark-at (now (t .entry))) ⌝ }
 {
     if marked_by(t, b"SC") {
         return Mark::SC;
@@ -113,7 +113,7 @@ fn rest_mark(t: &[u8]) -> Mark
 // The mark at the head of `t`, if it is none of those that come most often.
 fn later_mark(t: &[u8]) -> Mark
     requires { ⌜ 2 ≤ length (now t) ⌝ }
-    ensures { λ r. ⌜ meaning r ≡ later (mark-at (now (t .entry))) ⌝ }
+    ensures { λ r. ⌜ meaning r ≡ only-later (mark-at (now (t .entry))) ⌝ }
 {
     if marked_by(t, b"SG") {
         return Mark::SG;

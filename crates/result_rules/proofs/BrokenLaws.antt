@@ -1,11 +1,12 @@
 -- Rules 7 and 9, one after the other, and the number of the first that is broken.
+use borrow.Author.Tests.{not-true, not-false}
 use Prim.Native.Nat.{ℕ}
 use mathlib.Core.Path.{_≡_, refl, sym, ap, _∙_}
 use mathlib.Core.Bool.{Bool, true, false, not, cond, true≢false}
 use mathlib.Core.Option.{Option, none, some}
 use lib.Dec.{eqb}
 use Rattle.xliff.specs.Answer.{Refusal, refusal, _then_, is-fault, of-result}
-use Rattle.xliff.proofs.lists.Tests.{none-some, not-true, not-false}
+use Rattle.xliff.proofs.lists.Tests.{none-some}
 use Rattle.answers.specs.Answers.{refusal-at}
 use Rattle.answers.specs.declared.Place.{Place}
 use Rattle.answers.specs.declared.Place.the-variants.{Nowhere, At}

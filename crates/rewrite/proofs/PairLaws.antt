@@ -7,13 +7,13 @@ use mathlib.Core.Option.{Option, none, some}
 use native.Mathlib.Omega.{arith}
 use lib.ListN.{length}
 use lib.Dec.{eqb}
-use borrow.Author.Tests.{lt-ltb, le-ltb}
+use borrow.Author.Tests.{lt-ltb, le-ltb, not-false}
 use Rattle.xliff.specs.Bytes.{'P', 'S', 'T', Bytes, among}
 use Rattle.xliff.specs.Item.{form-P, form-S, is-form-P}
 use Rattle.xliff.specs.Parse.{unit}
 use Rattle.xliff.specs.Check.{too-large}
 use Rattle.xliff.specs.Rewrite.{form-of, rewrite-unit, side-sequence, Whole, find-whole, already}
-use Rattle.xliff.proofs.lists.Tests.{or-none, or-left, not-false}
+use Rattle.xliff.proofs.lists.Tests.{or-none, or-left}
 use Rattle.whole_pair.specs.declared.FoundPair.{FoundPair}
 use Rattle.whole_pair.specs.declared.FoundPair.the-variants.{Complete, Missing}
 use Rattle.whole_pair.specs.Pairs.{pairOf}

@@ -6,7 +6,7 @@ use mathlib.Core.List.{List, [], _∷_, map}
 use mathlib.Core.Option.{none, some}
 use native.Mathlib.Omega.{arith}
 use lib.Dec.{eqb}
-use borrow.Author.Tests.{eqb-true}
+use borrow.Author.Tests.{eqb-true, not-true, not-false}
 use Rattle.xliff.specs.Bytes.{'S', any, gather}
 use Rattle.xliff.specs.Item.{Item, Content, form-P, half, id-of, is-half, is-start-half, is-form-P, other-half}
 use Rattle.xliff.specs.Unit.{Part, XliffUnit, target-items, source-sequence, target-sequence}
@@ -16,7 +16,7 @@ use Rattle.xliff.specs.Focus.{with-parts}
 use Rattle.xliff.specs.Rewrite.{rewrite-item, rewrite-target, rewrite-part, rewrite-unit, side-content, side-sequence, Whole, ended-by, find-whole, are-partners}
 use Rattle.xliff.proofs.lists.Sum.{bit, sum}
 use Rattle.xliff.specs.Good.{Each, each-nil, each-cons}
-use Rattle.xliff.proofs.lists.Tests.{none-some, and-left, and-right, or-left, or-right, not-true, not-false}
+use Rattle.xliff.proofs.lists.Tests.{none-some, and-left, and-right, or-left, or-right}
 use Rattle.xliff.proofs.rules.Flat.{half-alike, id-alike}
 use Rattle.xliff.proofs.rules.Sequences.{clear, clear-blamed, first-of-none, append-nil-left, append-nil-right, items-placed}
 use Rattle.xliff.proofs.rules.Six.{items-of-target}

@@ -10,7 +10,9 @@ use lib.Seq.{drop-drop, getD-drop}
 use lib.Dec.{leb, eqb}
 use Rattle.text.specs.Utf8.{trail, twoOf, charOf, textOk}
 use Rattle.text.specs.Blocks.{alike, nowhere, allFit}
-use Rattle.text.proofs.Laws.{split, both-left, both-right, second-false, neither-left, neither-right}
+use Rattle.xliff.proofs.lists.Tests.{and-left, and-right, or-left, or-right}
+use borrow.Table.Steps.{cases}
+use Rattle.text.proofs.Laws.{second-false}
 use Rattle.text.proofs.Utf8Laws.{text-step}
 
 -- A test `f` of a list's head passes characters: `Owed j l` says that `l` begins with the last `j` bytes of a character that
@@ -27,10 +29,10 @@ unfolding allFit
 run p zero j l n e o = ap (λ (i : ℕ). textOk (drop i l)) (p .counted j l o)
 run p (suc k) j [] n e o = absurd (omega arith)
 run {f} p (suc k) zero (c ∷ l) n e o =
-    let b = p .begins c l o (both-left (f (c ∷ l)) _ e) in
-    b .2 ∙ run p k (b .0) l (omega arith) (both-right (f (c ∷ l)) _ e) (b .1)
+    let b = p .begins c l o (and-left (f (c ∷ l)) _ e) in
+    b .2 ∙ run p k (b .0) l (omega arith) (and-right (f (c ∷ l)) _ e) (b .1)
 run {f} p (suc k) (suc j) (c ∷ l) n e o =
-    run p k j l (omega arith) (both-right (f (c ∷ l)) _ e) (p .goes-on j c l o (both-left (f (c ∷ l)) _ e))
+    run p k j l (omega arith) (and-right (f (c ∷ l)) _ e) (p .goes-on j c l o (and-left (f (c ∷ l)) _ e))
 
 -- a block, from the first byte of a character on
 pub block-on : {f : List ℕ → Bool} {Owed : ℕ → List ℕ → Type 0} {ahead : List ℕ → ℕ} → Passes f Owed ahead
@@ -75,19 +77,19 @@ alike-is false false e = refl
 
 -- a byte behind a first: its bounds
 pub behind-low : (b : ℕ) → trail b ≡ true → 128 ≤ b
-behind-low b h = leb-true 128 b (both-left (leb 128 b) _ h)
+behind-low b h = leb-true 128 b (and-left (leb 128 b) _ h)
 
 pub behind-high : (b : ℕ) → trail b ≡ true → b ≤ 191
-behind-high b h = leb-true b 191 (both-right (leb 128 b) _ h)
+behind-high b h = leb-true b 191 (and-right (leb 128 b) _ h)
 
 -- the first byte of a character, if it leads no other, is of seven bits
 pub plain-byte : (c : ℕ) → nowhere c ≡ false → trail c ≡ false → c < 194 → c < 128
 plain-byte c g h l =
-    split (leb 128 c)
+    cases (leb 128 c)
     (λ p.
     let past = leb-false c 191 (second-false (leb 128 c) _ p h) in
-    let not-192 = eqb-false c 192 (neither-left (eqb c 192) _ g) in
-    let not-193 = eqb-false c 193 (neither-right (eqb c 192) _ g) in
+    let not-192 = eqb-false c 192 (or-left (eqb c 192) _ g) in
+    let not-193 = eqb-false c 193 (or-right (eqb c 192) _ g) in
     omega arith)
     (λ p. leb-false 128 c p)
 
@@ -124,6 +126,6 @@ plain-on t at n h =
     by [] e n = absurd (omega arith)
     by (c ∷ l) e n =
         let k : getD t at 0 ≡ c = sym (head-is at t) ∙ ap (λ (s : List ℕ). getD s 0 0) (sym e) in
-        let low = leb-true 32 (getD t at 0) (both-left (leb 32 (getD t at 0)) _ h) in
-        let high = leb-true (getD t at 0) 127 (both-right (leb 32 (getD t at 0)) _ h) in
+        let low = leb-true 32 (getD t at 0) (and-left (leb 32 (getD t at 0)) _ h) in
+        let high = leb-true (getD t at 0) 127 (and-right (leb 32 (getD t at 0)) _ h) in
         ap textOk (sym e) ∙ one-more c l (omega (arith, k)) (omega (arith, k)) ∙ ap (λ (s : List ℕ). textOk (drop 1 s)) e

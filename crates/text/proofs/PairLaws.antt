@@ -10,7 +10,8 @@ use lib.Seq.{getD-drop}
 use lib.Dec.{leb, ltb}
 use Rattle.text.specs.Utf8.{within, trail, textOk}
 use Rattle.text.specs.Blocks.{nowhere, pairFits, pairAt, allFit}
-use Rattle.text.proofs.Laws.{split, both-left, both-right, both-false}
+use Rattle.xliff.proofs.lists.Tests.{and-left, and-right, and-false}
+use borrow.Table.Steps.{cases}
 use Rattle.text.proofs.BlockLaws.{Passes, block-on, head-is, alike-is, behind-high, plain-byte, one-more, two-more}
 
 -- what a pair that fits says
@@ -23,13 +24,13 @@ record Fitting (c d : ℕ) : Type 0 where
 fitting : (c d : ℕ) → pairFits c d ≡ true → Fitting c d
 unfolding pairFits
 fitting c d e =
-    let w = both-left (within 32 223 c) _ e in
-    let r = both-right (within 32 223 c) _ e in
+    let w = and-left (within 32 223 c) _ e in
+    let r = and-right (within 32 223 c) _ e in
     record {
-      low = leb-true 32 c (both-left (leb 32 c) _ w);
-      high = leb-true c 223 (both-right (leb 32 c) _ w);
-      somewhere = not-true _ (both-left (not (nowhere c)) _ r);
-      leads = alike-is (leb 194 c) (trail d) (both-right (not (nowhere c)) _ r);
+      low = leb-true 32 c (and-left (leb 32 c) _ w);
+      high = leb-true c 223 (and-right (leb 32 c) _ w);
+      somewhere = not-true _ (and-left (not (nowhere c)) _ r);
+      leads = alike-is (leb 194 c) (trail d) (and-right (not (nowhere c)) _ r);
     }
 
 -- a list that begins with the second byte of a character, or with none
@@ -45,7 +46,7 @@ pairAhead l = cond (trail (getD l 0 0)) 1 0
 pair-begins : (c : ℕ) (l : List ℕ) → trail c ≡ false → pairFits c (getD l 0 0) ≡ true → (j : ℕ) × PairOwed j l × (textOk (c ∷ l) ≡ textOk (drop j l))
 pair-begins c l o e =
     let f = fitting c (getD l 0 0) e in
-    split (leb 194 c)
+    cases (leb 194 c)
     (λ p. let behind = f .leads ∙ p in (1, behind, two-more c l (leb-true 194 c p) (f .high) behind))
     (λ p. (0, f .leads ∙ p, one-more c l (f .low) (plain-byte c (f .somewhere) o (leb-false 194 c p))))
 
@@ -68,15 +69,15 @@ or-second false b p h = h
 -- what is no second byte
 first-byte : (b : ℕ) → (ltb b 128 || ltb 191 b) ≡ true → trail b ≡ false
 first-byte b h =
-    split (ltb b 128) (λ p. rw (lt-leb 128 b (ltb-true b 128 p)))
-    (λ p. simp (lt-leb b 191 (ltb-true 191 b (or-second (ltb b 128) (ltb 191 b) p h)), both-false))
+    cases (ltb b 128) (λ p. rw (lt-leb 128 b (ltb-true b 128 p)))
+    (λ p. simp (lt-leb b 191 (ltb-true 191 b (or-second (ltb b 128) (ltb 191 b) p h)), and-false))
 
 -- a block of sixteen bytes that the test passes, and the byte behind it
 pub pair-past : (t : List ℕ) (at : ℕ) (r b : Bool) → at + 16 ≤ length t → r ≡ allFit pairAt 16 (drop at t) → ((ltb (getD t at 0) 128 || ltb 191 (getD t at 0)) && r) ≡ true
     → trail (getD t (at + 16) 0) ≡ b → textOk (drop at t) ≡ textOk (drop (at + cond b 17 16) t)
 pair-past t at r b n e h f =
     let first = ltb (getD t at 0) 128 || ltb 191 (getD t at 0) in
-    block-on pair-passes t at 16 n (sym e ∙ both-right first r h) (ap trail (head-is at t) ∙ first-byte (getD t at 0) (both-left first r h))
+    block-on pair-passes t at 16 n (sym e ∙ and-right first r h) (ap trail (head-is at t) ∙ first-byte (getD t at 0) (and-left first r h))
     ∙ ap (λ (c : Bool). textOk (drop (at + 16 + cond c 1 0) t)) (ap trail (head-is (at + 16) t) ∙ f)
     ∙ ap (λ (k : ℕ). textOk (drop k t)) (sum b)
   where

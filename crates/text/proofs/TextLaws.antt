@@ -13,7 +13,8 @@ use Rattle.xliff.specs.Text.{between, xml-allows, text-of}
 use Rattle.xliff.specs.Good.{Allowed, no-text, one-point}
 use Rattle.xliff.proofs.text.Utf8.{allowed-bound, text-of-utf8s, text-of-some}
 use Rattle.text.specs.Utf8.{utf8, utf8s, scalar, within, xmlChar, codes, allXml, someXml, textOk, allScalar}
-use Rattle.text.proofs.Laws.{split, both-left, both-right}
+use Rattle.xliff.proofs.lists.Tests.{and-left, and-right}
+use borrow.Table.Steps.{cases}
 use Rattle.text.proofs.Coding.{codes-of-bytes, bytes-of-codes}
 
 or-apart : (x p q r : Bool) → x || (p || q || r) ≡ x || p || q || r
@@ -48,17 +49,17 @@ surrogate c l h =
 
 xml-scalar : (c : ℕ) → xmlChar c ≡ true → scalar c ≡ true
 xml-scalar c x =
-    split (within 0xD800 0xDFFF c)
-    (λ p. absurd (true≢false (sym x ∙ surrogate c (leb-true 0xD800 c (both-left (leb 0xD800 c) _ p)) (leb-true c 0xDFFF (both-right (leb 0xD800 c) _ p)))))
+    cases (within 0xD800 0xDFFF c)
+    (λ p. absurd (true≢false (sym x ∙ surrogate c (leb-true 0xD800 c (and-left (leb 0xD800 c) _ p)) (leb-true c 0xDFFF (and-right (leb 0xD800 c) _ p)))))
     (λ p. simp (le-leb c 0x10FFFF (allowed-bound c (sym (xml-same c) ∙ x)), p))
 
 xml-scalars : (cs : List ℕ) → allXml cs ≡ true → allScalar cs ≡ true
 xml-scalars [] h = refl
-xml-scalars (c ∷ cs) h = rw (xml-scalar c (both-left (xmlChar c) _ h), xml-scalars cs (both-right (xmlChar c) _ h))
+xml-scalars (c ∷ cs) h = rw (xml-scalar c (and-left (xmlChar c) _ h), xml-scalars cs (and-right (xmlChar c) _ h))
 
 allowed : (cs : List ℕ) → allXml cs ≡ true → Allowed cs
 allowed [] h = no-text
-allowed (c ∷ cs) h = one-point (sym (xml-same c) ∙ both-left (xmlChar c) _ h) (allowed cs (both-right (xmlChar c) _ h))
+allowed (c ∷ cs) h = one-point (sym (xml-same c) ∙ and-left (xmlChar c) _ h) (allowed cs (and-right (xmlChar c) _ h))
 
 all-xml : (cs : List ℕ) → Allowed cs → allXml cs ≡ true
 all-xml [] no-text = refl

@@ -10,7 +10,9 @@ use lib.Seq.{getD-drop}
 use lib.Dec.{eqb, leb, ltb}
 use Rattle.text.specs.Utf8.{xmlChar, within, trail, threeOf, charOf, textOk}
 use Rattle.text.specs.Blocks.{nowhere, barred, tripleFits, tripleAt, opensBlock, allFit}
-use Rattle.text.proofs.Laws.{split, both-left, both-right, second-false, neither-left, neither-right}
+use Rattle.xliff.proofs.lists.Tests.{and-left, and-right, or-left, or-right}
+use borrow.Table.Steps.{cases}
+use Rattle.text.proofs.Laws.{second-false}
 use Rattle.text.proofs.Utf8Laws.{text-step}
 use Rattle.text.proofs.BlockLaws.{Passes, block-on, head-is, alike-is, behind-low, behind-high, plain-byte, one-more, two-more}
 
@@ -22,9 +24,9 @@ record Second (c d : ℕ) : Type 0 where
 
 second : (c d : ℕ) → barred c d ≡ false → Second c d
 second c d e =
-    let long = neither-left (eqb c 0xE0 && ltb d 0xA0) _ (neither-left _ (eqb c 0xEF && eqb d 0xBF) e) in
-    let surrogate = neither-right (eqb c 0xE0 && ltb d 0xA0) _ (neither-left _ (eqb c 0xEF && eqb d 0xBF) e) in
-    let last = neither-right (eqb c 0xE0 && ltb d 0xA0 || eqb c 0xED && ltb 0x9F d) _ e in
+    let long = or-left (eqb c 0xE0 && ltb d 0xA0) _ (or-left _ (eqb c 0xEF && eqb d 0xBF) e) in
+    let surrogate = or-right (eqb c 0xE0 && ltb d 0xA0) _ (or-left _ (eqb c 0xEF && eqb d 0xBF) e) in
+    let last = or-right (eqb c 0xE0 && ltb d 0xA0 || eqb c 0xED && ltb 0x9F d) _ e in
     record {
       not-long = λ q. ltb-false d 0xA0 (second-false (eqb c 0xE0) _ (eq-eqb c 0xE0 q) long);
       no-surrogate = λ q. ltb-false 0x9F d (second-false (eqb c 0xED) _ (eq-eqb c 0xED q) surrogate);
@@ -42,15 +44,15 @@ record Fitting (c d e : ℕ) : Type 0 where
 fitting : (c d e : ℕ) → tripleFits c d e ≡ true → Fitting c d e
 unfolding tripleFits
 fitting c d e h =
-    let w = both-left (within 32 239 c) _ h in
-    let r = both-right (within 32 239 c) _ h in
-    let s = both-right (not (nowhere c)) _ r in
+    let w = and-left (within 32 239 c) _ h in
+    let r = and-right (within 32 239 c) _ h in
+    let s = and-right (not (nowhere c)) _ r in
     record {
-      low = leb-true 32 c (both-left (leb 32 c) _ w);
-      high = leb-true c 239 (both-right (leb 32 c) _ w);
-      somewhere = not-true _ (both-left (not (nowhere c)) _ r);
-      allowed = second c d (not-true _ (both-left (not (barred c d)) _ s));
-      leads = alike-is (leb 194 d || leb 224 c) (trail e) (both-right (not (barred c d)) _ s);
+      low = leb-true 32 c (and-left (leb 32 c) _ w);
+      high = leb-true c 239 (and-right (leb 32 c) _ w);
+      somewhere = not-true _ (and-left (not (nowhere c)) _ r);
+      allowed = second c d (not-true _ (and-left (not (barred c d)) _ s));
+      leads = alike-is (leb 194 d || leb 224 c) (trail e) (and-right (not (barred c d)) _ s);
     }
 
 -- code points of three bytes that XML allows
@@ -65,16 +67,16 @@ code-allowed c d e a b h k s =
     let d-high = behind-high d h in
     let e-low = behind-low e k in
     let e-high = behind-high e k in
-    split (eqb c 0xE0) (λ p. let q = eqb-true c 0xE0 p in let m = s .not-long q in under (omega arith) (omega arith))
+    cases (eqb c 0xE0) (λ p. let q = eqb-true c 0xE0 p in let m = s .not-long q in under (omega arith) (omega arith))
     (λ not-E0.
-    split (eqb c 0xED) (λ p. let q = eqb-true c 0xED p in let m = s .no-surrogate q in under (omega arith) (omega arith))
+    cases (eqb c 0xED) (λ p. let q = eqb-true c 0xED p in let m = s .no-surrogate q in under (omega arith) (omega arith))
     (λ not-ED.
-    split (eqb c 0xEF) (λ p. let q = eqb-true c 0xEF p in let m = s .not-last q in above (omega arith) (omega arith))
+    cases (eqb c 0xEF) (λ p. let q = eqb-true c 0xEF p in let m = s .not-last q in above (omega arith) (omega arith))
     (λ not-EF.
     let n0 = eqb-false c 0xE0 not-E0 in
     let n1 = eqb-false c 0xED not-ED in
     let n2 = eqb-false c 0xEF not-EF in
-    split (leb c 0xEC) (λ p. let q = leb-true c 0xEC p in under (omega arith) (omega arith))
+    cases (leb c 0xEC) (λ p. let q = leb-true c 0xEC p in under (omega arith) (omega arith))
     (λ p. let q = leb-false c 0xEC p in above (omega arith) (omega arith)))))
 
 -- and such a code point passes what is asked of three bytes, and of a character
@@ -133,7 +135,7 @@ behind-leads-none d h = let high = behind-high d h in lt-leb 194 d (omega arith)
 triple-begins : (c : ℕ) (l : List ℕ) → TripleOwed 0 (c ∷ l) → tripleAt (c ∷ l) ≡ true → (j : ℕ) × TripleOwed j l × (textOk (c ∷ l) ≡ textOk (drop j l))
 triple-begins c l o h =
     let f = fitting c (getD l 0 0) (getD l 1 0) h in
-    split (leb 224 c)
+    cases (leb 224 c)
     (λ p.
     let from = leb-true 224 c p in
     let behind = o .1 ∙ le-leb 194 c (omega arith) in
@@ -142,7 +144,7 @@ triple-begins c l o h =
     (λ p.
     let under = leb-false 224 c p in
     let next = after c (getD l 0 0) (trail (getD l 1 0)) (f .leads) under in
-    split (leb 194 c)
+    cases (leb 194 c)
     (λ q. let behind = o .1 ∙ q in (1, (behind, next ∙ behind-leads-none (getD l 0 0) behind), two-more c l (leb-true 194 c q) (omega arith) behind))
     (λ q. (0, (o .1 ∙ q, next), one-more c l (f .low) (plain-byte c (f .somewhere) (o .0) (leb-false 194 c q)))))
 
@@ -170,8 +172,8 @@ triple-passes = record { begins = triple-begins; goes-on = triple-goes-on; count
 opened : (t : List ℕ) (at : ℕ) → opensBlock (getD t at 0) (getD t (at + 1) 0) ≡ true → TripleOwed 0 (drop at t)
 unfolding opensBlock
 opened t at h = (
-  ap trail (head-is at t) ∙ not-true _ (both-left (not (trail (getD t at 0))) _ h),
-  ap trail (getD-drop at t 1 0) ∙ alike-is (leb 194 (getD t at 0)) _ (both-right (not (trail (getD t at 0))) _ h) ∙ ap (leb 194) (sym (head-is at t)),
+  ap trail (head-is at t) ∙ not-true _ (and-left (not (trail (getD t at 0))) _ h),
+  ap trail (getD-drop at t 1 0) ∙ alike-is (leb 194 (getD t at 0)) _ (and-right (not (trail (getD t at 0))) _ h) ∙ ap (leb 194) (sym (head-is at t)),
 )
 
 -- a block of sixteen bytes that the test passes, and the two bytes behind it
@@ -180,7 +182,7 @@ pub triple-past : (t : List ℕ) (at : ℕ) (o r b d : Bool) → at + 16 ≤ len
 triple-past t at o r b d n p e h f g =
     let next : getD (drop (at + 16) t) 1 0 ≡ getD t (at + 17) 0 =
     getD-drop (at + 16) t 1 0 ∙ ap (λ (k : ℕ). getD t k 0) (let z : at + 16 + 1 ≡ at + 17 = omega arith in z) in
-    block-on triple-passes t at 16 n (sym e ∙ both-right o r h) (opened t at (sym p ∙ both-left o r h))
+    block-on triple-passes t at 16 n (sym e ∙ and-right o r h) (opened t at (sym p ∙ and-left o r h))
     ∙ ap (λ (x : Bool). textOk (drop (at + 16 + cond x (cond (trail (getD (drop (at + 16) t) 1 0)) 2 1) 0) t)) (ap trail (head-is (at + 16) t) ∙ f)
     ∙ ap (λ (x : Bool). textOk (drop (at + 16 + cond b (cond x 2 1) 0) t)) (ap trail next ∙ g)
     ∙ ap (λ (k : ℕ). textOk (drop k t)) (sum b d)

@@ -6,7 +6,7 @@ use borrow.Author.Needs.{needs}
 use Rattle.xliff.specs.Bytes.{'G', 'I', 'S', 'T', 'X'}
 use Rattle.xliff.specs.Parse.{is, mark-of, Mark, TX, TG, SG, IG}
 use Rattle.xliff.proofs.lists.Tests.{or-both}
-use Rattle.marks.proofs.MarkLaws.{hit, other}
+use Rattle.marks.proofs.MarkLaws.{any-found, mark-missed}
 use Rattle.glance.specs.Glances.{restGlance, glanceBy}
 use Rattle.glance.proofs.GlanceLaws.{glanced, glance-found, too-short}
 use Rattle.glance.proofs.glance_of.Statement.{statement}
@@ -53,14 +53,14 @@ returns-6 c =
     let first = second .before .before .before in
     let t = first .before .before .before .before .before .args .t .now in
     let marks = TX ∷ TG ∷ SG ∷ IG ∷ [] in
-    let none : hit marks t ≡ false =
+    let none : any-found marks t ≡ false =
     or-both _ _ (sym (first .before .marked-by .ensures) ∙ first .if2 .left)
     (or-both _ _ (sym (second .before .marked-by2 .ensures) ∙ second .if3 .left)
     (or-both _ _ (sym (third .before .marked-by3 .ensures) ∙ third .if4 .left)
     (or-both _ _ (sym (fourth .before .marked-by4 .ensures) ∙ fourth .if5 .left)
     refl))) in
     glanced t _
-    (c .rest-glance .ensures ∙ other restGlance (λ (m : Mark). glanceBy m t) marks t (omega arith) none refl)
+    (c .rest-glance .ensures ∙ mark-missed restGlance (λ (m : Mark). glanceBy m t) marks t none refl)
 
 pub glance-of-spec : {M : Type 1} → statement M
 glance-of-spec =

@@ -6,7 +6,7 @@ use borrow.Author.Needs.{needs}
 use Rattle.xliff.specs.Bytes.{'C', 'E', 'M', 'N', 'O', 'P', 'S', 'U'}
 use Rattle.xliff.specs.Parse.{is, mark-of, Mark, code-size, MO, SM, MC, EM, CP, UN, UE}
 use Rattle.xliff.proofs.lists.Tests.{or-both}
-use Rattle.marks.proofs.MarkLaws.{found, hit, other}
+use Rattle.marks.proofs.MarkLaws.{mark-found, any-found, mark-missed}
 use Rattle.glance.specs.Glances.{itemGlance, restGlance}
 use Rattle.glance.proofs.rest_glance.Statement.{statement}
 use Rattle.glance.proofs.rest_glance.Tie as tie
@@ -16,49 +16,49 @@ returns : tie.Need-returns
 unfolding mark-of is
 returns c =
     c .item-glance .ensures
-    ∙ found restGlance 'M' 'O' _ (omega arith) (sym (c .before .before .marked-by .ensures) ∙ c .before .if1 .taken)
+    ∙ mark-found restGlance 'M' 'O' _ (omega arith) (sym (c .before .before .marked-by .ensures) ∙ c .before .if1 .taken)
 
 -- SM
 returns-2 : tie.Need-returns-2
 unfolding mark-of is
 returns-2 c =
     c .item-glance2 .ensures
-    ∙ found restGlance 'S' 'M' _ (omega arith) (sym (c .before .before .marked-by2 .ensures) ∙ c .before .if2 .taken)
+    ∙ mark-found restGlance 'S' 'M' _ (omega arith) (sym (c .before .before .marked-by2 .ensures) ∙ c .before .if2 .taken)
 
 -- MC
 returns-3 : tie.Need-returns-3
 unfolding mark-of is
 returns-3 c =
     c .item-glance3 .ensures
-    ∙ found restGlance 'M' 'C' _ (omega arith) (sym (c .before .before .marked-by3 .ensures) ∙ c .before .if3 .taken)
+    ∙ mark-found restGlance 'M' 'C' _ (omega arith) (sym (c .before .before .marked-by3 .ensures) ∙ c .before .if3 .taken)
 
 -- EM
 returns-4 : tie.Need-returns-4
 unfolding mark-of is
 returns-4 c =
     c .item-glance4 .ensures
-    ∙ found restGlance 'E' 'M' _ (omega arith) (sym (c .before .before .marked-by4 .ensures) ∙ c .before .if4 .taken)
+    ∙ mark-found restGlance 'E' 'M' _ (omega arith) (sym (c .before .before .marked-by4 .ensures) ∙ c .before .if4 .taken)
 
 -- CP
 returns-5 : tie.Need-returns-5
 unfolding mark-of is
 returns-5 c =
     c .item-glance5 .ensures
-    ∙ found restGlance 'C' 'P' _ (omega arith) (sym (c .before .before .marked-by5 .ensures) ∙ c .before .if5 .taken)
+    ∙ mark-found restGlance 'C' 'P' _ (omega arith) (sym (c .before .before .marked-by5 .ensures) ∙ c .before .if5 .taken)
 
 -- UN
 returns-6 : tie.Need-returns-6
 unfolding mark-of is
 returns-6 c =
     c .item-glance6 .ensures
-    ∙ found restGlance 'U' 'N' _ (omega arith) (sym (c .before .before .marked-by6 .ensures) ∙ c .before .if6 .taken)
+    ∙ mark-found restGlance 'U' 'N' _ (omega arith) (sym (c .before .before .marked-by6 .ensures) ∙ c .before .if6 .taken)
 
 -- UE
 returns-7 : tie.Need-returns-7
 unfolding mark-of is
 returns-7 c =
     c .item-glance7 .ensures
-    ∙ found restGlance 'U' 'E' _ (omega arith) (sym (c .before .before .marked-by7 .ensures) ∙ c .before .if7 .taken)
+    ∙ mark-found restGlance 'U' 'E' _ (omega arith) (sym (c .before .before .marked-by7 .ensures) ∙ c .before .if7 .taken)
 
 -- none of them
 returns-8 : tie.Need-returns-8
@@ -72,7 +72,7 @@ returns-8 c =
     let first = second .before .before .before in
     let t = first .before .before .before .before .args .t .now in
     let marks = MO ∷ SM ∷ MC ∷ EM ∷ CP ∷ UN ∷ UE ∷ [] in
-    let none : hit marks t ≡ false =
+    let none : any-found marks t ≡ false =
     or-both _ _ (sym (first .before .marked-by .ensures) ∙ first .if1 .left)
     (or-both _ _ (sym (second .before .marked-by2 .ensures) ∙ second .if2 .left)
     (or-both _ _ (sym (third .before .marked-by3 .ensures) ∙ third .if3 .left)
@@ -82,7 +82,7 @@ returns-8 c =
     (or-both _ _ (sym (seventh .before .marked-by7 .ensures) ∙ seventh .if7 .left)
     refl)))))) in
     c .item-glance8 .ensures
-    ∙ sym (other restGlance (λ (m : Mark). itemGlance true code-size) marks t (omega arith) none refl)
+    ∙ sym (mark-missed restGlance (λ (m : Mark). itemGlance true code-size) marks t none refl)
 
 pub rest-glance-spec : {M : Type 1} → statement M
 rest-glance-spec =

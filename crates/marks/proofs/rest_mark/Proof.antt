@@ -6,60 +6,60 @@ use borrow.Author.Needs.{needs}
 use Rattle.xliff.specs.Bytes.{'C', 'E', 'G', 'I', 'M', 'N', 'P', 'S', 'U'}
 use Rattle.xliff.specs.Parse.{is, mark-of, SC, EC, SM, EM, IG, CP, IS, IE, UN, UE, Mark, unknown}
 use Rattle.xliff.proofs.lists.Tests.{or-both}
-use Rattle.marks.specs.Marks.{rest}
-use Rattle.marks.proofs.MarkLaws.{found, hit, other}
+use Rattle.marks.specs.Marks.{only-rest}
+use Rattle.marks.proofs.MarkLaws.{mark-found, any-found, mark-missed}
 use Rattle.marks.proofs.rest_mark.Statement.{statement}
 use Rattle.marks.proofs.rest_mark.Tie as tie
 
 -- SC
 returns : tie.Need-returns
 unfolding mark-of is
-returns c = found rest 'S' 'C' _ (omega arith) (sym (c .before .marked-by .ensures) ∙ c .if1 .taken)
+returns c = mark-found only-rest 'S' 'C' _ (omega arith) (sym (c .before .marked-by .ensures) ∙ c .if1 .taken)
 
 -- EC
 returns-2 : tie.Need-returns-2
 unfolding mark-of is
-returns-2 c = found rest 'E' 'C' _ (omega arith) (sym (c .before .marked-by2 .ensures) ∙ c .if2 .taken)
+returns-2 c = mark-found only-rest 'E' 'C' _ (omega arith) (sym (c .before .marked-by2 .ensures) ∙ c .if2 .taken)
 
 -- SM
 returns-3 : tie.Need-returns-3
 unfolding mark-of is
-returns-3 c = found rest 'S' 'M' _ (omega arith) (sym (c .before .marked-by3 .ensures) ∙ c .if3 .taken)
+returns-3 c = mark-found only-rest 'S' 'M' _ (omega arith) (sym (c .before .marked-by3 .ensures) ∙ c .if3 .taken)
 
 -- EM
 returns-4 : tie.Need-returns-4
 unfolding mark-of is
-returns-4 c = found rest 'E' 'M' _ (omega arith) (sym (c .before .marked-by4 .ensures) ∙ c .if4 .taken)
+returns-4 c = mark-found only-rest 'E' 'M' _ (omega arith) (sym (c .before .marked-by4 .ensures) ∙ c .if4 .taken)
 
 -- IG
 returns-5 : tie.Need-returns-5
 unfolding mark-of is
-returns-5 c = found rest 'I' 'G' _ (omega arith) (sym (c .before .marked-by5 .ensures) ∙ c .if5 .taken)
+returns-5 c = mark-found only-rest 'I' 'G' _ (omega arith) (sym (c .before .marked-by5 .ensures) ∙ c .if5 .taken)
 
 -- CP
 returns-6 : tie.Need-returns-6
 unfolding mark-of is
-returns-6 c = found rest 'C' 'P' _ (omega arith) (sym (c .before .marked-by6 .ensures) ∙ c .if6 .taken)
+returns-6 c = mark-found only-rest 'C' 'P' _ (omega arith) (sym (c .before .marked-by6 .ensures) ∙ c .if6 .taken)
 
 -- IS
 returns-7 : tie.Need-returns-7
 unfolding mark-of is
-returns-7 c = found rest 'I' 'S' _ (omega arith) (sym (c .before .marked-by7 .ensures) ∙ c .if7 .taken)
+returns-7 c = mark-found only-rest 'I' 'S' _ (omega arith) (sym (c .before .marked-by7 .ensures) ∙ c .if7 .taken)
 
 -- IE
 returns-8 : tie.Need-returns-8
 unfolding mark-of is
-returns-8 c = found rest 'I' 'E' _ (omega arith) (sym (c .before .marked-by8 .ensures) ∙ c .if8 .taken)
+returns-8 c = mark-found only-rest 'I' 'E' _ (omega arith) (sym (c .before .marked-by8 .ensures) ∙ c .if8 .taken)
 
 -- UN
 returns-9 : tie.Need-returns-9
 unfolding mark-of is
-returns-9 c = found rest 'U' 'N' _ (omega arith) (sym (c .before .marked-by9 .ensures) ∙ c .if9 .taken)
+returns-9 c = mark-found only-rest 'U' 'N' _ (omega arith) (sym (c .before .marked-by9 .ensures) ∙ c .if9 .taken)
 
 -- UE
 returns-10 : tie.Need-returns-10
 unfolding mark-of is
-returns-10 c = found rest 'U' 'E' _ (omega arith) (sym (c .before .marked-by10 .ensures) ∙ c .if10 .taken)
+returns-10 c = mark-found only-rest 'U' 'E' _ (omega arith) (sym (c .before .marked-by10 .ensures) ∙ c .if10 .taken)
 
 -- none of them
 returns-11 : tie.Need-returns-11
@@ -76,7 +76,7 @@ returns-11 c =
     let first = second .before .before .before in
     let t = first .before .before .before .before .args .t .now in
     let marks = SC ∷ EC ∷ SM ∷ EM ∷ IG ∷ CP ∷ IS ∷ IE ∷ UN ∷ UE ∷ [] in
-    let none : hit marks t ≡ false =
+    let none : any-found marks t ≡ false =
     or-both _ _ (sym (first .before .marked-by .ensures) ∙ first .if1 .left)
     (or-both _ _ (sym (second .before .marked-by2 .ensures) ∙ second .if2 .left)
     (or-both _ _ (sym (third .before .marked-by3 .ensures) ∙ third .if3 .left)
@@ -88,7 +88,7 @@ returns-11 c =
     (or-both _ _ (sym (ninth .before .marked-by9 .ensures) ∙ ninth .if9 .left)
     (or-both _ _ (sym (tenth .before .marked-by10 .ensures) ∙ tenth .if10 .left)
     refl))))))))) in
-    sym (other rest (λ (m : Mark). unknown) marks t (omega arith) none refl)
+    sym (mark-missed only-rest (λ (m : Mark). unknown) marks t none refl)
 
 pub rest-mark-spec : {M : Type 1} → statement M
 rest-mark-spec =

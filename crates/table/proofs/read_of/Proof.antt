@@ -6,8 +6,8 @@ use borrow.Author.Needs.{needs}
 use Rattle.xliff.specs.Bytes.{'C', 'H', 'O', 'P', 'T', 'X'}
 use Rattle.xliff.specs.Parse.{is, mark-of, Mark, TX, PO, PC, PH}
 use Rattle.xliff.proofs.lists.Tests.{or-both}
-use Rattle.marks.specs.Marks.{later}
-use Rattle.marks.proofs.MarkLaws.{hit, other, no-mark}
+use Rattle.marks.specs.Marks.{only-later}
+use Rattle.marks.proofs.MarkLaws.{any-found, mark-missed, no-mark}
 use Rattle.table.specs.Records.{recordBy}
 use Rattle.table.proofs.MarkedLaws.{record-found}
 use Rattle.table.proofs.read_of.Statement.{statement}
@@ -59,14 +59,14 @@ returns-6 c =
     let args = first .before .before .before .before .before .args in
     let t = args .t .now in
     let marks = TX ∷ PO ∷ PC ∷ PH ∷ [] in
-    let none : hit marks t ≡ false =
+    let none : any-found marks t ≡ false =
     or-both _ _ (sym (first .before .marked-by .ensures) ∙ first .if2 .left)
     (or-both _ _ (sym (second .before .marked-by2 .ensures) ∙ second .if3 .left)
     (or-both _ _ (sym (third .before .marked-by3 .ensures) ∙ third .if4 .left)
     (or-both _ _ (sym (fourth .before .marked-by4 .ensures) ∙ fourth .if5 .left)
     refl))) in
     c .later-of .ensures
-    ∙ other (λ (m : Mark). recordBy (later m) t false) (λ (m : Mark). recordBy m t (args .known)) marks t (omega arith) none refl
+    ∙ mark-missed (λ (m : Mark). recordBy (only-later m) t false) (λ (m : Mark). recordBy m t (args .known)) marks t none refl
 
 pub read-of-spec : {M : Type 1} → statement M
 read-of-spec =

@@ -6,8 +6,8 @@ use borrow.Author.Needs.{needs}
 use Rattle.xliff.specs.Bytes.{'C', 'E', 'G', 'I', 'M', 'N', 'P', 'S', 'U'}
 use Rattle.xliff.specs.Parse.{is, mark-of, Mark, unknown, SC, EC, SM, EM, IG, CP, IS, IE, UN, UE}
 use Rattle.xliff.proofs.lists.Tests.{or-both}
-use Rattle.marks.specs.Marks.{rest}
-use Rattle.marks.proofs.MarkLaws.{hit, other}
+use Rattle.marks.specs.Marks.{only-rest}
+use Rattle.marks.proofs.MarkLaws.{any-found, mark-missed}
 use Rattle.table.specs.Records.{recordBy}
 use Rattle.table.proofs.MarkedLaws.{record-found}
 use Rattle.table.proofs.rest_of.Statement.{statement}
@@ -18,69 +18,69 @@ returns : tie.Need-returns
 unfolding recordBy mark-of is
 returns c =
     c .pair-of .ensures
-    ∙ record-found rest 'S' 'C' _ _ (omega arith) (sym (c .before .before .marked-by .ensures) ∙ c .before .if1 .taken)
+    ∙ record-found only-rest 'S' 'C' _ _ (omega arith) (sym (c .before .before .marked-by .ensures) ∙ c .before .if1 .taken)
 
 -- EC
 returns-2 : tie.Need-returns-2
 unfolding recordBy mark-of is
 returns-2 c =
     c .pair-of2 .ensures
-    ∙ record-found rest 'E' 'C' _ _ (omega arith) (sym (c .before .before .marked-by2 .ensures) ∙ c .before .if2 .taken)
+    ∙ record-found only-rest 'E' 'C' _ _ (omega arith) (sym (c .before .before .marked-by2 .ensures) ∙ c .before .if2 .taken)
 
 -- SM
 returns-3 : tie.Need-returns-3
 unfolding recordBy mark-of is
 returns-3 c =
     c .annotation-start-of .ensures
-    ∙ record-found rest 'S' 'M' _ _ (omega arith) (sym (c .before .before .marked-by3 .ensures) ∙ c .before .if3 .taken)
+    ∙ record-found only-rest 'S' 'M' _ _ (omega arith) (sym (c .before .before .marked-by3 .ensures) ∙ c .before .if3 .taken)
 
 -- EM
 returns-4 : tie.Need-returns-4
 unfolding recordBy mark-of is
 returns-4 c =
     c .annotation-end-of .ensures
-    ∙ record-found rest 'E' 'M' _ _ (omega arith) (sym (c .before .before .marked-by4 .ensures) ∙ c .before .if4 .taken)
+    ∙ record-found only-rest 'E' 'M' _ _ (omega arith) (sym (c .before .before .marked-by4 .ensures) ∙ c .before .if4 .taken)
 
 -- IG
 returns-5 : tie.Need-returns-5
 unfolding recordBy mark-of is
 returns-5 c =
     c .ignorable-of .ensures
-    ∙ record-found rest 'I' 'G' _ _ (omega arith) (sym (c .before .before .marked-by5 .ensures) ∙ c .before .if5 .taken)
+    ∙ record-found only-rest 'I' 'G' _ _ (omega arith) (sym (c .before .before .marked-by5 .ensures) ∙ c .before .if5 .taken)
 
 -- CP
 returns-6 : tie.Need-returns-6
 unfolding recordBy mark-of is
 returns-6 c =
     c .character-of .ensures
-    ∙ record-found rest 'C' 'P' _ _ (omega arith) (sym (c .before .before .marked-by6 .ensures) ∙ c .before .if6 .taken)
+    ∙ record-found only-rest 'C' 'P' _ _ (omega arith) (sym (c .before .before .marked-by6 .ensures) ∙ c .before .if6 .taken)
 
 -- IS
 returns-7 : tie.Need-returns-7
 unfolding recordBy mark-of is
 returns-7 c =
     c .isolated-of .ensures
-    ∙ record-found rest 'I' 'S' _ _ (omega arith) (sym (c .before .before .marked-by7 .ensures) ∙ c .before .if7 .taken)
+    ∙ record-found only-rest 'I' 'S' _ _ (omega arith) (sym (c .before .before .marked-by7 .ensures) ∙ c .before .if7 .taken)
 
 -- IE
 returns-8 : tie.Need-returns-8
 unfolding recordBy mark-of is
 returns-8 c =
     c .isolated-of2 .ensures
-    ∙ record-found rest 'I' 'E' _ _ (omega arith) (sym (c .before .before .marked-by8 .ensures) ∙ c .before .if8 .taken)
+    ∙ record-found only-rest 'I' 'E' _ _ (omega arith) (sym (c .before .before .marked-by8 .ensures) ∙ c .before .if8 .taken)
 
 -- UN
 returns-9 : tie.Need-returns-9
 unfolding recordBy mark-of is
 returns-9 c =
     c .unit-of .ensures
-    ∙ record-found rest 'U' 'N' _ _ (omega arith) (sym (c .before .before .marked-by9 .ensures) ∙ c .before .if9 .taken)
+    ∙ record-found only-rest 'U' 'N' _ _ (omega arith) (sym (c .before .before .marked-by9 .ensures) ∙ c .before .if9 .taken)
 
 -- UE
 returns-10 : tie.Need-returns-10
 unfolding recordBy mark-of is
 returns-10 c =
-    record-found rest 'U' 'E' _ _ (omega arith) (sym (c .before .marked-by10 .ensures) ∙ c .if10 .taken)
+    record-found only-rest 'U' 'E' _ _ (omega arith) (sym (c .before .marked-by10 .ensures) ∙ c .if10 .taken)
 
 -- none of them
 returns-11 : tie.Need-returns-11
@@ -99,7 +99,7 @@ returns-11 c =
     let args = first .before .before .before .before .args in
     let t = args .t .now in
     let marks = SC ∷ EC ∷ SM ∷ EM ∷ IG ∷ CP ∷ IS ∷ IE ∷ UN ∷ UE ∷ [] in
-    let none : hit marks t ≡ false =
+    let none : any-found marks t ≡ false =
     or-both _ _ (sym (first .before .marked-by .ensures) ∙ first .if1 .left)
     (or-both _ _ (sym (second .before .marked-by2 .ensures) ∙ second .if2 .left)
     (or-both _ _ (sym (third .before .marked-by3 .ensures) ∙ third .if3 .left)
@@ -111,7 +111,7 @@ returns-11 c =
     (or-both _ _ (sym (ninth .before .marked-by9 .ensures) ∙ ninth .if9 .left)
     (or-both _ _ (sym (tenth .before .marked-by10 .ensures) ∙ tenth .if10 .left)
     refl))))))))) in
-    sym (other (λ (m : Mark). recordBy (rest m) t false) (λ (m : Mark). recordBy unknown t false) marks t (omega arith) none refl)
+    sym (mark-missed (λ (m : Mark). recordBy (only-rest m) t false) (λ (m : Mark). recordBy unknown t false) marks t none refl)
 
 pub rest-of-spec : {M : Type 1} → statement M
 rest-of-spec =

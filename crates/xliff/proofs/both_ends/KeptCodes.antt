@@ -1,5 +1,6 @@
 -- Codes that may not be removed: in a valid table each stands once; an accepted setting of a target keeps each that
 -- stood there.
+use borrow.Author.Tests.{not-false}
 use Prim.Native.Nat.{ℕ, zero, suc, _+_, _≤_}
 use native.Mathlib.Omega.{arith}
 use mathlib.Core.Path.{_≡_, refl, sym, ap, _∙_}
@@ -16,7 +17,7 @@ use Rattle.xliff.specs.Focus.{here}
 use Rattle.xliff.specs.SetTarget.{old-content, same-flat, is-lost, new-order, set-focus}
 use Rattle.xliff.specs.BothEnds.{flat-target, times}
 use Rattle.xliff.proofs.lists.Sum.{bit, sum, sum-append}
-use Rattle.xliff.proofs.lists.Tests.{and-left, or-left, or-right, not-false}
+use Rattle.xliff.proofs.lists.Tests.{and-left, or-left, or-right}
 use Rattle.xliff.proofs.rules.Flat.{class-flat, fields-flat}
 use Rattle.xliff.proofs.unit.Result.{then-left, then-right, Sent, sent}
 use Rattle.xliff.proofs.rules.Six.{rule-6-counted}

@@ -8,7 +8,7 @@ use mathlib.Core.Option.{none}
 use native.Mathlib.Omega.{arith}
 use lib.ListN.{length, length-append, length-map}
 use lib.Dec.{eqb, ltb}
-use borrow.Author.Tests.{eqb-true, eqb-false, ne-eqb, ltb-true, ltb-false, le-ltb}
+use borrow.Author.Tests.{eqb-true, eqb-false, ne-eqb, ltb-true, ltb-false, le-ltb, not-false, not-true}
 use Rattle.xliff.specs.Bytes.{among, gather}
 use Rattle.xliff.specs.Unit.{Target, no-target, target, Part, order-list, orders}
 use Rattle.xliff.specs.Item.{Content}
@@ -16,7 +16,7 @@ use Rattle.xliff.specs.Sequences.{located}
 use Rattle.xliff.specs.Rules.{bad-order, fault-5}
 use Rattle.xliff.specs.Focus.{here, order-parts}
 use Rattle.xliff.specs.Join.{highest-unused, lower-above, join-order, join-targets, join-parts, join-focus, bad-orders}
-use Rattle.xliff.proofs.lists.Tests.{or-left, or-right, and-left, and-right, not-false, not-true, or-both}
+use Rattle.xliff.proofs.lists.Tests.{or-left, or-right, and-left, and-right, or-both}
 use Rattle.xliff.proofs.rules.Orders.{orders-fit, order-fits, eqb-same}
 use Rattle.xliff.proofs.operations.SplitTarget.{orders-append, fault-5-fits}
 use Rattle.xliff.proofs.operations.SetValid.{rule-5-back, fits-ext, orders-length, among-append}

@@ -8,7 +8,7 @@ use mathlib.Core.Logic.{_⊎_, inl, inr}
 use native.Mathlib.Omega.{arith}
 use lib.ListN.{length, length-append, length-map}
 use lib.Dec.{eqb, ltb}
-use borrow.Author.Tests.{eqb-true, eqb-false, ltb-true, ltb-false, lt-ltb, le-ltb}
+use borrow.Author.Tests.{eqb-true, eqb-false, ltb-true, ltb-false, lt-ltb, le-ltb, not-false}
 use Rattle.xliff.specs.Bytes.{'S', gather, among}
 use Rattle.xliff.specs.Item.{Content, Form, flattened}
 use Rattle.xliff.specs.Unit.{Target, no-target, target, Part, of-order, target-of-order, targets, target-sequence, order-list, orders}
@@ -16,7 +16,7 @@ use Rattle.xliff.specs.Rules.{fault-5}
 use Rattle.xliff.specs.Focus.{here, order-target, order-part, order-parts}
 use Rattle.xliff.specs.Join.{highest-unused, lower-above, join-order, join-targets, join-parts, join-focus, bad-orders}
 use Rattle.xliff.specs.Rewrite.{rewrite-item, rewrite-target, rewrite-part}
-use Rattle.xliff.proofs.lists.Tests.{map-append, or-left, or-right, not-false}
+use Rattle.xliff.proofs.lists.Tests.{map-append, or-left, or-right}
 use Rattle.xliff.proofs.operations.Sources.{flattened-append, flattened-map, flat-rewrite}
 use Rattle.xliff.proofs.rules.Orders.{orders-fit, order-fits, unused-order, eqb-same, targets-add, targets-same, target-append, split-targets}
 use Rattle.xliff.proofs.rules.Unused.{highest-fits}

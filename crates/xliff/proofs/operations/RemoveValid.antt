@@ -1,4 +1,5 @@
 -- An accepted removal leaves a valid table: 7 and 9 are tried anew by the operation, 5, 6, 8 and 10 are kept.
+use borrow.Author.Tests.{not-true}
 use Prim.Native.Nat.{ℕ, _+_}
 use native.Mathlib.Omega.{arith}
 use mathlib.Core.Path.{_≡_, refl, sym, ap, ap₂, _∙_, subst}
@@ -20,7 +21,7 @@ use Rattle.xliff.specs.RemoveTarget.{remove-focus, remove-unit, lacks-ta
 use Rattle.xliff.proofs.lists.Sum.{sum-append}
 use Rattle.xliff.specs.Good.{each-cons, GoodHead, GoodParts}
 use Rattle.xliff.proofs.lists.Each.{each-append, each-apart}
-use Rattle.xliff.proofs.lists.Tests.{or-right, and-left, and-right, and-both, not-true}
+use Rattle.xliff.proofs.lists.Tests.{or-right, and-left, and-right, and-both}
 use Rattle.xliff.proofs.operations.Sources.{focus-here, source-append}
 use Rattle.xliff.proofs.rules.Orders.{orders-fit}
 use Rattle.xliff.proofs.operations.SplitTarget.{orders-append, fault-5-fits}

@@ -1,4 +1,5 @@
 -- An accepted rewrite leaves a valid table.
+use borrow.Author.Tests.{not-false}
 use Prim.Native.Nat.{ℕ}
 use mathlib.Core.Path.{Path, _≡_, refl, sym, ap, ap₂, _∙_, subst}
 use mathlib.Core.Bool.{Bool, true, false, not, _||_, cond, true≢false}
@@ -16,7 +17,7 @@ use Rattle.xliff.specs.Focus.{with-parts}
 use Rattle.xliff.specs.Rewrite.{form-of, rewrite-item, rewrite-target, rewrite-part, rewrite-unit, side-content, side-sequence, Whole, find-whole, are-partners, unfit-letter, to-P-refusal, already, pair-refusal, rewrite-refusal, rewrite}
 use Rattle.xliff.specs.Good.{each-nil, each-cons, GoodIn, GoodTarget, GoodPart, GoodParts}
 use Rattle.xliff.proofs.lists.Each.{each-map}
-use Rattle.xliff.proofs.lists.Tests.{or-left, or-right, not-false}
+use Rattle.xliff.proofs.lists.Tests.{or-left, or-right}
 use Rattle.xliff.proofs.operations.Sources.{rewrite-source}
 use Rattle.xliff.proofs.operations.JoinTarget.{rewrite-target-sequence}
 use Rattle.xliff.proofs.rules.Flat.{rule-9-kept, rule-10-kept}

@@ -7,7 +7,7 @@ use mathlib.Core.Option.{none}
 use native.Mathlib.Omega.{arith}
 use lib.ListN.{length, length-append}
 use lib.Dec.{eqb, ltb}
-use borrow.Author.Tests.{eq-eqb, ne-eqb, le-ltb}
+use borrow.Author.Tests.{eq-eqb, ne-eqb, le-ltb, not-false}
 use Rattle.xliff.specs.Bytes.{Bytes, among, gather}
 use Rattle.xliff.specs.Answer.{refusal, applies, result}
 use Rattle.xliff.specs.Item.{Content}
@@ -20,7 +20,7 @@ use Rattle.xliff.specs.Focus.{Focus, nowhere, here, focus, with-parts}
 use Rattle.xliff.specs.SetTarget.{state-fits, lowest-unused, new-order, set-focus, set-unit, set-refusal, set-target}
 use Rattle.xliff.specs.Good.{each-cons, GoodHead, GoodParts}
 use Rattle.xliff.proofs.lists.Each.{each-append, each-apart}
-use Rattle.xliff.proofs.lists.Tests.{or-left, or-right, and-right, not-false, or-both}
+use Rattle.xliff.proofs.lists.Tests.{or-left, or-right, and-right, or-both}
 use Rattle.xliff.proofs.operations.Sources.{focus-here, focus-at}
 use Rattle.xliff.proofs.rules.Orders.{orders-fit}
 use Rattle.xliff.proofs.operations.SplitTarget.{orders-append, fault-5-fits}

@@ -7,14 +7,14 @@ use mathlib.Core.Option.{none}
 use native.Mathlib.Omega.{arith}
 use lib.ListN.{length, length-append, length-map}
 use lib.Dec.{eqb, ltb}
-use borrow.Author.Tests.{eqb-false, ne-eqb, ltb-true, ltb-false, le-ltb}
+use borrow.Author.Tests.{eqb-false, ne-eqb, ltb-true, ltb-false, le-ltb, not-true}
 use Rattle.xliff.specs.Bytes.{among, gather}
 use Rattle.xliff.specs.Unit.{Target, no-target, target, Part, order-list, orders}
 use Rattle.xliff.specs.Sequences.{located}
 use Rattle.xliff.specs.Rules.{bad-order, fault-5}
 use Rattle.xliff.specs.Focus.{here, order-target, order-part, order-parts}
 use Rattle.xliff.specs.Split.{raise-above, first-target, second-target, first-half, second-half, split-order, split-focus}
-use Rattle.xliff.proofs.lists.Tests.{or-left, or-right, and-left, and-right, map-append, not-true, or-both}
+use Rattle.xliff.proofs.lists.Tests.{or-left, or-right, and-left, and-right, map-append, or-both}
 use Rattle.xliff.proofs.rules.Orders.{orders-fit, order-fits, eqb-same}
 use Rattle.xliff.proofs.operations.SplitTarget.{orders-append, fault-5-fits}
 use Rattle.xliff.proofs.operations.SetValid.{rule-5-back, insert-fits, among-append}

@@ -7,7 +7,7 @@ use mathlib.Core.Option.{none}
 use native.Mathlib.Omega.{arith}
 use lib.ListN.{length, length-append, length-map}
 use lib.Dec.{eqb}
-use borrow.Author.Tests.{ne-eqb, ltb-false}
+use borrow.Author.Tests.{ne-eqb, ltb-false, not-true}
 use Rattle.xliff.specs.Bytes.{gather, among}
 use Rattle.xliff.specs.Item.{Content, flattened}
 use Rattle.xliff.specs.Unit.{Target, no-target, target, Part, of-order, target-of-order, targets, target-sequence, order-list, orders}
@@ -15,7 +15,7 @@ use Rattle.xliff.specs.Sequences.{located}
 use Rattle.xliff.specs.Rules.{bad-order, fault-5}
 use Rattle.xliff.specs.Focus.{Focus, nowhere, here, focus, order-parts}
 use Rattle.xliff.specs.Split.{raise-above, first-items, second-items, first-target, second-target, first-half, second-half, split-order, split-focus}
-use Rattle.xliff.proofs.lists.Tests.{gather-append, or-left, or-right, and-left, and-right, not-true}
+use Rattle.xliff.proofs.lists.Tests.{gather-append, or-left, or-right, and-left, and-right}
 use Rattle.xliff.proofs.operations.Sources.{focus-here, flattened-append, flattened-halves}
 use Rattle.xliff.proofs.rules.Orders.{orders-fit, rule-5, order-fits, unused-order, moved, targets-add, targets-same, target-append, split-targets}
 

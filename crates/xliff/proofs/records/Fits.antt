@@ -7,7 +7,7 @@ use mathlib.Core.Bool.{Bool, true, false, not, _&&_, _||_, cond, false≢true}
 use mathlib.Core.List.{List, [], _∷_, _++_}
 use lib.Dec.{eqb, ltb}
 use lib.ListN.{length, length-append}
-use borrow.Author.Tests.{eqb-true, ltb-true, ltb-false}
+use borrow.Author.Tests.{eqb-true, ltb-true, ltb-false, not-true}
 use Rattle.xliff.specs.Parse.{most-bytes}
 use Rattle.xliff.specs.Bytes.{'-', 'E', 'F', 'G', 'I', 'N', 'R', 'S', 'T', 'U', 'X', 'Y', Bytes, no-bytes, one-byte, two, among, gather}
 use Rattle.xliff.specs.Text.{utf8-1, utf8-2, utf8-3, utf8-4, utf8, utf8s}
@@ -17,7 +17,7 @@ use Rattle.xliff.specs.Encode.{Record, opening, closing, part-head, targ
 use Rattle.xliff.specs.Rules.{bad-order}
 use Rattle.xliff.specs.Good.{Each, each-nil, each-cons, Allowed, no-text, one-point, GoodHead, GoodRecord, AllGood}
 use Rattle.xliff.proofs.lists.Each.{each-append, each-left, each-right}
-use Rattle.xliff.proofs.lists.Tests.{and-left, and-right, or-left, or-right, not-true}
+use Rattle.xliff.proofs.lists.Tests.{and-left, and-right, or-left, or-right}
 use Rattle.xliff.proofs.text.Utf8.{allowed-bound}
 use Rattle.xliff.proofs.rules.Orders.{orders-fit}
 

@@ -7,9 +7,7 @@ use mathlib.Core.Option.{Option, none, some}
 use native.Mathlib.Omega.{arith}
 use lib.ListN.{length, getD, take, drop, take-append-drop}
 use lib.Seq.{take-append-seam, drop-drop}
-use lib.Dec.{eqb}
-use borrow.Author.Tests.{eqb-true}
-use Rattle.xliff.specs.Bytes.{'-', 'C', 'E', 'G', 'H', 'I', 'M', 'N', 'O', 'P', 'S', 'T', 'U', 'X', 'Y', two, four, two-at, four-at, enough, among, Bytes}
+use Rattle.xliff.specs.Bytes.{'-', 'C', 'G', 'H', 'I', 'N', 'P', 'S', 'T', 'U', 'X', 'Y', two, four, two-at, four-at, enough, among, Bytes}
 use Rattle.xliff.specs.Text.{utf8s, text-of}
 use Rattle.xliff.specs.Item.{Item, Fields, start, end, Form, form-P, form-S, text, character, standalone, isolated, pair, annotation-start, annotation-end, mark}
 use Rattle.xliff.specs.Unit.{segment, ignorable}
@@ -17,6 +15,7 @@ use Rattle.xliff.specs.Encode.{Record, opening, closing, part-head, targ
 use Rattle.xliff.specs.Parse.{Mark, UN, UE, SG, IG, TG, TX, CP, PH, PO, PC, SC, EC, IS, IE, MO, SM, MC, EM, unknown, is-broken, is, mark-of, mark-at, whole, whole-part, opening-at, good-opening, segment-at, good-segment, code-at, good-id, good-code, code, mark-start, mark-end, text-record, read-as, read}
 use Rattle.xliff.proofs.lists.Tests.{and-left, and-right, two-value, two-bytes, four-value, four-bytes, enough-append, peel, byte-at}
 use Rattle.xliff.specs.Good.{gets, GoodItem, GoodRecord}
+use Rattle.xliff.proofs.records.Marks.{Spells, spells-at}
 use Rattle.xliff.proofs.text.Utf8.{text-of-utf8s, text-of-some}
 
 -- the fields of a code, read back
@@ -84,66 +83,7 @@ read-bytes (inline x) t g = read-item x t g
 read-bytes ill-text t g = absurd g
 read-bytes (broken b) t g = absurd g
 
--- The other way round. The two bytes that a mark is
-abbrev Spells : ℕ → ℕ → Mark → Type 0
-Spells a b UN = (a ≡ 'U') × (b ≡ 'N')
-Spells a b UE = (a ≡ 'U') × (b ≡ 'E')
-Spells a b SG = (a ≡ 'S') × (b ≡ 'G')
-Spells a b IG = (a ≡ 'I') × (b ≡ 'G')
-Spells a b TG = (a ≡ 'T') × (b ≡ 'G')
-Spells a b TX = (a ≡ 'T') × (b ≡ 'X')
-Spells a b CP = (a ≡ 'C') × (b ≡ 'P')
-Spells a b PH = (a ≡ 'P') × (b ≡ 'H')
-Spells a b PO = (a ≡ 'P') × (b ≡ 'O')
-Spells a b PC = (a ≡ 'P') × (b ≡ 'C')
-Spells a b SC = (a ≡ 'S') × (b ≡ 'C')
-Spells a b EC = (a ≡ 'E') × (b ≡ 'C')
-Spells a b IS = (a ≡ 'I') × (b ≡ 'S')
-Spells a b IE = (a ≡ 'I') × (b ≡ 'E')
-Spells a b MO = (a ≡ 'M') × (b ≡ 'O')
-Spells a b SM = (a ≡ 'S') × (b ≡ 'M')
-Spells a b MC = (a ≡ 'M') × (b ≡ 'C')
-Spells a b EM = (a ≡ 'E') × (b ≡ 'M')
-Spells a b unknown = Unit {0}
-
-is-true : (m n a b : ℕ) → is m n a b ≡ true → (a ≡ m) × (b ≡ n)
-unfolding is
-is-true m n a b p = (eqb-true a m (and-left _ _ p), eqb-true b n (and-right (eqb a m) _ p))
-
-one-mark : (a b : ℕ) (t : Bool) (m n : Mark) → (t ≡ true → Spells a b m) → Spells a b n → Spells a b (cond t m n)
-one-mark a b true m n f g = f refl
-one-mark a b false m n f g = g
-
-spells : (a b : ℕ) → Spells a b (mark-of a b)
-unfolding mark-of
-spells a b =
-    one-mark a b _ UN _ (is-true 'U' 'N' a b) (
-    one-mark a b _ UE _ (is-true 'U' 'E' a b) (
-    one-mark a b _ SG _ (is-true 'S' 'G' a b) (
-    one-mark a b _ IG _ (is-true 'I' 'G' a b) (
-    one-mark a b _ TG _ (is-true 'T' 'G' a b) (
-    one-mark a b _ TX _ (is-true 'T' 'X' a b) (
-    one-mark a b _ CP _ (is-true 'C' 'P' a b) (
-    one-mark a b _ PH _ (is-true 'P' 'H' a b) (
-    one-mark a b _ PO _ (is-true 'P' 'O' a b) (
-    one-mark a b _ PC _ (is-true 'P' 'C' a b) (
-    one-mark a b _ SC _ (is-true 'S' 'C' a b) (
-    one-mark a b _ EC _ (is-true 'E' 'C' a b) (
-    one-mark a b _ IS _ (is-true 'I' 'S' a b) (
-    one-mark a b _ IE _ (is-true 'I' 'E' a b) (
-    one-mark a b _ MO _ (is-true 'M' 'O' a b) (
-    one-mark a b _ SM _ (is-true 'S' 'M' a b) (
-    one-mark a b _ MC _ (is-true 'M' 'C' a b) (
-    one-mark a b _ EM _ (is-true 'E' 'M' a b) (
-    tt))))))))))))))))))
-
-spells-at : (s : List ℕ) → Spells (getD s 0 0) (getD s 1 0) (mark-at s)
-unfolding mark-at
-spells-at [] = tt
-spells-at (a ∷ []) = tt
-spells-at (a ∷ b ∷ s) = spells a b
-
--- a record that was read from the front of s: its fields are good, and s begins with its bytes
+-- The other way round: a record that was read from the front of s: its fields are good, and s begins with its bytes
 pub record ReadFrom (s : List ℕ) (r : Record) : Type 0 where
   pub good : GoodRecord r
   pub bytes : s ≡ record-bytes r ++ drop (length (record-bytes r)) s

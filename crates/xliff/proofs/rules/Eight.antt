@@ -1,5 +1,6 @@
 -- What keeps rule 8: sequences whose forms change, where each end that takes the mark of pc has the PC letter; and
 -- sequences from which a stretch is taken out.
+use borrow.Author.Tests.{not-true}
 use Prim.Native.Nat.{ℕ, _+_}
 use mathlib.Core.Path.{_≡_, refl, sym, ap, ap₂, _∙_, subst}
 use mathlib.Core.Bool.{Bool, true, false, not, _&&_, _||_, cond, true≢false, false≢true}
@@ -11,7 +12,7 @@ use Rattle.xliff.specs.Bytes.{'F', 'N', any}
 use Rattle.xliff.specs.Item.{Item, Content, Fields, flat, flattened, fields, is-pair, is-code, is-end-half, is-form-P, is-fixed, other-half}
 use Rattle.xliff.specs.Unit.{Part, source-sequence, target-sequence}
 use Rattle.xliff.specs.Rules.{nearest, end-letter, ill-matched, ill-ended, fixed-but-free, is-F, unled, bad-8-target, bad-8-source, fault-8}
-use Rattle.xliff.proofs.lists.Tests.{and-left, and-right, or-left, or-right, and-both, and-false, not-true, or-both, or-none}
+use Rattle.xliff.proofs.lists.Tests.{and-left, and-right, or-left, or-right, and-both, and-false, or-both, or-none}
 use Rattle.xliff.proofs.rules.Sequences.{clear, rule-8, rule-8-back, clear-cong}
 use Rattle.xliff.proofs.operations.Sources.{flat-in-form}
 use Rattle.xliff.proofs.rules.Flat.{class-flat, id-flat, half-flat, fields-flat, other-half-flat, any-flat, class-alike, half-alike, fields-alike}

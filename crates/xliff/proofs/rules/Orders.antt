@@ -7,7 +7,7 @@ use mathlib.Core.Option.{none}
 use native.Mathlib.Omega.{arith}
 use lib.ListN.{length, length-append, length-map}
 use lib.Dec.{eqb, ltb}
-use borrow.Author.Tests.{eqb-true, eqb-false, eq-eqb, ne-eqb, ltb-true, ltb-false}
+use borrow.Author.Tests.{eqb-true, eqb-false, eq-eqb, ne-eqb, ltb-true, ltb-false, not-true}
 use Rattle.xliff.specs.Bytes.{gather, among}
 use Rattle.xliff.specs.Answer.{refusal}
 use Rattle.xliff.specs.Item.{Content}
@@ -16,7 +16,7 @@ use Rattle.xliff.specs.Sequences.{located-from, part-size, order-at}
 use Rattle.xliff.specs.Rules.{bad-order, first-bad-order}
 use Rattle.xliff.specs.Focus.{order-target, order-part, order-parts}
 use Rattle.xliff.specs.Split.{raise-above}
-use Rattle.xliff.proofs.lists.Tests.{none-some, gather-append, or-left, or-right, and-left, and-right, not-true, or-both}
+use Rattle.xliff.proofs.lists.Tests.{none-some, gather-append, or-left, or-right, and-left, and-right, or-both}
 
 -- rule 5 without offsets
 unfoldable pub orders-fit : ℕ → List ℕ → List ℕ → Bool

@@ -7,11 +7,11 @@ use mathlib.Core.List.{[], _∷_, _++_, reverseAux}
 use mathlib.Core.Logic.{_⊎_, inl, inr}
 use mathlib.Core.Option.{Option, none, some}
 use lib.Dec.{eqb}
-use borrow.Author.Tests.{eqb-true, eq-eqb}
+use borrow.Author.Tests.{eqb-true, eq-eqb, not-true}
 use Rattle.xliff.specs.Item.{Item, Content, half, class, id-of, is-pair, is-start, is-start-half, is-end-half, alike, other-half}
 use Rattle.xliff.specs.Rules.{starts-id, nearest, ill-ended, fixed-but-free, bad-8-target, bad-10-target, unlike-source, bad-copy}
 use Rattle.xliff.proofs.lists.Sum.{bit, sum, sum-append}
-use Rattle.xliff.proofs.lists.Tests.{and-left, and-right, or-right, and-both, not-true, rev-append}
+use Rattle.xliff.proofs.lists.Tests.{and-left, and-right, or-right, and-both, rev-append}
 use Rattle.xliff.proofs.rules.Sequences.{clear, clear-drop}
 use Rattle.xliff.proofs.rules.Six.{start-bit, starts}
 use Rattle.xliff.proofs.rules.Seven.{start-half-start}

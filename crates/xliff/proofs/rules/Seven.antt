@@ -1,5 +1,6 @@
 -- RULE 7, given rule 6, is this: for every id the halves in a sequence have a shape, and the marks of pc and mrk of
 -- every content are balanced.
+use borrow.Author.Tests.{not-true}
 use Prim.Native.Nat.{ℕ, zero, suc, _+_, _≤_}
 use native.Mathlib.Omega.{arith}
 use mathlib.Core.Path.{_≡_, refl, sym, ap, ap₂, _∙_, subst}
@@ -15,7 +16,7 @@ use Rattle.xliff.specs.Sequences.{Located, located-from, located, part-s
 use Rattle.xliff.specs.Rules.{starts-id, half-of-id, lone-P, lone-S, may-be-lone, lone-in-target, with-partner, waiting, fault-7}
 use Rattle.xliff.proofs.lists.Sum.{bit, sum, sum-append, sum-le}
 use Rattle.xliff.specs.Good.{Each, each-nil, each-cons}
-use Rattle.xliff.proofs.lists.Tests.{and-left, and-right, not-true}
+use Rattle.xliff.proofs.lists.Tests.{and-left, and-right}
 use Rattle.xliff.proofs.rules.Sequences.{clear, blamed-clear, clear-blamed, first-of-none, append-nil-left, append-nil-right, items-placed, items-source, items-target, clear-cong, clear-drop}
 use Rattle.xliff.proofs.rules.Stack.{r-nil, Bal}
 use Rattle.xliff.proofs.rules.Balance.{Balanced, clear-balanced, balanced-clear}

@@ -7,7 +7,7 @@ use mathlib.Core.List.{List, [], _∷_, _++_}
 use mathlib.Core.Logic.{_⊎_, inl, inr}
 use mathlib.Core.Option.{none}
 use lib.Dec.{eqb}
-use borrow.Author.Tests.{eqb-true, eq-eqb}
+use borrow.Author.Tests.{eqb-true, eq-eqb, not-true}
 use Rattle.xliff.specs.Bytes.{any, gather}
 use Rattle.xliff.specs.Answer.{refusal}
 use Rattle.xliff.specs.Item.{Item, Content, id-of, is-start}
@@ -15,7 +15,7 @@ use Rattle.xliff.specs.Unit.{Target, no-target, target, Part, head-id, t
 use Rattle.xliff.specs.Sequences.{Located, located-from, located, part-size, source-at, target-at, Placed, placed-from, placed-source, placed-target, items}
 use Rattle.xliff.specs.Rules.{Owner, of-part, of-source, of-target, Named, start-name, part-name, names, may-share, clashes, first-clash, fault-6, starts-id}
 use Rattle.xliff.proofs.lists.Sum.{bit, sum, sum-append}
-use Rattle.xliff.proofs.lists.Tests.{none-some, and-left, and-right, or-left, or-right, not-true}
+use Rattle.xliff.proofs.lists.Tests.{none-some, and-left, and-right, or-left, or-right}
 use Rattle.xliff.proofs.rules.Sequences.{items-placed}
 
 -- how many starts of a content have the id i; whether a part has it

@@ -8,13 +8,13 @@ use mathlib.Core.List.{List, [], _∷_, _++_}
 use mathlib.Core.Option.{none}
 use lib.Dec.{eqb, ltb}
 use lib.ListN.{length}
-use borrow.Author.Tests.{eqb-true, eqb-false, ne-eqb, ltb-false}
+use borrow.Author.Tests.{eqb-true, eqb-false, ne-eqb, ltb-false, not-true}
 use Rattle.xliff.specs.Bytes.{among, gather}
 use Rattle.xliff.specs.Item.{Item, Content}
 use Rattle.xliff.specs.Unit.{Target, no-target, target, Part, target-items, source-sequence, of-order, target-of-order, targets, target-sequence, order-list, orders}
 use Rattle.xliff.specs.Rules.{bad-order, fault-5}
 use Rattle.xliff.proofs.lists.Sum.{sum, sum-append, sum-cong, sum-gather, sum-add, sum-le}
-use Rattle.xliff.proofs.lists.Tests.{and-left, and-right, or-left, or-right, not-true}
+use Rattle.xliff.proofs.lists.Tests.{and-left, and-right, or-left, or-right}
 use Rattle.xliff.proofs.rules.Orders.{orders-fit}
 use Rattle.xliff.proofs.operations.SplitTarget.{fault-5-fits}
 

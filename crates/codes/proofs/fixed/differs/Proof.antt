@@ -1,3 +1,4 @@
+use borrow.Author.Tests.{not-true, not-false}
 use mathlib.Core.Bool.{not}
 use mathlib.Core.Path.{sym, ap, _∙_}
 use Prim.Native.Nat.{_≤_, _-_}
@@ -5,7 +6,6 @@ use native.Mathlib.Omega.{arith}
 use lib.ListN.{length}
 use Rattle.xliff.specs.Item.{Content}
 use Rattle.xliff.specs.Encode.{content-records}
-use Rattle.xliff.proofs.lists.Tests.{not-true, not-false}
 use Rattle.walk.specs.Kept.{Holds}
 use Rattle.walk.proofs.WalkLaws.{rest-start}
 use Rattle.codes.proofs.ListLaws.{Compared, compared-start, compared-on, compared-off, compared-short, compared-end, behind-old, behind-new, lists-differ}

@@ -1,6 +1,6 @@
+use borrow.Author.Tests.{not-true, not-false}
 use mathlib.Core.Path.{sym, _∙_}
 use lib.ListN.{drop}
-use Rattle.xliff.proofs.lists.Tests.{not-true, not-false}
 use Rattle.walk.specs.Kept.{items}
 use Rattle.codes.proofs.LostLaws.{lost-none, lost-some}
 use borrow.Author.Needs.{needs}

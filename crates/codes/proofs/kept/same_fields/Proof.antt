@@ -1,4 +1,4 @@
-use Rattle.xliff.proofs.lists.Tests.{not-true, not-false}
+use borrow.Author.Tests.{not-true, not-false}
 use Rattle.codes.proofs.LostLaws.{same-from, same-start, same-on, same-off, same-end}
 use Rattle.codes.specs.Lost.{fieldsAt}
 use Rattle.xliff.specs.Bytes.{equal}
