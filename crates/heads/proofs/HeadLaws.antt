@@ -9,7 +9,7 @@ use Rattle.table.specs.Meaning.{segment-meaning}
 use Rattle.xliff.specs.Bytes.{two, two-at}
 use Rattle.xliff.specs.Unit as unit
 use Rattle.xliff.specs.Unit.{Head, segment, ignorable, with-id, with-state}
-use Rattle.xliff.specs.Encode.{opening, target-head, record-bytes, head-bytes}
+use Rattle.xliff.specs.Encode.{target-head, record-bytes, head-bytes}
 use Rattle.xliff.specs.Parse.{segment-at}
 use Rattle.xliff.proofs.lists.Tests.{two-value}
 use Rattle.marks.specs.Marks.{marked}

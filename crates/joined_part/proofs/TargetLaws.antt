@@ -4,7 +4,7 @@ use mathlib.Core.Path.{_≡_, sym, ap, ap₂, _∙_}
 use mathlib.Core.List.{List, _++_}
 use native.Mathlib.Omega.{arith}
 use lib.ListN.{length, length-drop}
-use Rattle.xliff.specs.Unit.{Target, target}
+use Rattle.xliff.specs.Unit.{Target}
 use Rattle.xliff.specs.Encode.{target-head, record-bytes, content-bytes}
 use Rattle.xliff.specs.Focus.{order-target}
 use Rattle.xliff.specs.Join.{join-targets}

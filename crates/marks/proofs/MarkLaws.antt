@@ -12,7 +12,7 @@ use borrow.Author.Tests.{eqb-true, eq-eqb, ne-eqb, not-false}
 use types.Run.{OneOf, miss}
 use denote.Enum.Declared.{tagOf}
 use Rattle.xliff.specs.Parse as parse
-use Rattle.xliff.specs.Parse.{unknown, is, mark-of, mark-at, size-of}
+use Rattle.xliff.specs.Parse.{unknown, mark-of, mark-at, size-of}
 use Rattle.xliff.proofs.lists.Tests.{and-left, and-right, and-both, or-left, or-right, or-both}
 use Rattle.xliff.proofs.records.Marks.{mark-bytes, Both, Spells, spells-at}
 use Rattle.marks.specs.Marks.{marked, mark-number, same-mark, one-of, meaning, fixedWidth}

@@ -6,7 +6,7 @@ use limits::MOST_RECORDS;
 ghost use mathlib.Core.Path.{_≡_};
 ghost use mathlib.Core.Bool.{true, false};
 ghost use mathlib.Core.List.{[], reverse};
-ghost use Prim.Native.Nat.{_+_, _/_, _<_, _≤_};
+ghost use Prim.Native.Nat.{_+_, _<_, _≤_};
 ghost use lib.ListN.{length, take, drop, getD};
 ghost use Rattle.xliff.specs.Bytes.{any, gather};
 ghost use Rattle.xliff.specs.Parse.{unit, most-bytes, most-records};

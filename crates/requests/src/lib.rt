@@ -3,7 +3,7 @@ ghost use mathlib.Core.Path.{_≡_};
 ghost use mathlib.Core.Bool.{cond};
 ghost use mathlib.Core.Option.{none};
 ghost use Prim.Native.Nat.{_+_, _<_};
-ghost use lib.ListN.{length, getD, take, drop};
+ghost use lib.ListN.{getD, take, drop};
 ghost use Rattle.xliff.specs.Bytes.{two-at, enough};
 ghost use Rattle.xliff.specs.Calls.{SP, JN, ST, RT, RW};
 ghost use Rattle.xliff.specs.Desk.{lent, asked, request};

@@ -22,7 +22,7 @@ use Rattle.table.specs.declared.Read.the-variants.{Good}
 use Rattle.glance.specs.declared.Glance.{Glance}
 use Rattle.glance.specs.Glances.{headIn, isMarker, markerIn}
 use Rattle.orders.proofs.WalkLaws.{Walked}
-use Rattle.sequences.specs.Marks.{places, ReadMarked, insideOf, insideSource, offsets}
+use Rattle.sequences.specs.Marks.{places, ReadMarked, insideOf, insideSource}
 use Rattle.sequences.specs.Targets.{TargetHead, head-here, heads-from, content-marks}
 use Rattle.sequences.proofs.MarkLaws.{isolated-marked, inline-marked, marks-step}
 

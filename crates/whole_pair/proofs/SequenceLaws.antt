@@ -15,7 +15,6 @@ use Rattle.xliff.specs.Rules.{nearest}
 use Rattle.xliff.specs.Rewrite.{ended-by, find-whole, side-sequence}
 use Rattle.xliff.proofs.rules.Sequences.{items-target}
 use Rattle.places.specs.Passes.{Passes}
-use Rattle.places.specs.Found.{markers}
 use Rattle.places.specs.Markers.{is-marked, only-markers, placed-at, target-offsets}
 use Rattle.places.proofs.Tests.{targets-back, source-items, length-located, marked-items}
 use Rattle.views.specs.Views.{itemsAt}

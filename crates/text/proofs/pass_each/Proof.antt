@@ -1,7 +1,7 @@
 use lib.ListN.{length, drop, length-drop}
 use native.Mathlib.Omega.{arith}
 use mathlib.Core.Path.{_≡_, sym, _∙_, refl}
-use Prim.Native.Nat.{_+_, _-_, _≤_}
+use Prim.Native.Nat.{_-_, _≤_}
 use borrow.Author.Tests.{not-true, not-false}
 use Rattle.xliff.proofs.lists.Slices.{tail-is}
 use Rattle.text.specs.Utf8.{textOk}

@@ -9,7 +9,7 @@ use mathlib.Core.Option.{none}
 use lib.ListN.{length, length-append, length-map}
 use Rattle.xliff.proofs.lists.Tests.{and-false, and-true}
 use Rattle.xliff.specs.Bytes.{Bytes, gather}
-use Rattle.xliff.specs.Answer.{Refusal, applies, _then_, Outcome, result, refuse, answer, is-accepted, next-table}
+use Rattle.xliff.specs.Answer.{Refusal, applies, Outcome, result, refuse, answer, is-accepted, next-table}
 use Rattle.xliff.specs.Item.{Item, Content, flattened, non-removable}
 use Rattle.xliff.specs.Unit.{Part, XliffUnit, is-closed, source-sequence, target-sequence}
 use Rattle.xliff.specs.Parse.{unit, content, content-fault}
