@@ -12,7 +12,7 @@ use Rattle.xliff.specs.Item.{Item, Content, text, in-form, form-S, id-of}
 use Rattle.xliff.specs.Encode.{Record, text-run, inline, record-bytes, spell, content-records, content-bytes}
 use Rattle.xliff.specs.Parse.{Reading, reading, take-record}
 use Rattle.xliff.specs.Split.{cut-item, first-items, second-items}
-use Rattle.xliff.proofs.lists.Tests.{map-append}
+use Rattle.xliff.proofs.lists.Tests.{map-append, map-same}
 use Rattle.xliff.specs.Good.{Allowed, no-text, one-point}
 use Rattle.xliff.proofs.records.Parse.{reading-content, onto}
 use Rattle.walker.specs.Offsets.{WidthAt}
@@ -58,10 +58,6 @@ unfolding cut-item
 beyond-behind ys cs x =
     ap (λ (b : Bool). cond b (in-form form-S x) x) (any-other x (ys ++ map text cs) ∙ texts-behind (kind x) (id-of x) ys cs
     ∙ sym (any-other x ys))
-
-map-same : (f g : Item → Item) → ((x : Item) → f x ≡ g x) → (xs : Content) → map f xs ≡ map g xs
-map-same f g h [] = refl
-map-same f g h (x ∷ xs) = ap₂ _∷_ (h x) (map-same f g h xs)
 
 -- cut between two records
 module _ (k : ℕ) (a b : List Record) (kp : Kept false (a ++ b)) where

@@ -1,26 +1,25 @@
 -- The records of a table with their offsets, and the items of its contents with theirs: the same, but for texts.
 use Rattle.places.specs.Offsets.{At, Inner, no-inner, text-inner, inline-inner}
 use Rattle.xliff.specs.Good.{each-cons, GoodRecord, AllGood, part-heads}
-use Prim.Native.Nat.{ℕ, suc, _+_, _-_, _<_, _≤_}
+use Prim.Native.Nat.{ℕ, _+_, _-_, _<_, _≤_}
 use mathlib.Core.Path.{_≡_, refl, sym, ap, _∙_, subst}
-use mathlib.Core.Bool.{Bool, true, false, _&&_, cond, true≢false}
-use mathlib.Core.List.{List, [], _∷_, _++_, map, reverse, reverseAux, append-assoc, append-nil}
+use mathlib.Core.Bool.{Bool, true, false, true≢false}
+use mathlib.Core.List.{List, [], _∷_, _++_, reverse, reverseAux, append-assoc, append-nil}
 use mathlib.Core.Option.{none}
 use native.Mathlib.Omega.{arith}
 use lib.ListN.{length, drop, length-append, length-drop}
-use borrow.Author.Tests.{eqb-false}
 use lib.Seq.{drop-append-seam, drop-drop}
-use lib.Dec.{eqb}
 use Rattle.xliff.specs.Bytes.{gather, Bytes}
 use Rattle.xliff.specs.Item.{Item, Content, text, character, standalone, isolated, pair, annotation-start, annotation-end}
 use Rattle.xliff.specs.Encode.{Record, opening, closing, part-head, target-head, text-run, inline, ill-text, broken, record-bytes, text-before, item-before, content-records, unit-records, spell, content-bytes, encode}
-use Rattle.xliff.specs.Parse.{Entry, table-fault, unit, records, entries, read, is-part, first-bad, most-records, most-parts, Stage, unit-due}
+use Rattle.xliff.specs.Parse.{Entry, table-fault, unit, records, entries, read, most-records, most-parts, unit-due}
 use Rattle.xliff.specs.Sequences.{Placed, placed-from}
 use Rattle.xliff.proofs.lists.Tests.{gather-append}
 use Rattle.xliff.proofs.records.Parse.{placed, good-length}
 use Rattle.xliff.proofs.records.Read.{read-bytes}
 use Rattle.xliff.proofs.unit.Valid.{unit-good}
-use Rattle.xliff.proofs.unit.Table.{table-walked, shape, closed-off, encode-unit, first-bad-cons}
+use Rattle.xliff.proofs.unit.Table.{table-walked, encode-unit}
+use Rattle.xliff.proofs.unit.Limits.{few-from, own-records}
 use Rattle.xliff.specs.Check.{table-refusal}
 use Rattle.xliff.proofs.unit.Result.{then-left, then-right}
 use Rattle.places.specs.Passes.{Passes}
@@ -208,29 +207,10 @@ unfolding content-records
 content-inner [] = no-inner
 content-inner (x ∷ xs) = inner-item x (content-inner xs)
 
--- how many records and parts there are where none is bad
-few-by : (b : Bool) (left parts n k : ℕ) → eqb left 0 ≡ false → b && eqb parts 0 ≡ false → (n ≤ left - 1) × (k ≤ cond b (parts - 1) parts)
-    → (suc n ≤ left) × (cond b 1 0 + k ≤ parts)
-few-by true left parts n k p q h = let a = eqb-false left 0 p in let c = eqb-false parts 0 q in (omega (arith, a, h .0), omega (arith, c, h .1))
-few-by false left parts n k p q h = let a = eqb-false left 0 p in (omega (arith, a, h .0), omega (arith, h .1))
-
-few-from : (size left parts : ℕ) (st : Stage) (es : List Entry) → first-bad size left parts st es ≡ none
-    → (length (map (λ (e : Entry). e .the) es) ≤ left) × (part-heads (map (λ (e : Entry). e .the) es) ≤ parts)
-unfolding part-heads
-few-from size left parts st [] h = (omega arith, omega arith)
-few-from size left parts st (e ∷ es) h =
-    let p = first-bad-cons size left parts st e es h in
-    few-by (is-part (e .the)) left parts (length (map (λ (e : Entry). e .the) es)) (part-heads (map (λ (e : Entry). e .the) es)) (p .left-over) (p .parts-left)
-    (few-from size (left - 1) (cond (is-part (e .the)) (parts - 1) parts) (p .stage) es (p .others))
-
-the-records : (t : List ℕ) → Bytes t → table-fault t ≡ none → unit-records (unit t) ≡ records t
-unfolding unit unit-records closed-off records
-the-records t h k = shape unit-due (records t) (table-walked t h k .runs)
-
 pub passes : (t : List ℕ) → Bytes t → table-fault t ≡ none → Passes t
 unfolding encode records table-fault
 passes t h k =
-    let e = the-records t h k in
+    let e = own-records t h k in
     let n = few-from (length t) most-records most-parts unit-due (entries t) k in
     record {
       good = subst AllGood (sym e) (table-walked t h k .good);

@@ -5,3 +5,4 @@ pub mod unit
 pub mod rules
 pub mod operations
 pub mod both_ends
+pub mod rejoin

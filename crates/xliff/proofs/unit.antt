@@ -4,3 +4,5 @@ pub mod Table
 pub mod Valid
 pub mod Result
 pub mod Accepted
+pub mod Limits
+pub mod FlatSize

@@ -24,6 +24,7 @@ pub mod RemoveTarget
 pub mod Rewrite
 pub mod Calls
 pub mod BothEnds
+pub mod Rejoin
 pub mod Desk
 -- The worked examples
 pub mod examples

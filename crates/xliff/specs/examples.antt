@@ -4,3 +4,4 @@ pub mod Bench
 pub mod Delicate
 pub mod Limits
 pub mod Desk
+pub mod Rejoin

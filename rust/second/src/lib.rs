@@ -1,11 +1,13 @@
-//! The second implementation of the XLIFF unit desk, written from document 01 alone
-//! (`01-scope.md`, with the open points read as `readings.md` says), so that the
-//! proved desk program can be compared with it.
+//! The second implementation of the XLIFF unit desk, written from documents 01 and 02 alone
+//! (`01-scope.md` and the orders of `02-change-requests.md` that have landed, with the open
+//! points read as `readings.md` and `readings-02.md` say), so that the proved desk program can
+//! be compared with it.
 
 pub mod desk;
 pub mod generate;
 pub mod operations;
 pub mod record;
+pub mod rejoin;
 pub mod rules;
 pub mod table;
 pub mod tally;

@@ -1,5 +1,6 @@
 -- The operations keep numbers that fit into their bytes.
 use Prim.Native.Nat.{ℕ, _+_, _<_}
+use native.Mathlib.Omega.{arith}
 use mathlib.Core.Path.{_≡_, refl, sym, subst}
 use mathlib.Core.Bool.{Bool, true, false, cond}
 use mathlib.Core.List.{List, [], _∷_, _++_, map}
@@ -99,7 +100,7 @@ split-fits source-cut target-cut new ps n l f = by (focus ps n) refl
 -- Join
 head-one : (g h : Head) → head-id g < 65536 → head-id h < 65536 → head-id (join-heads g h) < 65536
 unfolding join-heads head-id
-head-one (ignorable i) (ignorable j) p q = p
+head-one (ignorable i) (ignorable j) p q = omega (arith, p, q)
 head-one (ignorable i) (segment g) p q = q
 head-one (segment f) (ignorable j) p q = p
 head-one (segment f) (segment g) p q = p

@@ -36,7 +36,7 @@ closed-orders c f [] = refl
 closed-orders c f (p ∷ ps) = ap (λ (l : List ClosedPart). closed-part c p ++ l) (closed-orders c f ps)
 
 -- Split
-open-with-id : (c i : ℕ) (h : Head) → eqb (resolved c h) 'N' ≡ false → eqb (resolved c (with-id i h)) 'N' ≡ false
+pub open-with-id : (c i : ℕ) (h : Head) → eqb (resolved c h) 'N' ≡ false → eqb (resolved c (with-id i h)) 'N' ≡ false
 unfolding resolved with-id
 open-with-id c i (segment f) e = e
 open-with-id c i (ignorable j) e = e

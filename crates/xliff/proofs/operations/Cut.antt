@@ -6,7 +6,7 @@ use mathlib.Core.List.{List, [], _∷_, _++_, map, append-assoc}
 use mathlib.Core.Option.{none}
 use lib.ListN.{take, drop, take-append-drop}
 use Rattle.xliff.specs.Bytes.{any, gather}
-use Rattle.xliff.specs.Item.{Item, Content, Half, start, end, form-S, in-form, flat, is-form-P, is-start-half, other-half, class, id-of}
+use Rattle.xliff.specs.Item.{Item, Content, Half, start, end, flat, is-form-P, is-start-half, other-half, class, id-of}
 use Rattle.xliff.specs.Unit.{Target, no-target, target, Part, has-target, target-items, source-sequence, target-sequence}
 use Rattle.xliff.specs.Rules.{fault-5}
 use Rattle.xliff.specs.Focus.{here, order-part, order-parts}
@@ -22,7 +22,7 @@ use Rattle.xliff.proofs.rules.Place.{place}
 use Rattle.xliff.proofs.rules.Stack.{Key, r-nil}
 use Rattle.xliff.proofs.rules.Balance.{key-of, Balanced}
 use Rattle.xliff.proofs.rules.Marks.{a-pair, Mk, mk, side, mark-of, marks, marks-cons, marks-append, Shape, Shape-mono, sh-pair, sh-lone, waits, opposite, anyMk, any-other, pm-half}
-use Rattle.xliff.proofs.rules.Turn.{turn, flat-same, anyMk-append, own-mark, seen-here, is-cut, cut-balances, Shape-turn, waits-turn}
+use Rattle.xliff.proofs.rules.Turn.{turn, same-form, anyMk-append, own-mark, seen-here, is-cut, cut-balances, Shape-turn, waits-turn}
 use Rattle.xliff.proofs.rules.Seven.{bare, bare-sequence, BalancedPart, AllBalanced, Good7}
 
 -- in a shape nothing comes before a start and nothing after an end
@@ -65,15 +65,7 @@ module _ (e : ℕ → ℕ → Half → Bool) (X a d Z : Content) (shapes : (i : 
   -- an item by whether its other half is beyond, or by its key
   same-turn : (beyond : Content) (x : Item) → (is-form-P x ≡ true → any (other-half x) beyond ≡ is-cut a d (key-of x)) → cut-item beyond x ≡ turn (is-cut a d) x
   unfolding cut-item turn flat
-  same-turn beyond x h = by (is-form-P x) refl
-    where
-      plain : (b : Bool) → is-form-P x ≡ false → cond b (in-form form-S x) x ≡ x
-      plain true p = flat-same x p
-      plain false p = refl
-
-      by : (p : Bool) → is-form-P x ≡ p → cond (any (other-half x) beyond) (in-form form-S x) x ≡ cond (is-cut a d (key-of x)) (in-form form-S x) x
-      by true p = ap (λ (b : Bool). cond b (in-form form-S x) x) (h p)
-      by false p = plain (any (other-half x) beyond) p ∙ sym (plain (is-cut a d (key-of x)) p)
+  same-turn beyond x h = same-form x (any (other-half x) beyond) (is-cut a d (key-of x)) h
 
   around : (before : Content) (x : Item) (behind : Content) → is-form-P x ≡ true → X ++ ((a ++ d) ++ Z) ≡ before ++ (x ∷ behind)
       → Shape (e (id-of x)) (marks (id-of x) before ++ (mark-of x ∷ marks (id-of x) behind))
@@ -140,6 +132,17 @@ module _ (e : ℕ → ℕ → Half → Bool) (X a d Z : Content) (shapes : (i : 
   pub right-turned : map (cut-item a) d ≡ map (turn (is-cut a d)) d
   right-turned = map-from (cut-item a) (turn (is-cut a d)) d [] d refl at-right
 
+-- A content, cut: together its two halves are the content with what is cut turned
+pub cut-together : (n : ℕ) (xs : Content) (e : ℕ → ℕ → Half → Bool) (X Z : Content) → ((i : ℕ) → Shape (e i) (marks i (X ++ (xs ++ Z))))
+    → first-items n xs ++ second-items n xs ≡ map (turn (is-cut (take n xs) (drop n xs))) xs
+unfolding first-items second-items
+cut-together n xs e X Z shapes =
+    let a : Content = take n xs in
+    let d : Content = drop n xs in
+    let whole : a ++ d ≡ xs = take-append-drop n xs in
+    let sh : (i : ℕ) → Shape (e i) (marks i (X ++ ((a ++ d) ++ Z))) = λ i. subst (λ (l : Content). Shape (e i) (marks i (X ++ (l ++ Z)))) (sym whole) (shapes i) in
+    ap₂ _++_ (left-turned e X a d Z sh) (right-turned e X a d Z sh) ∙ sym (map-append (turn (is-cut a d)) a d) ∙ ap (map (turn (is-cut a d))) whole
+
 -- A balanced content, cut: its two halves are balanced, and together they are the content with some keys turned
 pub record Cut (n : ℕ) (xs : Content) : Type 0 where
   pub keys : Key → Bool
@@ -159,7 +162,7 @@ cut-content n xs e X Z shapes b =
     let q = cut-balances a d (subst Balanced (sym whole) b) in
     record {
       keys = is-cut a d;
-      together = ap₂ _++_ l r ∙ sym (map-append (turn (is-cut a d)) a d) ∙ ap (map (turn (is-cut a d))) whole;
+      together = cut-together n xs e X Z shapes;
       first = subst Balanced (sym l) (q .0);
       second = subst Balanced (sym r) (q .1);
     }
@@ -193,7 +196,7 @@ balanced-orders f (p ∷ ps) (each-cons b h) =
     each-cons (record { source = b .source; target = subst Balanced (sym (items-order f (p .target))) (b .target) }) (balanced-orders f ps h)
 
 -- SPLIT
-abbrev after-split : ℕ → ℕ → ℕ → List Part → Part → List Part → List Part
+abbrev pub after-split : ℕ → ℕ → ℕ → List Part → Part → List Part → List Part
 after-split source-cut target-cut new b p a = order-parts (split-order (p .target)) b ++
     (first-half source-cut target-cut p ∷ second-half source-cut target-cut new p ∷ order-parts (split-order (p .target)) a)
 

@@ -189,7 +189,7 @@ lowered-own q o d = by (ltb q o) refl
     by true e = let g : q < o = ltb-true q o e in (λ p. absurd (d (let z : o ≡ suc q = omega arith in z)), λ p. absurd (let z : ⊥ = omega arith in z))
     by false e = (λ p. p, λ p. p)
 
-lower-self : (q : ℕ) → lower-above q q ≡ q
+pub lower-self : (q : ℕ) → lower-above q q ≡ q
 unfolding lower-above
 lower-self q = rw (le-ltb q q (omega arith))
 

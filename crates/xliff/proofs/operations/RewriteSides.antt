@@ -17,7 +17,7 @@ use Rattle.xliff.specs.Rewrite.{rewrite-item, rewrite-target, are-partne
 use Rattle.xliff.proofs.lists.Sum.{sum, sum-cong, sum-map}
 use Rattle.xliff.specs.Good.{Each, each-nil, each-cons}
 use Rattle.xliff.proofs.lists.Each.{each-weaken}
-use Rattle.xliff.proofs.lists.Tests.{map-append}
+use Rattle.xliff.proofs.lists.Tests.{map-append, map-stays}
 use Rattle.xliff.proofs.operations.Sources.{flat-rewrite}
 use Rattle.xliff.proofs.rules.Orders.{orders-fit}
 use Rattle.xliff.proofs.operations.SplitTarget.{fault-5-fits}
@@ -38,8 +38,7 @@ abbrev pub stay : Item → Item
 stay x = x
 
 pub map-stay : (xs : Content) → map stay xs ≡ xs
-map-stay [] = refl
-map-stay (x ∷ xs) = ap {B = Content} (λ l. x ∷ l) (map-stay xs)
+map-stay xs = map-stays stay (λ x. refl) xs
 
 -- CONTENTS of one side: those that hold the halves stay balanced, and no other changes
 module _ (i : ℕ) (content : Part → Content) where
@@ -66,13 +65,13 @@ module _ (i : ℕ) (content : Part → Content) where
           let (rest, two) = ih k in
           (each-cons (subst Balanced (sym (untouched i form-P (content p) (omega arith))) b) rest, omega arith)
 
-pub sources : (ps : List Part) → AllBalanced ps → Each (λ p. Balanced (p .source)) ps
-sources [] each-nil = each-nil
-sources (p ∷ ps) (each-cons b h) = each-cons (b .source) (sources ps h)
+pub sources-balanced : (ps : List Part) → AllBalanced ps → Each (λ p. Balanced (p .source)) ps
+sources-balanced [] each-nil = each-nil
+sources-balanced (p ∷ ps) (each-cons b h) = each-cons (b .source) (sources-balanced ps h)
 
-pub goals : (ps : List Part) → AllBalanced ps → Each (λ p. Balanced (target-items (p .target))) ps
-goals [] each-nil = each-nil
-goals (p ∷ ps) (each-cons b h) = each-cons (b .target) (goals ps h)
+pub targets-balanced : (ps : List Part) → AllBalanced ps → Each (λ p. Balanced (target-items (p .target))) ps
+targets-balanced [] each-nil = each-nil
+targets-balanced (p ∷ ps) (each-cons b h) = each-cons (b .target) (targets-balanced ps h)
 
 -- what a rewrite asks of the sequence of its side
 pub record Asked (i : ℕ) (w : Form) (content : Part → Content) (xs : Content) (ps : List Part) : Type 0 where
@@ -97,7 +96,7 @@ pub record Kept (qs : List Part) : Type 0 where
   pub seven : fault-7 qs ≡ none
   pub eight : fault-8 qs ≡ none
 
-same-orders : (g : Part → Part) → ((p : Part) → order-list (g p .target) ≡ order-list (p .target)) → (ps : List Part) → orders (map g ps) ≡ orders ps
+pub same-orders : (g : Part → Part) → ((p : Part) → order-list (g p .target) ≡ order-list (p .target)) → (ps : List Part) → orders (map g ps) ≡ orders ps
 unfolding orders gather
 same-orders g h [] = refl
 same-orders g h (p ∷ ps) = ap₂ _++_ (h p) (same-orders g h ps)
@@ -115,7 +114,7 @@ items-of g no-target = refl
 items-of g (target q xs) = refl
 
 module _ (f g : Item → Item) where
-  source-is : (ps : List Part) → source-sequence (map (on-both f g) ps) ≡ map f (source-sequence ps)
+  pub source-is : (ps : List Part) → source-sequence (map (on-both f g) ps) ≡ map f (source-sequence ps)
   unfolding source-sequence gather
   source-is [] = refl
   source-is (p ∷ ps) = ap (λ (z : Content). map f (p .source) ++ z) (source-is ps) ∙ sym (map-append f (p .source) (source-sequence ps))
@@ -139,7 +138,7 @@ module _ (f g : Item → Item) where
   targets-are ps q zero = refl
   targets-are ps q (suc n) = ap₂ _++_ (order-is ps (suc q)) (targets-are ps (suc q) n) ∙ sym (map-append g (target-of-order ps (suc q)) (targets ps (suc q) n))
 
-  target-is : (ps : List Part) → target-sequence (map (on-both f g) ps) ≡ map g (target-sequence ps)
+  pub target-is : (ps : List Part) → target-sequence (map (on-both f g) ps) ≡ map g (target-sequence ps)
   unfolding target-sequence
   target-is ps = ap (targets (map (on-both f g) ps) 0) (length-map ps (on-both f g)) ∙ targets-are ps 0 (length ps)
 
@@ -148,7 +147,7 @@ module _ (f g : Item → Item) where
   has-same no-target = refl
   has-same (target q xs) = refl
 
-  order-same : (t : Target) → order-list (rewrite-target g t) ≡ order-list t
+  pub order-same : (t : Target) → order-list (rewrite-target g t) ≡ order-list t
   unfolding order-list rewrite-target
   order-same no-target = refl
   order-same (target q xs) = refl

@@ -17,7 +17,7 @@ use Rattle.xliff.specs.Focus.{with-parts}
 use Rattle.xliff.specs.Rewrite.{form-of, rewrite-item, rewrite-target, rewrite-part, rewrite-unit, side-content, side-sequence, Whole, find-whole, are-partners, unfit-letter, to-P-refusal, already, pair-refusal, rewrite-refusal, rewrite}
 use Rattle.xliff.specs.Good.{each-nil, each-cons, GoodIn, GoodTarget, GoodPart, GoodParts}
 use Rattle.xliff.proofs.lists.Each.{each-map}
-use Rattle.xliff.proofs.lists.Tests.{or-left, or-right}
+use Rattle.xliff.proofs.lists.Tests.{or-left, or-right, map-same}
 use Rattle.xliff.proofs.operations.Sources.{rewrite-source}
 use Rattle.xliff.proofs.operations.JoinTarget.{rewrite-target-sequence}
 use Rattle.xliff.proofs.rules.Flat.{rule-9-kept, rule-10-kept}
@@ -29,7 +29,7 @@ use Rattle.xliff.proofs.rules.Total.{total-source, total-target}
 use Rattle.xliff.proofs.rules.Seven.{bare-sequence, Good7, rule-7-good}
 use Rattle.xliff.proofs.rules.Starts.{good-form}
 use Rattle.xliff.proofs.operations.Rewrite.{two-halves, found, found-two}
-use Rattle.xliff.proofs.operations.RewriteSides.{on-both, stay, map-stay, items-of, sources, goals, Asked, Kept, stays, rewrites, both-kept}
+use Rattle.xliff.proofs.operations.RewriteSides.{on-both, stay, map-stay, items-of, sources-balanced, targets-balanced, Asked, Kept, stays, rewrites, both-kept}
 
 -- what acceptance says of the pair
 some-same : {A : Type 0} {a b : A} → Path (Option A) (some a) (some b) → a ≡ b
@@ -67,10 +67,6 @@ part-S side f e p = rw e (ap (λ (t : Target). record { head = p .head; source =
 part-T : (side : ℕ) (f : Item → Item) → eqb side 'S' ≡ false → (p : Part) → rewrite-part side f p ≡ on-both stay f p
 unfolding rewrite-part
 part-T side f e p = rw e (ap (λ (l : Content). record { head = p .head; source = l; target = rewrite-target f (p .target) }) (sym (map-stay (p .source))))
-
-map-same : (g h : Part → Part) → ((p : Part) → g p ≡ h p) → (ps : List Part) → map g ps ≡ map h ps
-map-same g h e [] = refl
-map-same g h e (p ∷ ps) = ap₂ {C = List Part} _∷_ (e p) (map-same g h e ps)
 
 content-S : (side i : ℕ) (f : Item → Item) → eqb side 'S' ≡ true → (p : Part) → are-partners i (side-content side (rewrite-part side f p)) ≡ are-partners i (map f (p .source))
 unfolding side-content
@@ -160,8 +156,8 @@ rewrite-accepted t side i w room r bt e =
         (λ k. sym (any-map (λ q. are-partners i (side-content side q)) (λ q. are-partners i (map f (q .source))) (rewrite-part side f) (content-S side i f s) ps) ∙ t .partners k) in
         subst Kept (sym (map-same (rewrite-part side f) (on-both f stay) (part-S side f s) ps))
         (both-kept f stay ps (h .rule-5) six (then-left _ _ (then-right (fault-7 ps) _ r7))
-        (rewrites i (form-of w) (λ j. waits [] j) (λ q. q .source) (source-sequence ps) ps (seven .source-side) (sources ps (seven .bal)) (λ m. total-source m ps) asked)
-        (stays (λ j. waits (bare-sequence ps) j) (λ q. target-items (q .target)) (target-sequence ps) ps (seven .target-side) (goals ps (seven .bal))))
+        (rewrites i (form-of w) (λ j. waits [] j) (λ q. q .source) (source-sequence ps) ps (seven .source-side) (sources-balanced ps (seven .bal)) (λ m. total-source m ps) asked)
+        (stays (λ j. waits (bare-sequence ps) j) (λ q. target-items (q .target)) (target-sequence ps) ps (seven .target-side) (targets-balanced ps (seven .bal))))
     kept p found-it t h false s =
         let f : Item → Item = rewrite-item i (form-of w) in
         let ps : List Part = u .parts in
@@ -173,8 +169,8 @@ rewrite-accepted t side i w room r bt e =
         (λ k. sym (any-map (λ q. are-partners i (side-content side q)) (λ q. are-partners i (map f (target-items (q .target)))) (rewrite-part side f) (content-T side i f s) ps) ∙ t .partners k) in
         subst Kept (sym (map-same (rewrite-part side f) (on-both stay f) (part-T side f s) ps))
         (both-kept stay f ps (h .rule-5) six (then-left _ _ (then-right (fault-7 ps) _ r7))
-        (stays (λ j. waits [] j) (λ q. q .source) (source-sequence ps) ps (seven .source-side) (sources ps (seven .bal)))
-        (rewrites i (form-of w) (λ j. waits (bare-sequence ps) j) (λ q. target-items (q .target)) (target-sequence ps) ps (seven .target-side) (goals ps (seven .bal))
+        (stays (λ j. waits [] j) (λ q. q .source) (source-sequence ps) ps (seven .source-side) (sources-balanced ps (seven .bal)))
+        (rewrites i (form-of w) (λ j. waits (bare-sequence ps) j) (λ q. target-items (q .target)) (target-sequence ps) ps (seven .target-side) (targets-balanced ps (seven .bal))
         (λ m. total-target m ps (h .rule-5)) asked))
 
     by : (o : Option Whole) → find-whole i (side-sequence side (u .parts)) ≡ o → pair-refusal u side i (form-of w) o ≡ none

@@ -14,7 +14,7 @@ use Rattle.xliff.specs.Sequences.{located}
 use Rattle.xliff.specs.Rules.{bad-order, fault-5}
 use Rattle.xliff.specs.Focus.{here, order-target, order-part, order-parts}
 use Rattle.xliff.specs.Split.{raise-above, first-target, second-target, first-half, second-half, split-order, split-focus}
-use Rattle.xliff.proofs.lists.Tests.{or-left, or-right, and-left, and-right, map-append, or-both}
+use Rattle.xliff.proofs.lists.Tests.{or-left, or-right, and-left, and-right, map-append, map-stays, or-both}
 use Rattle.xliff.proofs.rules.Orders.{orders-fit, order-fits, eqb-same}
 use Rattle.xliff.proofs.operations.SplitTarget.{orders-append, fault-5-fits}
 use Rattle.xliff.proofs.operations.SetValid.{rule-5-back, insert-fits, among-append}
@@ -113,10 +113,6 @@ fits-more n used (x ∷ qs) e =
     rw (z, le-ltb (suc n) x (let h : x ≤ n = ltb-false n x (or-left _ _ r) in omega arith), or-right (ltb n x) _ r)
     (fits-more n (x ∷ used) qs (and-right (not (bad-order n used x)) _ e))
 
-map-same : (f : ℕ → ℕ) → ((x : ℕ) → f x ≡ x) → (l : List ℕ) → map f l ≡ l
-map-same f h [] = refl
-map-same f h (x ∷ l) = ap₂ {C = List ℕ} _∷_ (h x) (map-same f h l)
-
 counted : (f : ℕ → ℕ) (b : List Part) (p x y : Part) (a : List Part) → length (order-parts f b ++ (x ∷ y ∷ order-parts f a)) ≡ suc (length (b ++ (p ∷ a)))
 unfolding order-parts
 counted f b p x y a = simp (length-append, length-map) (omega arith)
@@ -136,9 +132,9 @@ split-5 source-cut target-cut new b p a e = by (p .target) refl (fault-5-fits (b
         rule-5-back _ 3 [] _
         (ap₂ (λ (n : ℕ) (l : List ℕ). orders-fit n [] l) (count (split-order no-target) (first-half source-cut target-cut p) (second-half source-cut target-cut new p))
         (orders-append (order-parts (split-order no-target) b) _
-        ∙ ap₂ (λ (l m : List ℕ). l ++ m) (orders-map (split-order no-target) b ∙ map-same (split-order no-target) (λ x. refl) (orders b))
+        ∙ ap₂ (λ (l m : List ℕ). l ++ m) (orders-map (split-order no-target) b ∙ map-stays (split-order no-target) (λ x. refl) (orders b))
         (ap₂ (λ (t : Target) (l : List ℕ). order-list (first-target target-cut t) ++ (order-list (second-target target-cut t) ++ l)) g
-        (orders-map (split-order no-target) a ∙ map-same (split-order no-target) (λ x. refl) (orders a))))
+        (orders-map (split-order no-target) a ∙ map-stays (split-order no-target) (λ x. refl) (orders a))))
         ∙ fits-more (length (b ++ (p ∷ a))) [] (orders b ++ orders a)
         (ap (orders-fit (length (b ++ (p ∷ a))) []) (sym (orders-append b (p ∷ a) ∙ ap (λ (t : Target). orders b ++ (order-list t ++ orders a)) g)) ∙ k))
     by (target q xs) g k =

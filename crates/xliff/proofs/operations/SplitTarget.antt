@@ -24,7 +24,7 @@ unfolding orders
 orders-append ps qs = gather-append (λ p. order-list (p .target)) ps qs
 
 -- an order above all that fit is not used
-too-high : (n k : ℕ) (used qs : List ℕ) → n < k → orders-fit n used qs ≡ true → among k qs ≡ false
+pub too-high : (n k : ℕ) (used qs : List ℕ) → n < k → orders-fit n used qs ≡ true → among k qs ≡ false
 unfolding orders-fit bad-order among
 too-high n k used [] l e = refl
 too-high n k used (q ∷ qs) l e = rw (ne-eqb k q (λ z. differ z)) (too-high n k (q ∷ used) qs l (and-right (not (bad-order n used q)) _ e))

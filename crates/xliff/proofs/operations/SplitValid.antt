@@ -8,7 +8,7 @@ use mathlib.Core.Option.{none}
 use lib.Dec.{eqb}
 use lib.ListN.{take, drop, take-append-drop}
 use borrow.Author.Tests.{eqb-true}
-use Rattle.xliff.specs.Bytes.{Bytes, any}
+use Rattle.xliff.specs.Bytes.{Bytes, any, among}
 use Rattle.xliff.specs.Answer.{applies, result}
 use Rattle.xliff.specs.Item.{Item, Content, form-S, in-form, flattened, id-of, is-start, other-half}
 use Rattle.xliff.specs.Unit.{Head, segment, ignorable, Target, no-target, target, Part, XliffUnit, head-id, target-items, is-closed, source-sequence, target-sequence, with-id}
@@ -149,8 +149,8 @@ good-targets n no-target k = (tt, tt)
 good-targets n (target q xs) k = (good-first n xs k, good-second n xs k)
 
 good-id : (i : ℕ) (h : Head) → GoodHead h → GoodHead (with-id i h)
-unfolding with-id
-good-id i (segment f) g = g
+unfolding with-id among
+good-id i (segment f) g = (g .0, search (g .1))
 good-id i (ignorable j) g = g
 
 split-good : (source-cut target-cut new : ℕ) (b : List Part) (p : Part) (a : List Part) → GoodParts (b ++ (p ∷ a)) → GoodParts (split-focus source-cut target-cut new (b ++ (p ∷ a)) (here b p a))

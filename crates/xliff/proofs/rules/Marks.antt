@@ -147,7 +147,7 @@ not-alike x y h e = by (alike x y) refl
     by false k = refl
 
 -- and for a half of the same id only the class is asked
-alike-class : (x y : Item) → half-of-id (id-of x) y ≡ true → alike x y ≡ eqb (class x) (class y)
+pub alike-class : (x y : Item) → half-of-id (id-of x) y ≡ true → alike x y ≡ eqb (class x) (class y)
 unfolding alike half-of-id
 alike-class x y e =
     let i : id-of y ≡ id-of x = eqb-true _ _ (and-right (is-half y) _ e) in

@@ -39,6 +39,18 @@ flat-same (annotation-start form-P i t) e = absurd (true≢false e)
 flat-same (annotation-end form-S i) e = refl
 flat-same (annotation-end form-P i) e = absurd (true≢false e)
 
+-- of all but the halves of pc and mrk it does not matter whether they turn
+pub same-form : (x : Item) (a b : Bool) → (is-form-P x ≡ true → a ≡ b) → cond a (flat x) x ≡ cond b (flat x) x
+same-form x a b h = by (is-form-P x) refl
+  where
+    plain : is-form-P x ≡ false → (c : Bool) → cond c (flat x) x ≡ x
+    plain p true = flat-same x p
+    plain p false = refl
+
+    by : (p : Bool) → is-form-P x ≡ p → cond a (flat x) x ≡ cond b (flat x) x
+    by true p = ap (λ (c : Bool). cond c (flat x) x) (h p)
+    by false p = plain p a ∙ sym (plain p b)
+
 -- the halves of pc and mrk with one of the keys turn; nothing else changes
 unfoldable pub turn : (Key → Bool) → Item → Item
 turn h x = cond (h (key-of x)) (flat x) x
@@ -118,7 +130,7 @@ anyMk-append c s (mk d w t ∷ l) m = by (eqb c d && opposite s t) (anyMk-append
     by true e = refl
     by false e = e
 
-anyMk-turn : (h : Key → Bool) (i c : ℕ) (s : Half) (l : List Mk) → anyMk c s (map (turn-mk h i) l) ≡ anyMk c s l
+pub anyMk-turn : (h : Key → Bool) (i c : ℕ) (s : Half) (l : List Mk) → anyMk c s (map (turn-mk h i) l) ≡ anyMk c s l
 anyMk-turn h i c s [] = refl
 anyMk-turn h i c s (mk d w t ∷ l) = ap (λ (b : Bool). eqb c d && opposite s t || b) (anyMk-turn h i c s l)
 

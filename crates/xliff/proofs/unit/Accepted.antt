@@ -7,7 +7,7 @@ use mathlib.Core.Bool.{false}
 use mathlib.Core.List.{List, [], _∷_}
 use lib.ListN.{length}
 use lib.Dec.{ltb}
-use borrow.Author.Tests.{ltb-false}
+use borrow.Author.Tests.{ltb-false, le-ltb}
 use Rattle.xliff.specs.Bytes.{Bytes, gather}
 use Rattle.xliff.specs.Unit.{XliffUnit}
 use Rattle.xliff.specs.Encode.{closing, part-records, unit-records, encode}
@@ -15,7 +15,7 @@ use Rattle.xliff.specs.Parse.{most-bytes, most-records, most-parts, unit
 use Rattle.xliff.specs.Check.{Valid, too-large}
 use Rattle.xliff.specs.Good.{each-nil, each-cons}
 use Rattle.xliff.proofs.lists.Each.{each-append}
-use Rattle.xliff.proofs.lists.Tests.{or-left, or-right}
+use Rattle.xliff.proofs.lists.Tests.{or-left, or-right, or-both}
 use Rattle.xliff.proofs.records.Parse.{records-unit}
 use Rattle.xliff.proofs.operations.SplitTarget.{fault-5-fits}
 use Rattle.xliff.proofs.unit.Valid.{unit-runs}
@@ -49,12 +49,21 @@ within room v e =
       parts = ltb-false most-parts (length (v .parts)) (or-right (ltb most-records (length (unit-records v))) _ g);
     }
 
-pub accepted-unit : (t : List ℕ) (v : XliffUnit) (r : List ℕ) → Accepted t v r → unit r ≡ v
-accepted-unit t v r a =
-    let s = a .now in
+-- a unit in order and within the limits: it is too large for no output as long, and as bytes it is read back
+pub small-enough : (room : ℕ) (v : XliffUnit) → Within v → length (encode v) ≤ room → too-large room v ≡ false
+unfolding too-large
+small-enough room v w l =
+    or-both _ _ (le-ltb room (length (encode v)) l)
+    (or-both _ _ (le-ltb most-bytes (length (encode v)) (w .size))
+    (or-both _ _ (le-ltb most-records (length (unit-records v)) (w .records)) (le-ltb most-parts (length (v .parts)) (w .parts))))
+
+pub read-back : (v : XliffUnit) → Sent v → Within v → unit (encode v) ≡ v
+read-back v s w =
     let (good, runs) = unit-runs v (s .first) (s .others) (s .parts) (s .letter) (s .good) in
-    let w = within (a .room) v (a .fits) in
-    ap unit (sym (a .bytes)) ∙ records-unit v good (let z = w .records in omega arith)
+    records-unit v good (omega (arith, w .records))
+
+pub accepted-unit : (t : List ℕ) (v : XliffUnit) (r : List ℕ) → Accepted t v r → unit r ≡ v
+accepted-unit t v r a = ap unit (sym (a .bytes)) ∙ read-back v (a .now) (within (a .room) v (a .fits))
 
 pub accepted-bytes : (t : List ℕ) (v : XliffUnit) (r : List ℕ) → Accepted t v r → FitParts (v .parts) → Bytes r
 unfolding encode unit-records

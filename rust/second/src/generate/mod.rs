@@ -7,6 +7,7 @@ mod inline;
 mod limits;
 mod mutations;
 mod random;
+mod rejoin;
 mod requests;
 mod set_target;
 mod source;
@@ -17,6 +18,7 @@ use crate::rules::check;
 
 pub use cuts::every_cut;
 pub use random::Random;
+pub use rejoin::splits_undone;
 pub use unit::{drafted, valid_table};
 
 #[derive(Clone, Copy, Debug, PartialEq, Eq)]

@@ -7,6 +7,7 @@ use crate::desk::read_request;
 use crate::operations::content::items;
 use crate::operations::Operation;
 use crate::record::{Half, Inline};
+use crate::rejoin::Split;
 use crate::rules::check;
 use crate::table::{Part, Placed, Unit};
 use crate::MOST_BYTES;
@@ -78,6 +79,12 @@ pub fn part_number(random: &mut Random, unit: &Unit, suits: impl Fn(&Part) -> bo
 }
 
 fn split_request(random: &mut Random, unit: &Unit) -> Vec<u8> {
+    let Split { part, source_cut, target_cut, new_id } = split(random, unit);
+    numbers(b"SP", &[part, source_cut, target_cut, new_id])
+}
+
+/// A split of any part, mostly one that can be cut.
+pub fn split(random: &mut Random, unit: &Unit) -> Split {
     let open = |part: &Part| !unit.is_closed(part) && items(&part.source).len() > 1;
     let number = part_number(random, unit, open);
     let (source_items, target_items) = match unit.part(number) {
@@ -96,8 +103,8 @@ fn split_request(random: &mut Random, unit: &Unit) -> Vec<u8> {
         1 => target_items,
         _ => random.below(target_items + 1),
     };
-    let new_id = new_id(random, unit);
-    numbers(b"SP", &[number, source_cut as u16, target_cut as u16, new_id])
+    let (source_cut, target_cut) = (source_cut as u16, target_cut as u16);
+    Split { part: number, source_cut, target_cut, new_id: new_id(random, unit) }
 }
 
 /// 0, an id that is used, or any.

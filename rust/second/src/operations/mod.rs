@@ -16,7 +16,7 @@ pub use join::join;
 pub use remove_target::remove_target;
 pub use rewrite::rewrite;
 pub use set_target::set_target;
-pub use split::split;
+pub use split::{split, start_and_end};
 
 pub type Outcome = Result<Vec<u8>, Refusal>;
 

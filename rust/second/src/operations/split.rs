@@ -84,15 +84,16 @@ fn cut(content: &[Placed], at: usize) -> (Vec<Placed>, Vec<Placed>) {
     let found = partners_in_content(&items.iter().collect::<Vec<_>>());
     for (position, partner) in found.into_iter().enumerate() {
         if let Some(end) = partner.filter(|&end| position < at && at <= end) {
-            turn(&mut items[position]);
-            turn(&mut items[end]);
+            start_and_end(&mut items[position]);
+            start_and_end(&mut items[end]);
         }
     }
     let after = items.split_off(at);
     (gather(items), gather(after))
 }
 
-fn turn(half: &mut Inline) {
+/// Start and end marks in place of those of pc or mrk; all else stays.
+pub fn start_and_end(half: &mut Inline) {
     match half {
         Inline::Code(code) => code.mark = start_or_end(code.mark),
         Inline::Annotation(annotation) => annotation.mark = start_or_end(annotation.mark),

@@ -11,7 +11,7 @@ use std::sync::Mutex;
 use arguments::Arguments;
 use compare::{compare, Case};
 use second::desk::desk;
-use second::generate::{every_cut, job, Kind};
+use second::generate::{every_cut, job, splits_undone, Kind};
 use second::tally::Tally;
 
 fn main() -> ExitCode {
@@ -32,6 +32,7 @@ fn main() -> ExitCode {
     let results = Results::default();
     let outcome = compare_generated(&arguments, &results)
         .and_then(|()| compare_cuts(&arguments, &results))
+        .and_then(|()| compare_undone(&arguments, &results))
         .and_then(|()| compare_vectors(&arguments, vectors, &results));
     results.print(&arguments, outcome)
 }
@@ -42,6 +43,7 @@ struct Results {
     tally: Mutex<Tally>,
     kinds: Mutex<[usize; Kind::ALL.len()]>,
     cuts: Mutex<usize>,
+    undone: Mutex<usize>,
     vectors: Mutex<usize>,
 }
 
@@ -73,6 +75,20 @@ fn compare_cuts(arguments: &Arguments, results: &Results) -> Result<(), String> 
     })
 }
 
+/// Lists of splits undone in reverse: what document 02, order 11, says must be printed.
+fn compare_undone(arguments: &Arguments, results: &Results) -> Result<(), String> {
+    let seed = arguments.seed;
+    let case = |number: usize| {
+        let list = splits_undone(seed, number as u64);
+        let name = format!("list of splits {number} of seed {seed}, undone in reverse");
+        Case { name, kind: None, expected: list.printed(), job: list.job() }
+    };
+    compare(&arguments.program, arguments.jobs.div_ceil(5), case, |case| {
+        *results.undone.lock().unwrap() += 1;
+        results.tally.lock().unwrap().count(&case.expected);
+    })
+}
+
 fn compare_vectors(
     arguments: &Arguments,
     vectors: Vec<Case>,
@@ -90,7 +106,8 @@ impl Results {
         let kinds = *self.kinds.lock().unwrap();
         let vectors = *self.vectors.lock().unwrap();
         let cuts = *self.cuts.lock().unwrap();
-        let passed = kinds.iter().sum::<usize>() + cuts + vectors;
+        let undone = *self.undone.lock().unwrap();
+        let passed = kinds.iter().sum::<usize>() + cuts + undone + vectors;
         if let Err(difference) = outcome {
             println!("{difference}");
             println!("{passed} passed, 1 failed");
@@ -101,6 +118,7 @@ impl Results {
             println!("  {:<34}{count:>6}", kind.name());
         }
         println!("  {:<34}{cuts:>6}", "small units, cut at every position");
+        println!("  {:<34}{undone:>6}", "lists of splits undone in reverse");
         println!("answers, of all printed lines (of a job at most the first 100):");
         print!("{}", self.tally.lock().unwrap().report());
         if !arguments.vectors.is_empty() {
