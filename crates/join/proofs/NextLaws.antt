@@ -1,27 +1,18 @@
 -- The part behind a part.
 use Prim.Native.Nat.{ℕ, suc, _+_}
-use mathlib.Core.Path.{_≡_, refl, sym, ap, ap₂, _∙_, subst}
+use mathlib.Core.Path.{_≡_, sym, ap, ap₂, _∙_, subst}
 use mathlib.Core.List.{List, [], _∷_, _++_, append-assoc}
 use native.Mathlib.Omega.{arith}
 use native.Mathlib.Numerals.{add-one}
 use lib.ListN.{length, length-append}
 use Rattle.xliff.specs.Unit.{Part}
-use Rattle.xliff.specs.Focus.{nowhere, here, behind, focus}
+use Rattle.xliff.specs.Focus.{nowhere, here, focus}
 use Rattle.xliff.specs.Parse.{unit}
-use Rattle.xliff.proofs.operations.Sources.{focus-here, focus-at}
+use Rattle.xliff.proofs.operations.Sources.{focus-here, focus-at, focus-in}
+use Rattle.part_at.proofs.PartLaws.{focus-beyond}
 use Rattle.part_at.specs.declared.PartPlace.{PartPlace}
 use Rattle.part_at.specs.Stands.{PartStands}
 use Rattle.join_result.specs.Result.{Beside}
-
-focus-there : (b : List Part) (q : Part) (a : List Part) → focus (b ++ (q ∷ a)) (suc (length b)) ≡ here b q a
-unfolding focus behind
-focus-there [] q a = refl
-focus-there (p ∷ b) q a = ap (behind p) (focus-there b q a)
-
-focus-past : (ps : List Part) → focus ps (suc (length ps)) ≡ nowhere
-unfolding focus behind
-focus-past [] = refl
-focus-past (p ∷ ps) = ap (behind p) (focus-past ps)
 
 module _ (ps : List Part) (n : ℕ) (b : List Part) (p : Part) where
   one-more : n ≡ suc (length b) → suc n ≡ suc (length (b ++ (p ∷ [])))
@@ -30,10 +21,10 @@ module _ (ps : List Part) (n : ℕ) (b : List Part) (p : Part) where
   pub next-there : (q : Part) (a : List Part) → focus ps n ≡ here b p (q ∷ a) → focus ps (suc n) ≡ here (b ++ (p ∷ [])) q a
   next-there q a e =
       ap₂ focus (focus-here ps n b p (q ∷ a) e ∙ sym (append-assoc b (p ∷ []) (q ∷ a))) (one-more (focus-at ps n b p (q ∷ a) e))
-      ∙ focus-there (b ++ (p ∷ [])) q a
+      ∙ focus-in (b ++ (p ∷ [])) q a
 
   pub none-next : focus ps n ≡ here b p [] → focus ps (suc n) ≡ nowhere
-  none-next e = ap₂ focus (focus-here ps n b p [] e) (one-more (focus-at ps n b p [] e)) ∙ focus-past (b ++ (p ∷ []))
+  none-next e = ap₂ focus (focus-here ps n b p [] e) (one-more (focus-at ps n b p [] e)) ∙ focus-beyond (b ++ (p ∷ [])) (suc (length (b ++ (p ∷ [])))) (omega arith)
 
 clash : {A : Type 0} {b : List Part} {p : Part} {a : List Part} → nowhere ≡ here b p a → A
 clash e = absurd (let z : _≡_ {A = ℕ} 0 1 = cc in let y : ⊥ = omega arith in y)

@@ -10,10 +10,11 @@ use Rattle.xliff.specs.Bytes.{gather, two}
 use Rattle.xliff.specs.Unit.{Target, no-target, target, Part, has-target}
 use Rattle.xliff.specs.Encode.{Record, opening, closing, part-head, target-head, record-bytes, head-bytes, content-records, target-records, part-records, unit-records, spell, content-bytes}
 use Rattle.xliff.specs.Parse.{read, is-part, unit}
-use Rattle.xliff.specs.Focus.{nowhere, here, behind, focus}
+use Rattle.xliff.specs.Focus.{nowhere, behind, focus}
 use Rattle.xliff.proofs.lists.Tests.{gather-append}
 use Rattle.places.specs.Passes.{Passes}
 use Rattle.xliff.proofs.unit.Pieces.{spell-append}
+use Rattle.xliff.proofs.operations.Sources.{focus-in}
 use Rattle.places.specs.Offsets.{At}
 use Rattle.places.proofs.Places.{at-start, at-next}
 use Rattle.part_at.specs.declared.PartPlace.{PartPlace}
@@ -34,11 +35,6 @@ focus-beyond (p ∷ ps) zero h = refl
 focus-beyond (p ∷ []) (suc zero) h = absurd (omega arith)
 focus-beyond (p ∷ q ∷ ps) (suc zero) h = absurd (omega arith)
 focus-beyond (p ∷ ps) (suc (suc n)) h = ap (behind p) (focus-beyond ps (suc n) (omega arith))
-
-pub focus-in : (b : List Part) (p : Part) (a : List Part) → focus (b ++ (p ∷ a)) (suc (length b)) ≡ here b p a
-unfolding focus behind
-focus-in [] p a = refl
-focus-in (q ∷ b) p a = ap (behind q) (focus-in b p a)
 
 -- bytes from an offset on
 pub slice-at : (t : List ℕ) (from to : ℕ) (x y : List ℕ) → drop from t ≡ x ++ y → from ≤ length t → to ≡ from + length x → Slice t from to x

@@ -51,6 +51,12 @@ focus-at (p ∷ ps) (suc (suc n)) b x a e =
     let (c, f, q) = found-behind p (focus ps (suc n)) b x a e in
     rw q (ap suc (focus-at ps (suc n) c x a f))
 
+-- a part that stands there is found
+pub focus-in : (b : List Part) (x : Part) (a : List Part) → focus (b ++ (x ∷ a)) (suc (length b)) ≡ here b x a
+unfolding focus behind
+focus-in [] x a = refl
+focus-in (y ∷ b) x a = ap (behind y) (focus-in b x a)
+
 -- flattened, a changed form is the same
 pub flat-in-form : (w : Form) (x : Item) → flat (in-form w x) ≡ flat x
 unfolding flat in-form

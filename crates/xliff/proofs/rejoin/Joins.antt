@@ -14,22 +14,16 @@ use Rattle.xliff.specs.Answer.{Refusal, applies, _then_, is-fault, Outco
 use Rattle.xliff.specs.Parse.{most-bytes}
 use Rattle.xliff.specs.Rules.{fault-6, fault-7, fault-6-to-10}
 use Rattle.xliff.specs.Check.{Valid, table-refusal, too-large, operation}
-use Rattle.xliff.specs.Focus.{Focus, here, behind, focus, order-target, order-part, order-parts, with-parts}
+use Rattle.xliff.specs.Focus.{Focus, here, focus, order-target, order-part, order-parts, with-parts}
 use Rattle.xliff.specs.Join.{join-targets, join-parts, highest-unused, lower-above, join-order, join-focus, join-unit, bad-orders, join-refusal, join}
 use Rattle.xliff.specs.Rewrite.{rewrite-target}
 use Rattle.xliff.specs.Rejoin.{OpenAtCuts, turned-item, turned-part, turned}
 use Rattle.xliff.proofs.lists.Tests.{map-append, or-both}
 use Rattle.xliff.proofs.unit.Result.{then-left, then-right, then-none, applies-false, Sent, result-valid}
 use Rattle.xliff.proofs.unit.Accepted.{Within, small-enough, read-back}
-use Rattle.xliff.proofs.operations.Sources.{focus-here, focus-at}
+use Rattle.xliff.proofs.operations.Sources.{focus-here, focus-at, focus-in}
 use Rattle.xliff.proofs.operations.RewriteSides.{same-orders, order-same}
 use Rattle.xliff.proofs.rejoin.Turned.{turned-sent, turned-within}
-
--- where a part stands
-pub focus-is : (b : List Part) (x : Part) (a : List Part) → focus (b ++ (x ∷ a)) (suc (length b)) ≡ here b x a
-unfolding focus behind
-focus-is [] x a = refl
-focus-is (y ∷ b) x a = ap (behind y) (focus-is b x a)
 
 -- THE OUTPUT ALONE: a unit within the limits is its bytes where they have room, and 15 elsewhere
 abbrev pub output-asked : ℕ → XliffUnit → Outcome
@@ -149,7 +143,7 @@ module _ (c : OpenAtCuts) where
   focus-turned ps n b p a e =
       ap₂ focus (ap (map T) (focus-here ps n b p a e) ∙ map-append T b (p ∷ a))
       (focus-at ps n b p a e ∙ ap suc (sym (length-map b T)))
-      ∙ focus-is (map T b) (T p) (map T a)
+      ∙ focus-in (map T b) (T p) (map T a)
 
   pub unit-joined : (v : XliffUnit) (n : ℕ) → Joinable v n → join-unit (turned c v) n ≡ turned c (join-unit v n)
   unfolding join-unit turned with-parts

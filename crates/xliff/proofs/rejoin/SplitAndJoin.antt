@@ -26,14 +26,14 @@ use Rattle.xliff.proofs.unit.Result.{then-left, then-right, applies-non
 use Rattle.xliff.proofs.unit.Accepted.{accepted-unit, within}
 use Rattle.xliff.proofs.unit.Limits.{valid-bytes, valid-within}
 use Rattle.xliff.proofs.unit.FlatSize.{same-size}
-use Rattle.xliff.proofs.operations.Sources.{focus-here, focus-at}
+use Rattle.xliff.proofs.operations.Sources.{focus-here, focus-at, focus-in}
 use Rattle.xliff.proofs.operations.Closed.{open-with-id}
 use Rattle.xliff.proofs.operations.Cut.{after-split}
 use Rattle.xliff.proofs.operations.SplitValid.{split-accepted}
 use Rattle.xliff.proofs.rejoin.Heads.{halves-follow}
 use Rattle.xliff.proofs.rejoin.Turned.{turned-flat, turned-sent, turned-within, turned-twice, turned-none}
 use Rattle.xliff.proofs.rejoin.Parts.{joined-back}
-use Rattle.xliff.proofs.rejoin.Joins.{focus-is, output-asked, has-room, no-room, Joinable, join-turned}
+use Rattle.xliff.proofs.rejoin.Joins.{output-asked, has-room, no-room, Joinable, join-turned}
 
 -- what a split leaves to a join: two halves that can be joined, and what that gives
 record Left (u : XliffUnit) (n source-cut target-cut new : ℕ) : Type 0 where
@@ -63,7 +63,7 @@ module _ (u : XliffUnit) (n source-cut target-cut new : ℕ) (b : List Part) (p 
   unfolding order-parts
   halves-are =
       ap₂ focus parts-are (focus-at (u .parts) n b p a at ∙ ap suc (sym (length-map b (order-part (split-order (p .target))))))
-      ∙ focus-is (raised b) (first-half source-cut target-cut p) (second-half source-cut target-cut new p ∷ raised a)
+      ∙ focus-in (raised b) (first-half source-cut target-cut p) (second-half source-cut target-cut new p ∷ raised a)
 
   halves-joinable : Joinable (split-unit u n source-cut target-cut new) n
   unfolding split-unit with-parts first-half second-half is-closed
