@@ -70,7 +70,8 @@ span-end at p place s =
 
 -- all bytes, by the parts before and behind
 table-is : (t : List ℕ) → Passes t → (b : List Part) (p : Part) (a : List Part) → unit t .parts ≡ b ++ (p ∷ a)
-    → t ≡ record-bytes (opening (unit t .opening)) ++ spell (gather part-records b) ++ spell (part-records p ++ (gather part-records a ++ (closing ∷ [])))
+    → t ≡ record-bytes (opening (unit t .opening)) ++ spell (gather part-records b) ++ spell
+    (part-records p ++ (gather part-records a ++ (closing ∷ [])))
 unfolding unit-records spell gather
 table-is t h b p a e =
     sym (h .bytes)
@@ -79,8 +80,10 @@ table-is t h b p a e =
     (ap (λ (rs : List Record). rs ++ (closing ∷ [])) (gather-append part-records b (p ∷ a))
     ∙ append-assoc (gather part-records b) (part-records p ++ gather part-records a) (closing ∷ [])
     ∙ ap (λ (rs : List Record). gather part-records b ++ rs) (append-assoc (part-records p) (gather part-records a) (closing ∷ [])))
-    ∙ ap (λ (s : List ℕ). record-bytes (opening (unit t .opening)) ++ s) (spell-append (gather part-records b) (part-records p ++ (gather part-records a ++ (closing ∷ []))))
-    ∙ sym (append-assoc (record-bytes (opening (unit t .opening))) (spell (gather part-records b)) (spell (part-records p ++ (gather part-records a ++ (closing ∷ [])))))
+    ∙ ap (λ (s : List ℕ). record-bytes (opening (unit t .opening)) ++ s)
+    (spell-append (gather part-records b) (part-records p ++ (gather part-records a ++ (closing ∷ []))))
+    ∙ sym (append-assoc (record-bytes (opening (unit t .opening))) (spell (gather part-records b))
+    (spell (part-records p ++ (gather part-records a ++ (closing ∷ [])))))
 
 -- the bytes of a part, piece by piece
 rest-is : (a : List Part) → spell (gather part-records a ++ (closing ∷ [])) ≡ spell (gather part-records a) ++ record-bytes closing
@@ -96,7 +99,8 @@ target-stands : (t : List ℕ) (g : Target) (place : PartPlace) (rest : List ℕ
 unfolding target-records spell gather has-target record-bytes content-bytes two
 target-stands t no-target place rest s l d = (s .has, s .order, omega (arith, s .ends))
 target-stands t (target q xs) place rest s l d =
-    let e : drop (place .target) t ≡ record-bytes (target-head q) ++ (spell (content-records xs) ++ rest) = d ∙ append-assoc (record-bytes (target-head q)) (spell (content-records xs)) rest in
+    let e : drop (place .target) t ≡ record-bytes (target-head q) ++ (spell (content-records xs) ++ rest) = d
+    ∙ append-assoc (record-bytes (target-head q)) (spell (content-records xs)) rest in
     let u = slice-at t (place .target) (place .target + 4) (record-bytes (target-head q)) (spell (content-records xs) ++ rest) e l refl in (
       s .has,
       s .order,
@@ -113,7 +117,8 @@ module _ (t : List ℕ) (h : Passes t) (b : List Part) (p : Part) (a : List Part
   Last = spell (gather part-records a) ++ record-bytes closing
 
   from-head : drop (place .head) t ≡ spell (part-records p) ++ Last
-  from-head = sym (there .rest) ∙ spell-append (part-records p) (gather part-records a ++ (closing ∷ [])) ∙ ap (λ (s : List ℕ). spell (part-records p) ++ s) (rest-is a)
+  from-head = sym (there .rest) ∙ spell-append (part-records p) (gather part-records a ++ (closing ∷ []))
+      ∙ ap (λ (s : List ℕ). spell (part-records p) ++ s) (rest-is a)
 
   from-pieces : drop (place .head) t ≡ head-bytes (p .head) ++ (content-bytes (p .source) ++ (spell (target-records (p .target)) ++ Last))
   from-pieces =
@@ -179,7 +184,8 @@ reached-start t h n l =
     }
 
 module _ (t : List ℕ) (h : Passes t) (n at left : ℕ) (s : Reached t n at left) where
-  some-by : (ps : List Part) → At t at (gather part-records ps ++ (closing ∷ [])) → is-part (read (drop at t)) ≡ true → (p : Part) × (a : List Part) × (ps ≡ p ∷ a)
+  some-by : (ps : List Part) → At t at (gather part-records ps ++ (closing ∷ [])) → is-part (read (drop at t)) ≡ true
+      → (p : Part) × (a : List Part) × (ps ≡ p ∷ a)
   unfolding gather is-part
   some-by [] a e = absurd (true≢false (sym e ∙ ap is-part (at-next t at closing [] a .reads)))
   some-by (p ∷ ps) a e = (p, ps, refl)
@@ -188,7 +194,10 @@ module _ (t : List ℕ) (h : Passes t) (n at left : ℕ) (s : Reached t n at lef
   unfolding gather is-part part-records
   none-by [] a e = refl
   none-by (p ∷ ps) a e =
-      absurd (true≢false (sym (ap is-part (at-next t at (part-head (p .head)) (content-records (p .source) ++ target-records (p .target) ++ gather part-records ps ++ (closing ∷ [])) a .reads)) ∙ e))
+      absurd (true≢false
+      (sym (ap is-part
+      (at-next t at (part-head (p .head))
+      (content-records (p .source) ++ target-records (p .target) ++ gather part-records ps ++ (closing ∷ [])) a .reads)) ∙ e))
 
   pub reached-missing : is-part (read (drop at t)) ≡ false → focus (unit t .parts) n ≡ nowhere
   reached-missing e =
@@ -222,7 +231,8 @@ module _ (t : List ℕ) (h : Passes t) (n at left : ℕ) (s : Reached t n at lef
           let p = next-part .0 in
           let q = span-end at p place span in
           let g : spell (gather part-records (s .behind ++ (p ∷ []))) ≡ spell (gather part-records (s .behind)) ++ spell (part-records p) =
-          ap spell (gather-append part-records (s .behind) (p ∷ []) ∙ ap (λ (rs : List Record). gather part-records (s .behind) ++ rs) (append-nil (part-records p)))
+          ap spell (gather-append part-records (s .behind) (p ∷ [])
+          ∙ ap (λ (rs : List Record). gather part-records (s .behind) ++ rs) (append-nil (part-records p)))
           ∙ spell-append (gather part-records (s .behind)) (part-records p) in
           record {
             behind = s .behind ++ (p ∷ []);
@@ -230,7 +240,14 @@ module _ (t : List ℕ) (h : Passes t) (n at left : ℕ) (s : Reached t n at lef
             all = next-all ∙ sym (append-assoc (s .behind) (p ∷ []) (next-part .1));
             count = omega (arith, s .count, length-append (s .behind) (p ∷ []));
             least = omega arith;
-            offset = omega (arith, q, s .offset, ap (λ (x : List ℕ). length x) g, length-append (spell (gather part-records (s .behind))) (spell (part-records p)));
+            offset = omega (
+              arith,
+              q,
+              s .offset,
+              ap (λ (x : List ℕ). length x) g,
+              length-append (spell (gather part-records (s .behind)))
+                  (spell (part-records p)),
+            );
             there = subst (λ (k : ℕ). At t k (gather part-records (next-part .1) ++ (closing ∷ []))) (sym q)
                 (at-past t at (part-records p) (gather part-records (next-part .1) ++ (closing ∷ [])) next-there);
           }
@@ -244,7 +261,8 @@ module _ (t : List ℕ) (h : Passes t) (n at left : ℕ) (s : Reached t n at lef
             s .behind,
             p,
             a,
-            ap (λ (m : ℕ). focus (unit t .parts) m) k ∙ ap (λ (ps : List Part). focus ps (suc (length (s .behind)))) next-all ∙ focus-in (s .behind) p a,
+            ap (λ (m : ℕ). focus (unit t .parts) m) k ∙ ap (λ (ps : List Part). focus ps (suc (length (s .behind)))) next-all
+                ∙ focus-in (s .behind) p a,
             stands t h (s .behind) p a place next-all (span .head ∙ s .offset)
                 (subst (λ (o : ℕ). At t o (part-records p ++ (gather part-records a ++ (closing ∷ [])))) z next-there)
                 (subst (λ (o : ℕ). PartSpan o p place) z span),

@@ -31,7 +31,8 @@ placed-append at (r ∷ rs) qs =
     ap {B = List Entry} (λ l. record { at = at; the = r } ∷ l)
     (placed-append (at + length (record-bytes r)) rs qs
     ∙ ap (λ (k : ℕ). placed (at + length (record-bytes r)) rs ++ placed k qs)
-    (let z : at + length (record-bytes r) + length (spell rs) ≡ at + length (record-bytes r ++ spell rs) = omega (arith, length-append (record-bytes r) (spell rs)) in z))
+    (let z : at + length (record-bytes r) + length (spell rs) ≡ at + length (record-bytes r ++ spell rs)
+    = omega (arith, length-append (record-bytes r) (spell rs)) in z))
 
 -- a content with one more item that is no text has one more record
 unfoldable pub is-text : Item → Bool
@@ -157,9 +158,11 @@ module _ {B : Type 0} (f : Placed → List B) (no-text : (c at : ℕ) → f (rec
       ap (λ (l : List Record). gather of-entry (placed at l)) (content-more ys x e)
       ∙ ap (gather of-entry) (placed-append at (content-records ys) (inline x ∷ []))
       ∙ gather-append of-entry (placed at (content-records ys)) (placed (at + length (spell (content-records ys))) (inline x ∷ []))
-      ∙ ap (λ (l : List B). gather of-entry (placed at (content-records ys)) ++ l) (append-nil (f (record { item = x; at = at + length (spell (content-records ys)) })))
+      ∙ ap (λ (l : List B). gather of-entry (placed at (content-records ys)) ++ l)
+      (append-nil (f (record { item = x; at = at + length (spell (content-records ys)) })))
 
-  one-more : (at : ℕ) (ys : Content) (x : Item) → Found at (content-records (ys ++ (x ∷ []))) ≡ Found at (content-records ys) ++ f (record { item = x; at = at + length (content-bytes ys) })
+  one-more : (at : ℕ) (ys : Content) (x : Item)
+      → Found at (content-records (ys ++ (x ∷ []))) ≡ Found at (content-records ys) ++ f (record { item = x; at = at + length (content-bytes ys) })
   unfolding is-text
   one-more at ys (text c) =
       sym (same-grown at (grown ys c)) ∙ sym (append-nil (Found at (content-records ys)))
@@ -171,15 +174,19 @@ module _ {B : Type 0} (f : Placed → List B) (no-text : (c at : ℕ) → f (rec
   one-more at ys (annotation-start w i l) = more at ys (annotation-start w i l) refl
   one-more at ys (annotation-end w i) = more at ys (annotation-end w i) refl
 
-  from-seen : (at : ℕ) (seen xs : Content) → Found at (content-records (reverse seen ++ xs)) ≡ Found at (content-records (reverse seen)) ++ gather f (placed-from at seen xs)
+  from-seen : (at : ℕ) (seen xs : Content)
+      → Found at (content-records (reverse seen ++ xs)) ≡ Found at (content-records (reverse seen)) ++ gather f (placed-from at seen xs)
   unfolding placed-from gather
-  from-seen at seen [] = ap (λ (l : Content). Found at (content-records l)) (append-nil (reverse seen)) ∙ sym (append-nil (Found at (content-records (reverse seen))))
+  from-seen at seen [] = ap (λ (l : Content). Found at (content-records l)) (append-nil (reverse seen))
+      ∙ sym (append-nil (Found at (content-records (reverse seen))))
   from-seen at seen (x ∷ xs) =
-      ap (λ (l : Content). Found at (content-records l)) (sym (append-assoc (reverse seen) (x ∷ []) xs) ∙ ap (λ (l : Content). l ++ xs) (sym (reverse-cons x seen)))
+      ap (λ (l : Content). Found at (content-records l))
+      (sym (append-assoc (reverse seen) (x ∷ []) xs) ∙ ap (λ (l : Content). l ++ xs) (sym (reverse-cons x seen)))
       ∙ from-seen at (x ∷ seen) xs
       ∙ ap (λ (l : Content). Found at (content-records l) ++ gather f (placed-from at (x ∷ seen) xs)) (reverse-cons x seen)
       ∙ ap (λ (l : List B). l ++ gather f (placed-from at (x ∷ seen) xs)) (one-more at (reverse seen) x)
-      ∙ append-assoc (Found at (content-records (reverse seen))) (f (record { item = x; at = at + length (content-bytes (reverse seen)) })) (gather f (placed-from at (x ∷ seen) xs))
+      ∙ append-assoc (Found at (content-records (reverse seen))) (f (record { item = x; at = at + length (content-bytes (reverse seen)) }))
+      (gather f (placed-from at (x ∷ seen) xs))
 
   -- the items of a content, and its records
   pub content-found : (at : ℕ) (xs : Content) → gather of-entry (placed at (content-records xs)) ≡ gather f (placed-from at [] xs)
@@ -250,7 +257,8 @@ at-next t at r rs a =
       fits = w;
       then = record {
         good = g .1;
-        rest = sym (drop-append-seam (record-bytes r) (spell rs)) ∙ ap (drop (length (record-bytes r))) (a .rest) ∙ drop-drop (length (record-bytes r)) at t;
+        rest = sym (drop-append-seam (record-bytes r) (spell rs)) ∙ ap (drop (length (record-bytes r))) (a .rest)
+            ∙ drop-drop (length (record-bytes r)) at t;
         within = w;
       };
     }

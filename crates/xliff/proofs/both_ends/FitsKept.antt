@@ -58,7 +58,8 @@ fit-if w false x f = f
 fit-orders : (f : ℕ → ℕ) (ps : List Part) → FitParts ps → FitParts (order-parts f ps)
 unfolding order-parts order-part order-target
 fit-orders f [] each-nil = each-nil
-fit-orders f (p ∷ ps) (each-cons h r) = each-cons (record { head = h .head; source = h .source; target = by (p .target) (h .target) }) (fit-orders f ps r)
+fit-orders f (p ∷ ps) (each-cons h r) = each-cons (record { head = h .head; source = h .source; target = by (p .target) (h .target) })
+    (fit-orders f ps r)
   where
     by : (g : Target) → FitTarget g → FitTarget (order-target f g)
     by no-target k = tt
@@ -83,7 +84,8 @@ unfolding head-id with-id
 new-id i (segment f) = refl
 new-id i (ignorable j) = refl
 
-pub split-fits : (source-cut target-cut new : ℕ) (ps : List Part) (n : ℕ) → new < 65536 → FitParts ps → FitParts (split-focus source-cut target-cut new ps (focus ps n))
+pub split-fits : (source-cut target-cut new : ℕ) (ps : List Part) (n : ℕ) → new < 65536 → FitParts ps
+    → FitParts (split-focus source-cut target-cut new ps (focus ps n))
 unfolding split-focus first-half second-half
 split-fits source-cut target-cut new ps n l f = by (focus ps n) refl
   where
@@ -143,7 +145,8 @@ set-fits ps n st new g f = by (focus ps n) refl
     by nowhere e = f
     by (here b p a) e =
         let (u, v, w) = each-apart b p a (subst FitParts (focus-here ps n b p a e) f) in
-        each-append b _ u (each-cons (record { head = subst (λ (z : ℕ). z < 65536) (sym (state-id st (p .head))) (v .head); source = v .source; target = g }) w)
+        each-append b _ u
+        (each-cons (record { head = subst (λ (z : ℕ). z < 65536) (sym (state-id st (p .head))) (v .head); source = v .source; target = g }) w)
 
 pub remove-fits : (ps : List Part) (n : ℕ) → FitParts ps → FitParts (remove-focus ps (focus ps n))
 unfolding remove-focus
@@ -153,7 +156,8 @@ remove-fits ps n f = by (focus ps n) refl
     by nowhere e = f
     by (here b p a) e =
         let (u, v, w) = each-apart b p a (subst FitParts (focus-here ps n b p a e) f) in
-        each-append b _ u (each-cons (record { head = subst (λ (z : ℕ). z < 65536) (sym (state-id _ (p .head))) (v .head); source = v .source; target = tt }) w)
+        each-append b _ u
+        (each-cons (record { head = subst (λ (z : ℕ). z < 65536) (sym (state-id _ (p .head))) (v .head); source = v .source; target = tt }) w)
 
 -- Rewrite
 pub rewrite-fits : (side i : ℕ) (w : Form) (ps : List Part) → FitParts ps → FitParts (map (rewrite-part side (rewrite-item i w)) ps)

@@ -41,14 +41,17 @@ unfolding resolved with-id
 open-with-id c i (segment f) e = e
 open-with-id c i (ignorable j) e = e
 
-pub split-closed : (c source-cut target-cut new : ℕ) (ps : List Part) (b : List Part) (p : Part) (a : List Part) → ps ≡ b ++ (p ∷ a) → is-closed c p ≡ false
+pub split-closed : (c source-cut target-cut new : ℕ) (ps : List Part) (b : List Part) (p : Part) (a : List Part) → ps ≡ b ++ (p ∷ a)
+    → is-closed c p ≡ false
     → closed-of c (split-focus source-cut target-cut new ps (here b p a)) ≡ closed-of c ps
 unfolding split-focus first-half second-half closed-of gather is-closed
 split-closed c source-cut target-cut new ps b p a e o =
-    closed-append c (order-parts (split-order (p .target)) b) (first-half source-cut target-cut p ∷ second-half source-cut target-cut new p ∷ order-parts (split-order (p .target)) a)
+    closed-append c (order-parts (split-order (p .target)) b)
+    (first-half source-cut target-cut p ∷ second-half source-cut target-cut new p ∷ order-parts (split-order (p .target)) a)
     ∙ ap₂ _++_ (closed-orders c (split-order (p .target)) b)
     (ap₂ _++_ (not-closed c (first-half source-cut target-cut p) o)
-    (ap₂ _++_ (not-closed c (second-half source-cut target-cut new p) (open-with-id c new (p .head) o)) (closed-orders c (split-order (p .target)) a)))
+    (ap₂ _++_ (not-closed c (second-half source-cut target-cut new p) (open-with-id c new (p .head) o))
+    (closed-orders c (split-order (p .target)) a)))
     ∙ ap (λ (l : List ClosedPart). closed-of c b ++ (l ++ closed-of c a)) (sym (not-closed c p o))
     ∙ sym (closed-append c b (p ∷ a)) ∙ ap (closed-of c) (sym e)
 
@@ -97,7 +100,8 @@ unfolding resolved with-state
 state-resolved c st (segment f) = refl
 state-resolved c st (ignorable i) = refl
 
-closed-state : (c st : ℕ) (p : Part) (g : Target) → closed-part c (record { head = with-state st (p .head); source = p .source; target = g }) ≡ closed-part c p
+closed-state : (c st : ℕ) (p : Part) (g : Target)
+    → closed-part c (record { head = with-state st (p .head); source = p .source; target = g }) ≡ closed-part c p
 unfolding closed-part is-closed
 closed-state c st p g = rw (state-id st (p .head), state-resolved c st (p .head))
 

@@ -48,22 +48,26 @@ before-start (a ∷ []) c w v h = absurd (no-second h)
 before-start (a ∷ b ∷ u) c w v h = absurd (not-nil u (mk c w start) v (a-pair h .4))
 
 -- functions that agree at each place of a list
-map-from : (f g : Item → Item) (l pre rest : Content) → l ≡ pre ++ rest → ((pre : Content) (x : Item) (rest : Content) → l ≡ pre ++ (x ∷ rest) → f x ≡ g x) → map f rest ≡ map g rest
+map-from : (f g : Item → Item) (l pre rest : Content) → l ≡ pre ++ rest
+    → ((pre : Content) (x : Item) (rest : Content) → l ≡ pre ++ (x ∷ rest) → f x ≡ g x) → map f rest ≡ map g rest
 map-from f g l pre [] e h = refl
 map-from f g l pre (x ∷ rest) e h =
     ap₂ {C = Content} _∷_ (h pre x rest e) (map-from f g l (pre ++ (x ∷ [])) rest (e ∙ sym (append-assoc pre (x ∷ []) rest)) h)
 
 -- a mark of pc or mrk is seen among the marks of its content
-seen-in : (t : Half) (pre : Content) (x : Item) (rest : Content) → is-form-P x ≡ true → opposite t (side x) ≡ true → anyMk (class x) t (marks (id-of x) (pre ++ (x ∷ rest))) ≡ true
+seen-in : (t : Half) (pre : Content) (x : Item) (rest : Content) → is-form-P x ≡ true → opposite t (side x) ≡ true
+    → anyMk (class x) t (marks (id-of x) (pre ++ (x ∷ rest))) ≡ true
 seen-in t pre x rest p o =
     ap (anyMk (class x) t) (marks-append (id-of x) pre (x ∷ rest)) ∙ anyMk-append (class x) t (marks (id-of x) pre) (marks (id-of x) (x ∷ rest))
-    ∙ ap (λ (b : Bool). anyMk (class x) t (marks (id-of x) pre) || b) (ap (anyMk (class x) t) (marks-cons (id-of x) x rest) ∙ seen-here x t (marks (id-of x) rest) p o)
+    ∙ ap (λ (b : Bool). anyMk (class x) t (marks (id-of x) pre) || b)
+    (ap (anyMk (class x) t) (marks-cons (id-of x) x rest) ∙ seen-here x t (marks (id-of x) rest) p o)
     ∙ or-true (anyMk (class x) t (marks (id-of x) pre))
 
 -- a content that stands in a sequence, in two pieces
 module _ (e : ℕ → ℕ → Half → Bool) (X a d Z : Content) (shapes : (i : ℕ) → Shape (e i) (marks i (X ++ ((a ++ d) ++ Z)))) where
   -- an item by whether its other half is beyond, or by its key
-  same-turn : (beyond : Content) (x : Item) → (is-form-P x ≡ true → any (other-half x) beyond ≡ is-cut a d (key-of x)) → cut-item beyond x ≡ turn (is-cut a d) x
+  same-turn : (beyond : Content) (x : Item) → (is-form-P x ≡ true → any (other-half x) beyond ≡ is-cut a d (key-of x))
+      → cut-item beyond x ≡ turn (is-cut a d) x
   unfolding cut-item turn flat
   same-turn beyond x h = same-form x (any (other-half x) beyond) (is-cut a d (key-of x)) h
 
@@ -72,7 +76,8 @@ module _ (e : ℕ → ℕ → Half → Bool) (X a d Z : Content) (shapes : (i : 
   around before x behind p q =
       subst (Shape (e (id-of x)))
       (ap (marks (id-of x)) q ∙ marks-append (id-of x) before (x ∷ behind)
-      ∙ ap (λ (l : List Mk). marks (id-of x) before ++ l) (marks-cons (id-of x) x behind ∙ ap (λ (l : List Mk). l ++ marks (id-of x) behind) (own-mark x p)))
+      ∙ ap (λ (l : List Mk). marks (id-of x) before ++ l)
+      (marks-cons (id-of x) x behind ∙ ap (λ (l : List Mk). l ++ marks (id-of x) behind) (own-mark x p)))
       (shapes (id-of x))
 
   at-left : (pre : Content) (x : Item) (rest : Content) → a ≡ pre ++ (x ∷ rest) → cut-item d x ≡ turn (is-cut a d) x
@@ -90,10 +95,12 @@ module _ (e : ℕ → ℕ → Half → Bool) (X a d Z : Content) (shapes : (i : 
       by : (s : Bool) → is-start-half x ≡ s → is-form-P x ≡ true
           → anyMk (class x) (cond s start end) (marks i d) ≡ anyMk (class x) end (marks i a) && anyMk (class x) start (marks i d)
       by true s p =
-          let seen : anyMk (class x) end (marks i a) ≡ true = ap (λ (l : Content). anyMk (class x) end (marks i l)) q ∙ seen-in end pre x rest p (rw s) in
+          let seen : anyMk (class x) end (marks i a) ≡ true = ap (λ (l : Content). anyMk (class x) end (marks i l)) q
+          ∙ seen-in end pre x rest p (rw s) in
           rw seen
       by false s p =
-          let sh : Shape (e i) (marks i (X ++ pre) ++ (mk (class x) (is-form-P x) end ∷ marks i (rest ++ (d ++ Z)))) = rw s at (around (X ++ pre) x (rest ++ (d ++ Z)) p place) in
+          let sh : Shape (e i) (marks i (X ++ pre) ++ (mk (class x) (is-form-P x) end ∷ marks i (rest ++ (d ++ Z)))) = rw s at
+          (around (X ++ pre) x (rest ++ (d ++ Z)) p place) in
           let none-after = after-end (marks i (X ++ pre)) (class x) (is-form-P x) (marks i (rest ++ (d ++ Z))) sh in
           let gone : marks i d ≡ []
           = append-nil-left (marks i d) (marks i Z)
@@ -110,16 +117,19 @@ module _ (e : ℕ → ℕ → Half → Bool) (X a d Z : Content) (shapes : (i : 
       place : X ++ ((a ++ d) ++ Z) ≡ (X ++ (a ++ pre)) ++ (x ∷ (rest ++ Z))
       place =
           ap (λ (l : Content). X ++ l)
-          (append-assoc a d Z ∙ ap (λ (l : Content). a ++ (l ++ Z)) q ∙ ap (λ (l : Content). a ++ l) (append-assoc pre (x ∷ rest) Z) ∙ sym (append-assoc a pre (x ∷ (rest ++ Z))))
+          (append-assoc a d Z ∙ ap (λ (l : Content). a ++ (l ++ Z)) q ∙ ap (λ (l : Content). a ++ l) (append-assoc pre (x ∷ rest) Z)
+          ∙ sym (append-assoc a pre (x ∷ (rest ++ Z))))
           ∙ sym (append-assoc X (a ++ pre) (x ∷ (rest ++ Z)))
 
       by : (s : Bool) → is-start-half x ≡ s → is-form-P x ≡ true
           → anyMk (class x) (cond s start end) (marks i a) ≡ anyMk (class x) end (marks i a) && anyMk (class x) start (marks i d)
       by false s p =
-          let seen : anyMk (class x) start (marks i d) ≡ true = ap (λ (l : Content). anyMk (class x) start (marks i l)) q ∙ seen-in start pre x rest p (rw s) in
+          let seen : anyMk (class x) start (marks i d) ≡ true = ap (λ (l : Content). anyMk (class x) start (marks i l)) q
+          ∙ seen-in start pre x rest p (rw s) in
           rw seen (sym (and-true (anyMk (class x) end (marks i a))))
       by true s p =
-          let sh : Shape (e i) (marks i (X ++ (a ++ pre)) ++ (mk (class x) (is-form-P x) start ∷ marks i (rest ++ Z))) = rw s at (around (X ++ (a ++ pre)) x (rest ++ Z) p place) in
+          let sh : Shape (e i) (marks i (X ++ (a ++ pre)) ++ (mk (class x) (is-form-P x) start ∷ marks i (rest ++ Z))) = rw s at
+          (around (X ++ (a ++ pre)) x (rest ++ Z) p place) in
           let none-before = before-start (marks i (X ++ (a ++ pre))) (class x) (is-form-P x) (marks i (rest ++ Z)) sh in
           let gone : marks i a ≡ []
           = append-nil-left (marks i a) (marks i pre)
@@ -132,16 +142,20 @@ module _ (e : ℕ → ℕ → Half → Bool) (X a d Z : Content) (shapes : (i : 
   pub right-turned : map (cut-item a) d ≡ map (turn (is-cut a d)) d
   right-turned = map-from (cut-item a) (turn (is-cut a d)) d [] d refl at-right
 
--- A content, cut: together its two halves are the content with what is cut turned
+-- A content, cut: the shapes around its two pieces, and together its two halves are the content with what is cut turned
+in-pieces : (n : ℕ) (xs : Content) (e : ℕ → ℕ → Half → Bool) (X Z : Content) → ((i : ℕ) → Shape (e i) (marks i (X ++ (xs ++ Z))))
+    → (i : ℕ) → Shape (e i) (marks i (X ++ ((take n xs ++ drop n xs) ++ Z)))
+in-pieces n xs e X Z shapes i = subst (λ (l : Content). Shape (e i) (marks i (X ++ (l ++ Z)))) (sym (take-append-drop n xs)) (shapes i)
+
 pub cut-together : (n : ℕ) (xs : Content) (e : ℕ → ℕ → Half → Bool) (X Z : Content) → ((i : ℕ) → Shape (e i) (marks i (X ++ (xs ++ Z))))
     → first-items n xs ++ second-items n xs ≡ map (turn (is-cut (take n xs) (drop n xs))) xs
 unfolding first-items second-items
 cut-together n xs e X Z shapes =
     let a : Content = take n xs in
     let d : Content = drop n xs in
-    let whole : a ++ d ≡ xs = take-append-drop n xs in
-    let sh : (i : ℕ) → Shape (e i) (marks i (X ++ ((a ++ d) ++ Z))) = λ i. subst (λ (l : Content). Shape (e i) (marks i (X ++ (l ++ Z)))) (sym whole) (shapes i) in
-    ap₂ _++_ (left-turned e X a d Z sh) (right-turned e X a d Z sh) ∙ sym (map-append (turn (is-cut a d)) a d) ∙ ap (map (turn (is-cut a d))) whole
+    let around = in-pieces n xs e X Z shapes in
+    ap₂ _++_ (left-turned e X a d Z around) (right-turned e X a d Z around)
+    ∙ sym (map-append (turn (is-cut a d)) a d) ∙ ap (map (turn (is-cut a d))) (take-append-drop n xs)
 
 -- A balanced content, cut: its two halves are balanced, and together they are the content with some keys turned
 pub record Cut (n : ℕ) (xs : Content) : Type 0 where
@@ -150,16 +164,16 @@ pub record Cut (n : ℕ) (xs : Content) : Type 0 where
   pub first : Balanced (first-items n xs)
   pub second : Balanced (second-items n xs)
 
-pub cut-content : (n : ℕ) (xs : Content) (e : ℕ → ℕ → Half → Bool) (X Z : Content) → ((i : ℕ) → Shape (e i) (marks i (X ++ (xs ++ Z)))) → Balanced xs → Cut n xs
+pub cut-content : (n : ℕ) (xs : Content) (e : ℕ → ℕ → Half → Bool) (X Z : Content) → ((i : ℕ) → Shape (e i) (marks i (X ++ (xs ++ Z))))
+    → Balanced xs → Cut n xs
 unfolding first-items second-items
 cut-content n xs e X Z shapes b =
     let a : Content = take n xs in
     let d : Content = drop n xs in
-    let whole : a ++ d ≡ xs = take-append-drop n xs in
-    let sh : (i : ℕ) → Shape (e i) (marks i (X ++ ((a ++ d) ++ Z))) = λ i. subst (λ (l : Content). Shape (e i) (marks i (X ++ (l ++ Z)))) (sym whole) (shapes i) in
-    let l = left-turned e X a d Z sh in
-    let r = right-turned e X a d Z sh in
-    let q = cut-balances a d (subst Balanced (sym whole) b) in
+    let around = in-pieces n xs e X Z shapes in
+    let l = left-turned e X a d Z around in
+    let r = right-turned e X a d Z around in
+    let q = cut-balances a d (subst Balanced (sym (take-append-drop n xs)) b) in
     record {
       keys = is-cut a d;
       together = cut-together n xs e X Z shapes;
@@ -208,7 +222,8 @@ pub record SplitKeeps (old new : List Part) : Type 0 where
 two-in : (X f s Z m : Content) → f ++ s ≡ m → X ++ (f ++ (s ++ Z)) ≡ X ++ (m ++ Z)
 two-in X f s Z m e = ap (λ (l : Content). X ++ l) (sym (append-assoc f s Z) ∙ ap (λ (l : Content). l ++ Z) e)
 
-module _ (source-cut target-cut new : ℕ) (b : List Part) (p : Part) (a : List Part) (five : fault-5 (b ++ (p ∷ a)) ≡ none) (g : Good7 (b ++ (p ∷ a))) where
+module _ (source-cut target-cut new : ℕ) (b : List Part) (p : Part) (a : List Part) (five : fault-5 (b ++ (p ∷ a)) ≡ none)
+    (g : Good7 (b ++ (p ∷ a))) where
   abbrev old : List Part
   old = b ++ (p ∷ a)
 
@@ -239,8 +254,10 @@ module _ (source-cut target-cut new : ℕ) (b : List Part) (p : Part) (a : List 
         behind = source-sequence a;
         was = source-was;
         is = source-append (order-parts f b) (first-half source-cut target-cut p ∷ second-half source-cut target-cut new p ∷ order-parts f a)
-            ∙ ap₂ (λ (l m : Content). l ++ (first-items source-cut (p .source) ++ (second-items source-cut (p .source) ++ m))) (source-orders f b) (source-orders f a)
-            ∙ two-in (source-sequence b) (first-items source-cut (p .source)) (second-items source-cut (p .source)) (source-sequence a) (map (turn (c .keys)) (p .source)) (c .together);
+            ∙ ap₂ (λ (l m : Content). l ++ (first-items source-cut (p .source) ++ (second-items source-cut (p .source) ++ m)))
+            (source-orders f b) (source-orders f a)
+            ∙ two-in (source-sequence b) (first-items source-cut (p .source)) (second-items source-cut (p .source)) (source-sequence a)
+            (map (turn (c .keys)) (p .source)) (c .together);
       }
 
   source-shape : (i : ℕ) → Shape (waits [] i) (marks i (source-sequence now))
@@ -248,9 +265,11 @@ module _ (source-cut target-cut new : ℕ) (b : List Part) (p : Part) (a : List 
   source-shape i =
       let t = source-turned in
       subst (λ (l : Content). Shape (waits [] i) (marks i l)) (sym (t .is))
-      (Shape-turn (t .keys) i (t .before) (t .mid) (t .behind) (own .source) (subst (λ (l : Content). Shape (waits [] i) (marks i l)) (t .was) (g .source-side i)))
+      (Shape-turn (t .keys) i (t .before) (t .mid) (t .behind) (own .source)
+      (subst (λ (l : Content). Shape (waits [] i) (marks i l)) (t .was) (g .source-side i)))
 
-  all-balanced : Balanced (target-items (first-target target-cut (p .target))) → Balanced (target-items (second-target target-cut (p .target))) → AllBalanced now
+  all-balanced : Balanced (target-items (first-target target-cut (p .target)))
+      → Balanced (target-items (second-target target-cut (p .target))) → AllBalanced now
   unfolding first-half second-half
   all-balanced u v =
       let (hb, hp, ha) = each-apart b p a (g .bal) in
@@ -259,12 +278,14 @@ module _ (source-cut target-cut new : ℕ) (b : List Part) (p : Part) (a : List 
       each-append (order-parts f b) _ (balanced-orders f b hb)
       (each-cons (record { source = c .first; target = u }) (each-cons (record { source = c .second; target = v }) (balanced-orders f a ha)))
 
-  bare-now : bare-sequence now ≡ bare-sequence b ++ (bare (first-half source-cut target-cut p) ++ (bare (second-half source-cut target-cut new p) ++ bare-sequence a))
+  bare-now : bare-sequence now
+      ≡ bare-sequence b ++ (bare (first-half source-cut target-cut p) ++ (bare (second-half source-cut target-cut new p) ++ bare-sequence a))
   unfolding bare-sequence gather
   bare-now =
       let f : ℕ → ℕ = split-order (p .target) in
       bare-append (order-parts f b) (first-half source-cut target-cut p ∷ second-half source-cut target-cut new p ∷ order-parts f a)
-      ∙ ap₂ (λ (l m : Content). l ++ (bare (first-half source-cut target-cut p) ++ (bare (second-half source-cut target-cut new p) ++ m))) (bare-orders f b) (bare-orders f a)
+      ∙ ap₂ (λ (l m : Content). l ++ (bare (first-half source-cut target-cut p) ++ (bare (second-half source-cut target-cut new p) ++ m)))
+      (bare-orders f b) (bare-orders f a)
 
   bare-was : bare-sequence old ≡ bare-sequence b ++ (bare p ++ bare-sequence a)
   unfolding bare-sequence gather
@@ -273,15 +294,19 @@ module _ (source-cut target-cut new : ℕ) (b : List Part) (p : Part) (a : List 
   -- with a target
   module _ (q : ℕ) (xs : Content) (target-equals : p .target ≡ target q xs) where
     raised : (u v : Content) × (target-sequence old ≡ u ++ (xs ++ v))
-        × (target-sequence (order-parts (raise-above q) b ++ (first-half source-cut target-cut p ∷ second-half source-cut target-cut new p ∷ order-parts (raise-above q) a))
+        × (target-sequence
+        (order-parts (raise-above q) b ++
+        (first-half source-cut target-cut p ∷ second-half source-cut target-cut new p ∷ order-parts (raise-above q) a))
         ≡ u ++ ((first-items target-cut xs ++ second-items target-cut xs) ++ v))
     unfolding first-half second-half first-target second-target
     raised =
         let (l, h, nb, na) = place b p a q xs target-equals five in
-        split-targets b a p (first-half source-cut target-cut p) (second-half source-cut target-cut new p) q xs (first-items target-cut xs) (second-items target-cut xs) target-equals
+        split-targets b a p (first-half source-cut target-cut p) (second-half source-cut target-cut new p) q xs (first-items target-cut xs)
+        (second-items target-cut xs) target-equals
         (ap (first-target target-cut) target-equals) (ap (second-target target-cut) target-equals) l h (unused-order q b nb) (unused-order q a na)
 
-    seqs : (u v : Content) × (target-sequence old ≡ u ++ (xs ++ v)) × (target-sequence now ≡ u ++ ((first-items target-cut xs ++ second-items target-cut xs) ++ v))
+    seqs : (u v : Content) × (target-sequence old ≡ u ++ (xs ++ v)) ×
+        (target-sequence now ≡ u ++ ((first-items target-cut xs ++ second-items target-cut xs) ++ v))
     unfolding split-order
     seqs = (
       raised .0,
@@ -299,7 +324,8 @@ module _ (source-cut target-cut new : ℕ) (b : List Part) (p : Part) (a : List 
     target-is-cut : Cut target-cut xs
     target-is-cut =
         let (u, v, x, y) = seqs in
-        cut-content target-cut xs (λ i. waits (bare-sequence old) i) u v (λ i. subst (λ (l : Content). Shape (waits (bare-sequence old) i) (marks i l)) x (g .target-side i)) own-balanced
+        cut-content target-cut xs (λ i. waits (bare-sequence old) i) u v
+        (λ i. subst (λ (l : Content). Shape (waits (bare-sequence old) i) (marks i l)) x (g .target-side i)) own-balanced
 
     target-turned : Turned (target-sequence old) (target-sequence now)
     target-turned =
@@ -316,7 +342,8 @@ module _ (source-cut target-cut new : ℕ) (b : List Part) (p : Part) (a : List 
 
     bare-same : bare-sequence now ≡ bare-sequence old
     unfolding bare first-half second-half first-target second-target has-target
-    bare-same = bare-now ∙ ap (λ (t : Target). bare-sequence b ++ (cond (has-target (first-target target-cut t)) [] (first-items source-cut (p .source))
+    bare-same = bare-now
+        ∙ ap (λ (t : Target). bare-sequence b ++ (cond (has-target (first-target target-cut t)) [] (first-items source-cut (p .source))
         ++ (cond (has-target (second-target target-cut t)) [] (second-items source-cut (p .source)) ++ bare-sequence a))) target-equals
         ∙ sym (bare-was ∙ ap (λ (t : Target). bare-sequence b ++ (cond (has-target t) [] (p .source) ++ bare-sequence a)) target-equals)
 
@@ -333,7 +360,8 @@ module _ (source-cut target-cut new : ℕ) (b : List Part) (p : Part) (a : List 
             target-side = λ i.
                 subst (λ (l : Content). Shape (waits l i) (marks i (target-sequence now))) (sym bare-same)
                 (subst (λ (l : Content). Shape (waits (bare-sequence old) i) (marks i l)) (sym (t .is))
-                (Shape-turn (t .keys) i (t .before) xs (t .behind) own-balanced (subst (λ (l : Content). Shape (waits (bare-sequence old) i) (marks i l)) (t .was) (g .target-side i))));
+                (Shape-turn (t .keys) i (t .before) xs (t .behind) own-balanced
+                (subst (λ (l : Content). Shape (waits (bare-sequence old) i) (marks i l)) (t .was) (g .target-side i))));
             bal = all-balanced (subst (λ (t : Target). Balanced (target-items (first-target target-cut t))) (sym target-equals) (c .first))
                 (subst (λ (t : Target). Balanced (target-items (second-target target-cut t))) (sym target-equals) (c .second));
           };
@@ -351,9 +379,11 @@ module _ (source-cut target-cut new : ℕ) (b : List Part) (p : Part) (a : List 
 
     bare-turned : bare-sequence now ≡ bare-sequence b ++ (map (turn (source-is-cut .keys)) (p .source) ++ bare-sequence a)
     unfolding bare first-half second-half first-target second-target has-target
-    bare-turned = bare-now ∙ ap (λ (t : Target). bare-sequence b ++ (cond (has-target (first-target target-cut t)) [] (first-items source-cut (p .source))
+    bare-turned = bare-now
+        ∙ ap (λ (t : Target). bare-sequence b ++ (cond (has-target (first-target target-cut t)) [] (first-items source-cut (p .source))
         ++ (cond (has-target (second-target target-cut t)) [] (second-items source-cut (p .source)) ++ bare-sequence a))) target-equals
-        ∙ two-in (bare-sequence b) (first-items source-cut (p .source)) (second-items source-cut (p .source)) (bare-sequence a) (map (turn (source-is-cut .keys)) (p .source)) (source-is-cut .together)
+        ∙ two-in (bare-sequence b) (first-items source-cut (p .source)) (second-items source-cut (p .source)) (bare-sequence a)
+        (map (turn (source-is-cut .keys)) (p .source)) (source-is-cut .together)
 
     bare-old : bare-sequence old ≡ bare-sequence b ++ (p .source ++ bare-sequence a)
     unfolding bare has-target
@@ -369,7 +399,8 @@ module _ (source-cut target-cut new : ℕ) (b : List Part) (p : Part) (a : List 
             source-side = source-shape;
             target-side = λ i.
                 Shape-mono (λ c s h. ap (λ (l : Content). anyMk c s (marks i l)) bare-turned
-                ∙ waits-turn (source-is-cut .keys) i (bare-sequence b) (p .source) (bare-sequence a) c s ∙ ap (λ (l : Content). anyMk c s (marks i l)) (sym bare-old) ∙ h)
+                ∙ waits-turn (source-is-cut .keys) i (bare-sequence b) (p .source) (bare-sequence a) c s
+                ∙ ap (λ (l : Content). anyMk c s (marks i l)) (sym bare-old) ∙ h)
                 (subst (λ (l : Content). Shape (waits (bare-sequence old) i) (marks i l)) (sym same-target-sequence) (g .target-side i));
             bal = all-balanced (subst (λ (t : Target). Balanced (target-items (first-target target-cut t))) (sym target-equals) r-nil)
                 (subst (λ (t : Target). Balanced (target-items (second-target target-cut t))) (sym target-equals) r-nil);

@@ -45,7 +45,8 @@ rewrite-of-order side i w q (p ∷ ps) =
   where
     by : (b : Bool) → flattened (of-order q
         ((cond {A = Part} b (record { head = p .head; source = map (rewrite-item i w) (p .source); target = p .target })
-        (record { head = p .head; source = p .source; target = rewrite-target (rewrite-item i w) (p .target) })) .target)) ≡ flattened (of-order q (p .target))
+        (record { head = p .head; source = p .source; target = rewrite-target (rewrite-item i w) (p .target) })) .target))
+        ≡ flattened (of-order q (p .target))
     by true = refl
     by false = flattened-of-order i w q (p .target)
 
@@ -54,7 +55,8 @@ rewrite-targets : (side i : ℕ) (w : Form) (q n : ℕ) (ps : List Part)
 unfolding targets
 rewrite-targets side i w q zero ps = refl
 rewrite-targets side i w q (suc n) ps =
-    flattened-append (target-of-order (map (rewrite-part side (rewrite-item i w)) ps) (suc q)) (targets (map (rewrite-part side (rewrite-item i w)) ps) (suc q) n)
+    flattened-append (target-of-order (map (rewrite-part side (rewrite-item i w)) ps) (suc q))
+    (targets (map (rewrite-part side (rewrite-item i w)) ps) (suc q) n)
     ∙ ap₂ _++_ (rewrite-of-order side i w (suc q) ps) (rewrite-targets side i w (suc q) n ps)
     ∙ sym (flattened-append (target-of-order ps (suc q)) (targets ps (suc q) n))
 
@@ -73,7 +75,8 @@ moved-but f q r h [] n w = refl
 moved-but f q r h (p ∷ ps) n w = by (p .target) n (moved-but f q r h ps)
   where
     by : (g : Target) → among h (order-list g ++ orders ps) ≡ false
-        → (among h (orders ps) ≡ false → ((o : ℕ) → (o ≡ h → ⊥) → (q ≡ f o → r ≡ o) × (r ≡ o → q ≡ f o)) → target-of-order (order-parts f ps) q ≡ target-of-order ps r)
+        → (among h (orders ps) ≡ false → ((o : ℕ) → (o ≡ h → ⊥) → (q ≡ f o → r ≡ o) × (r ≡ o → q ≡ f o))
+        → target-of-order (order-parts f ps) q ≡ target-of-order ps r)
         → of-order q (order-target f g) ++ target-of-order (order-parts f ps) q ≡ of-order r g ++ target-of-order ps r
     by no-target k ih = ih k w
     by (target o xs) k ih =
@@ -99,17 +102,22 @@ lowered-high h k o l n = by (ltb h o) refl
         (λ p. absurd (n (let z : o ≡ h = omega arith in z)), λ p. absurd (let z : ⊥ = omega arith in z))
 
 -- one part fewer, the same targets, and an order h that none has
-pub lower-targets : (h : ℕ) (qs ps : List Part) → 1 ≤ h → h ≤ length ps → length ps ≡ suc (length qs) → ((k : ℕ) → target-of-order qs k ≡ target-of-order ps k)
+pub lower-targets : (h : ℕ) (qs ps : List Part) → 1 ≤ h → h ≤ length ps → length ps ≡ suc (length qs)
+    → ((k : ℕ) → target-of-order qs k ≡ target-of-order ps k)
     → among h (orders qs) ≡ false → target-sequence (order-parts (lower-above h) qs) ≡ target-sequence ps
 unfolding target-sequence targets order-parts
 lower-targets h qs ps low high len same free =
     let new : List Part = order-parts (lower-above h) qs in
     let m : ℕ = length qs - (h - 1) in
-    let count : length (order-parts (lower-above h) qs) ≡ (h - 1) + m = length-map qs (order-part (lower-above h)) ∙ (let e : length qs ≡ (h - 1) + m = omega arith in e) in
+    let count : length (order-parts (lower-above h) qs) ≡ (h - 1) + m = length-map qs (order-part (lower-above h))
+    ∙ (let e : length qs ≡ (h - 1) + m = omega arith in e) in
     ap (targets new 0) count ∙ targets-add new 0 (h - 1) m
-    ∙ ap₂ _++_ (targets-same new ps 0 0 (h - 1) (λ k l. moved-but (lower-above h) (suc (0 + k)) (suc (0 + k)) h qs free (λ o n. lowered-low h (suc (0 + k)) o (omega arith) n) ∙ same (suc (0 + k))))
+    ∙ ap₂ _++_ (targets-same new ps 0 0 (h - 1)
+    (λ k l. moved-but (lower-above h) (suc (0 + k)) (suc (0 + k)) h qs free (λ o n. lowered-low h (suc (0 + k)) o (omega arith) n)
+    ∙ same (suc (0 + k))))
     (targets-same new ps (0 + (h - 1)) h m (λ k l.
-    moved-but (lower-above h) (suc (0 + (h - 1) + k)) (suc (suc (0 + (h - 1) + k))) h qs free (λ o n. lowered-high h (suc (0 + (h - 1) + k)) o (omega arith) n)
+    moved-but (lower-above h) (suc (0 + (h - 1) + k)) (suc (suc (0 + (h - 1) + k))) h qs free
+    (λ o n. lowered-high h (suc (0 + (h - 1) + k)) o (omega arith) n)
     ∙ same (suc (suc (0 + (h - 1) + k))) ∙ ap (target-of-order ps) (let e : suc (suc (0 + (h - 1) + k)) ≡ suc (h + k) = omega arith in e)))
     ∙ sym
     (ap (targets ps 0) (let e : length ps ≡ (h - 1) + suc m = omega arith in e) ∙ targets-add ps 0 (h - 1) (suc m)
@@ -125,13 +133,16 @@ module _ (b : List Part) (p q : Part) (a : List Part) where
   joined = b ++ (join-parts p q ∷ a)
 
   one-target : ((k : ℕ) → of-order k (join-targets (p .target) (q .target)) ≡ of-order k (p .target) ++ of-order k (q .target))
-      → order-list (join-targets (p .target) (q .target)) ≡ order-list (p .target) ++ order-list (q .target) → length (order-list (p .target) ++ order-list (q .target)) ≤ 1
+      → order-list (join-targets (p .target) (q .target)) ≡ order-list (p .target) ++ order-list (q .target)
+      → length (order-list (p .target) ++ order-list (q .target)) ≤ 1
       → target-sequence (order-parts (lower-above (highest-unused (length before) (orders before))) joined) ≡ target-sequence before
   unfolding join-parts target-of-order orders gather
   one-target same lists few =
       let shown : orders before ≡ orders b ++ (order-list (p .target) ++ order-list (q .target) ++ orders a)
-      = orders-append b (p ∷ q ∷ a) ∙ ap (λ (l : List ℕ). orders b ++ l) (sym (append-assoc (order-list (p .target)) (order-list (q .target)) (orders a))) in
-      let equal : orders joined ≡ orders before = orders-append b (join-parts p q ∷ a) ∙ ap (λ (l : List ℕ). orders b ++ (l ++ orders a)) lists ∙ sym shown in
+      = orders-append b (p ∷ q ∷ a)
+      ∙ ap (λ (l : List ℕ). orders b ++ l) (sym (append-assoc (order-list (p .target)) (order-list (q .target)) (orders a))) in
+      let equal : orders joined ≡ orders before = orders-append b (join-parts p q ∷ a)
+      ∙ ap (λ (l : List ℕ). orders b ++ (l ++ orders a)) lists ∙ sym shown in
       let less : length (orders before) < length before
       = omega (
         arith,
@@ -143,9 +154,11 @@ module _ (b : List Part) (p q : Part) (a : List Part) where
         orders-length a,
       ) in
       let h = highest-fits (length before) (orders before) less in
-      lower-targets (highest-unused (length before) (orders before)) joined before (h .1) (h .2) (omega (arith, length-append b (p ∷ q ∷ a), length-append b (join-parts p q ∷ a)))
+      lower-targets (highest-unused (length before) (orders before)) joined before (h .1) (h .2)
+      (omega (arith, length-append b (p ∷ q ∷ a), length-append b (join-parts p q ∷ a)))
       (λ k. target-append b (join-parts p q ∷ a) k
-      ∙ ap (λ (l : Content). target-of-order b k ++ l) (ap (λ (l : Content). l ++ target-of-order a k) (same k) ∙ append-assoc (of-order k (p .target)) (of-order k (q .target)) (target-of-order a k))
+      ∙ ap (λ (l : Content). target-of-order b k ++ l)
+      (ap (λ (l : Content). l ++ target-of-order a k) (same k) ∙ append-assoc (of-order k (p .target)) (of-order k (q .target)) (target-of-order a k))
       ∙ sym (target-append b (p ∷ q ∷ a) k))
       (ap (among (highest-unused (length before) (orders before))) equal ∙ h .0)
 
@@ -171,7 +184,8 @@ rise-again : (q : ℕ) (ps : List Part) → among (suc q) (orders ps) ≡ false 
 unfolding order-parts order-part order-target orders order-list gather among
 rise-again q [] n = refl
 rise-again q (p ∷ ps) n =
-    ap₂ {C = List Part} _∷_ (ap (λ (t : Target). record { head = p .head; source = p .source; target = t }) (back (p .target) n)) (rise-again q ps (rest (p .target) n))
+    ap₂ {C = List Part} _∷_ (ap (λ (t : Target). record { head = p .head; source = p .source; target = t }) (back (p .target) n))
+    (rise-again q ps (rest (p .target) n))
   where
     rest : (g : Target) → among (suc q) (order-list g ++ orders ps) ≡ false → among (suc q) (orders ps) ≡ false
     rest no-target k = k
@@ -193,18 +207,24 @@ pub lower-self : (q : ℕ) → lower-above q q ≡ q
 unfolding lower-above
 lower-self q = rw (le-ltb q q (omega arith))
 
-target-of-part : (q : ℕ) (xs ys : Content) (g h : Target) → g ≡ target q xs → h ≡ target (suc q) ys → order-target (lower-above q) (join-targets g h) ≡ target q (xs ++ ys)
+target-of-part : (q : ℕ) (xs ys : Content) (g h : Target) → g ≡ target q xs → h ≡ target (suc q) ys
+    → order-target (lower-above q) (join-targets g h) ≡ target q (xs ++ ys)
 unfolding order-target join-targets
 target-of-part q xs ys g h e f = rw (e, f) (ap (λ (z : ℕ). target z (xs ++ ys)) (lower-self q))
 
 lengths : (q : ℕ) (b : List Part) (p r : Part) (a : List Part)
-    → length (b ++ (p ∷ r ∷ a)) ≡ suc (length (order-parts (lower-above q) b ++ (order-part (lower-above q) (join-parts p r) ∷ order-parts (lower-above q) a)))
+    → length (b ++ (p ∷ r ∷ a))
+    ≡ suc (length (order-parts (lower-above q) b ++ (order-part (lower-above q) (join-parts p r) ∷ order-parts (lower-above q) a)))
 unfolding order-parts
 lengths q b p r a = simp (length-append, length-map) (omega arith)
 
 finish : (b : List Part) (p r : Part) (a : List Part) (q : ℕ) (xs ys : Content)
-    → (u v : Content) × (target-sequence (order-parts (lower-above q) b ++ (order-part (lower-above q) (join-parts p r) ∷ order-parts (lower-above q) a)) ≡ u ++ ((xs ++ ys) ++ v))
-    × (target-sequence (order-parts (raise-above q) (order-parts (lower-above q) b) ++ (p ∷ r ∷ order-parts (raise-above q) (order-parts (lower-above q) a))) ≡ u ++ ((xs ++ ys) ++ v))
+    → (u v : Content) ×
+    (target-sequence (order-parts (lower-above q) b ++ (order-part (lower-above q) (join-parts p r) ∷ order-parts (lower-above q) a))
+    ≡ u ++ ((xs ++ ys) ++ v))
+    × (target-sequence
+    (order-parts (raise-above q) (order-parts (lower-above q) b) ++ (p ∷ r ∷ order-parts (raise-above q) (order-parts (lower-above q) a)))
+    ≡ u ++ ((xs ++ ys) ++ v))
     → among (suc q) (orders b) ≡ false → among (suc q) (orders a) ≡ false
     → target-sequence (order-parts (lower-above q) (b ++ (join-parts p r ∷ a))) ≡ target-sequence (b ++ (p ∷ r ∷ a))
 unfolding order-parts
@@ -224,15 +244,18 @@ two-targets b p r a q xs ys pt rt fits =
     let j : Part = order-part (lower-above q) (join-parts p r) in
     let shown : orders (b ++ (p ∷ r ∷ a)) ≡ orders b ++ (q ∷ suc q ∷ orders a)
     = orders-append b (p ∷ r ∷ a) ∙ ap₂ (λ (t u : Target). orders b ++ (order-list t ++ (order-list u ++ orders a))) pt rt in
-    let one = order-fits (length (b ++ (p ∷ r ∷ a))) [] (orders b) q (suc q ∷ orders a) (ap (orders-fit (length (b ++ (p ∷ r ∷ a))) []) (sym shown) ∙ fits) in
+    let one = order-fits (length (b ++ (p ∷ r ∷ a))) [] (orders b) q (suc q ∷ orders a)
+    (ap (orders-fit (length (b ++ (p ∷ r ∷ a))) []) (sym shown) ∙ fits) in
     let two = order-fits (length (b ++ (p ∷ r ∷ a))) [] (orders b ++ (q ∷ [])) (suc q) (orders a)
     (ap (orders-fit (length (b ++ (p ∷ r ∷ a))) []) (append-assoc (orders b) (q ∷ []) (suc q ∷ orders a) ∙ sym shown) ∙ fits) in
     let fb : among (suc q) (orders b) ≡ false = or-left _ _ (sym (among-append (suc q) (orders b) (q ∷ [])) ∙ two .not-before) in
     let fa : among (suc q) (orders a) ≡ false = two .not-after in
     let jt : j .target ≡ target q (xs ++ ys) = target-of-part q xs ys (p .target) (r .target) pt rt in
     let nb : target-of-order lb q ≡ [] = moved-but (lower-above q) q q (suc q) b fb (lowered-own q) ∙ unused-order q b (one .not-before) in
-    let na : target-of-order la q ≡ [] = moved-but (lower-above q) q q (suc q) a fa (lowered-own q) ∙ unused-order q a (or-right (eqb q (suc q)) _ (one .not-after)) in
-    finish b p r a q xs ys (split-targets lb la j p r q (xs ++ ys) xs ys jt pt rt (one .low) (omega (arith, two .high, lengths q b p r a)) nb na) fb fa
+    let na : target-of-order la q ≡ [] = moved-but (lower-above q) q q (suc q) a fa (lowered-own q)
+    ∙ unused-order q a (or-right (eqb q (suc q)) _ (one .not-after)) in
+    finish b p r a q xs ys
+    (split-targets lb la j p r q (xs ++ ys) xs ys jt pt rt (one .low) (omega (arith, two .high, lengths q b p r a)) nb na) fb fa
 
 of-join : (k : ℕ) (g h : Target) → (g ≡ no-target) ⊎ (h ≡ no-target) → of-order k (join-targets g h) ≡ of-order k g ++ of-order k h
 unfolding of-order join-targets
@@ -259,7 +282,8 @@ few (target q xs) (target r ys) (inl e) = let z : _≡_ {A = ℕ} 0 1 = cc in om
 few (target q xs) (target r ys) (inr e) = let z : _≡_ {A = ℕ} 0 1 = cc in omega arith
 
 -- Join keeps the target sequence
-pub join-target : (ps b : List Part) (p r : Part) (a : List Part) → ps ≡ b ++ (p ∷ r ∷ a) → fault-5 ps ≡ none → bad-orders (p .target) (r .target) ≡ false
+pub join-target : (ps b : List Part) (p r : Part) (a : List Part) → ps ≡ b ++ (p ∷ r ∷ a) → fault-5 ps ≡ none
+    → bad-orders (p .target) (r .target) ≡ false
     → target-sequence (join-focus ps (here b p (r ∷ a))) ≡ target-sequence ps
 unfolding join-focus join-order bad-orders
 join-target ps b p r a e f o = by (p .target) (r .target) refl refl o
@@ -270,13 +294,18 @@ join-target ps b p r a e f o = by (p .target) (r .target) refl refl o
     fits : orders-fit (length L) [] (orders L) ≡ true
     fits = subst (λ (l : List Part). orders-fit (length l) [] (orders l) ≡ true) e (fault-5-fits ps f)
 
-    single : (p .target ≡ no-target) ⊎ (r .target ≡ no-target) → target-sequence (order-parts (lower-above (highest-unused (length L) (orders L))) (b ++ (join-parts p r ∷ a))) ≡ target-sequence L
+    single : (p .target ≡ no-target) ⊎ (r .target ≡ no-target)
+        → target-sequence (order-parts (lower-above (highest-unused (length L) (orders L))) (b ++ (join-parts p r ∷ a))) ≡ target-sequence L
     single w = one-target b p r a (λ k. of-join k (p .target) (r .target) w) (list-join (p .target) (r .target) w) (few (p .target) (r .target) w)
 
-    back : (p .target ≡ no-target) ⊎ (r .target ≡ no-target) → target-sequence (order-parts (lower-above (highest-unused (length ps) (orders ps))) (b ++ (join-parts p r ∷ a))) ≡ target-sequence ps
-    back w = subst (λ (l : List Part). target-sequence (order-parts (lower-above (highest-unused (length l) (orders l))) (b ++ (join-parts p r ∷ a))) ≡ target-sequence l) (sym e) (single w)
+    back : (p .target ≡ no-target) ⊎ (r .target ≡ no-target)
+        → target-sequence (order-parts (lower-above (highest-unused (length ps) (orders ps))) (b ++ (join-parts p r ∷ a))) ≡ target-sequence ps
+    back w = subst
+        (λ (l : List Part). target-sequence (order-parts (lower-above (highest-unused (length l) (orders l))) (b ++ (join-parts p r ∷ a)))
+        ≡ target-sequence l) (sym e) (single w)
 
-    by : (g h : Target) → p .target ≡ g → r .target ≡ h → bad-orders g h ≡ false → target-sequence (order-parts (join-order ps g h) (b ++ (join-parts p r ∷ a))) ≡ target-sequence ps
+    by : (g h : Target) → p .target ≡ g → r .target ≡ h → bad-orders g h ≡ false
+        → target-sequence (order-parts (join-order ps g h) (b ++ (join-parts p r ∷ a))) ≡ target-sequence ps
     by no-target no-target x y k = back (inl x)
     by no-target (target s ys) x y k = back (inl x)
     by (target q xs) no-target x y k = back (inr y)

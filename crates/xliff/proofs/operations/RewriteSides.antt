@@ -47,9 +47,11 @@ module _ (i : ℕ) (content : Part → Content) where
 
   none-turned : (ps : List Part) → Each (λ p. Balanced (content p)) ps → sum (λ p. halves i (content p)) ps ≡ 0 → Each (λ p. Balanced (turned p)) ps
   none-turned [] each-nil e = each-nil
-  none-turned (p ∷ ps) (each-cons b h) e = each-cons (subst Balanced (sym (untouched i form-P (content p) (omega arith))) b) (none-turned ps h (omega arith))
+  none-turned (p ∷ ps) (each-cons b h) e = each-cons (subst Balanced (sym (untouched i form-P (content p) (omega arith))) b)
+      (none-turned ps h (omega arith))
 
-  some-turned : (ps : List Part) → Each (λ p. Balanced (content p)) ps → sum (λ p. halves i (content p)) ps ≤ 2 → sum (λ p. sum (P-bit i) (content p)) ps ≡ 0
+  some-turned : (ps : List Part) → Each (λ p. Balanced (content p)) ps → sum (λ p. halves i (content p)) ps ≤ 2
+      → sum (λ p. sum (P-bit i) (content p)) ps ≡ 0
       → any (λ p. are-partners i (turned p)) ps ≡ true → Each (λ p. Balanced (turned p)) ps × (2 ≤ sum (λ p. halves i (content p)) ps)
   unfolding any
   some-turned [] each-nil most z e = absurd (false≢true e)
@@ -81,7 +83,8 @@ pub record Asked (i : ℕ) (w : Form) (content : Part → Content) (xs : Content
   pub partners : w ≡ form-P → any (λ p. are-partners i (map (rewrite-item i w) (content p))) ps ≡ true
 
 -- the contents of the side, rewritten, are balanced
-side-balanced : (i : ℕ) (w : Form) (content : Part → Content) (xs : Content) (ps : List Part) → Asked i w content xs ps → ((f : Item → ℕ) → sum f xs ≡ sum (λ p. sum f (content p)) ps)
+side-balanced : (i : ℕ) (w : Form) (content : Part → Content) (xs : Content) (ps : List Part) → Asked i w content xs ps
+    → ((f : Item → ℕ) → sum f xs ≡ sum (λ p. sum f (content p)) ps)
     → Each (λ p. Balanced (content p)) ps → Each (λ p. Balanced (map (rewrite-item i w) (content p))) ps
 side-balanced i form-S content xs ps a t h = each-weaken (λ p b. balanced-to-S i (content p) b) ps h
 side-balanced i form-P content xs ps a t h =
@@ -96,12 +99,14 @@ pub record Kept (qs : List Part) : Type 0 where
   pub seven : fault-7 qs ≡ none
   pub eight : fault-8 qs ≡ none
 
-pub same-orders : (g : Part → Part) → ((p : Part) → order-list (g p .target) ≡ order-list (p .target)) → (ps : List Part) → orders (map g ps) ≡ orders ps
+pub same-orders : (g : Part → Part) → ((p : Part) → order-list (g p .target) ≡ order-list (p .target)) → (ps : List Part)
+    → orders (map g ps) ≡ orders ps
 unfolding orders gather
 same-orders g h [] = refl
 same-orders g h (p ∷ ps) = ap₂ _++_ (h p) (same-orders g h ps)
 
-five-kept : (g : Part → Part) → ((p : Part) → order-list (g p .target) ≡ order-list (p .target)) → (ps : List Part) → fault-5 ps ≡ none → fault-5 (map g ps) ≡ none
+five-kept : (g : Part → Part) → ((p : Part) → order-list (g p .target) ≡ order-list (p .target)) → (ps : List Part) → fault-5 ps ≡ none
+    → fault-5 (map g ps) ≡ none
 unfolding fault-5 located
 five-kept g h ps e =
     rule-5-back (length (map g ps)) 3 [] (map g ps)
@@ -136,7 +141,8 @@ module _ (f g : Item → Item) where
   targets-are : (ps : List Part) (q n : ℕ) → targets (map (on-both f g) ps) q n ≡ map g (targets ps q n)
   unfolding targets
   targets-are ps q zero = refl
-  targets-are ps q (suc n) = ap₂ _++_ (order-is ps (suc q)) (targets-are ps (suc q) n) ∙ sym (map-append g (target-of-order ps (suc q)) (targets ps (suc q) n))
+  targets-are ps q (suc n) = ap₂ _++_ (order-is ps (suc q)) (targets-are ps (suc q) n)
+      ∙ sym (map-append g (target-of-order ps (suc q)) (targets ps (suc q) n))
 
   pub target-is : (ps : List Part) → target-sequence (map (on-both f g) ps) ≡ map g (target-sequence ps)
   unfolding target-sequence
@@ -163,7 +169,8 @@ module _ (f g : Item → Item) where
       by true = refl
       by false = refl
 
-  both-balanced : (ps : List Part) → Each (λ p. Balanced (map f (p .source))) ps → Each (λ p. Balanced (map g (target-items (p .target)))) ps → AllBalanced (map (on-both f g) ps)
+  both-balanced : (ps : List Part) → Each (λ p. Balanced (map f (p .source))) ps
+      → Each (λ p. Balanced (map g (target-items (p .target)))) ps → AllBalanced (map (on-both f g) ps)
   both-balanced [] each-nil each-nil = each-nil
   both-balanced (p ∷ ps) (each-cons b h) (each-cons c k) =
       each-cons (record { source = b; target = subst Balanced (sym (items-of g (p .target))) c }) (both-balanced ps h k)
@@ -177,7 +184,8 @@ pub record Keeps (f : Item → Item) (e : ℕ → ℕ → Half → Bool) (conten
   pub blind : (j : ℕ) (ys : Content) (c : ℕ) (s : Half) → anyMk c s (marks j (map f ys)) ≡ anyMk c s (marks j ys)
   pub balanced : Each (λ p. Balanced (map f (content p))) ps
 
-pub stays : (e : ℕ → ℕ → Half → Bool) (content : Part → Content) (xs : Content) (ps : List Part) → ((j : ℕ) → Shape (e j) (marks j xs)) → Each (λ p. Balanced (content p)) ps
+pub stays : (e : ℕ → ℕ → Half → Bool) (content : Part → Content) (xs : Content) (ps : List Part) → ((j : ℕ) → Shape (e j) (marks j xs))
+    → Each (λ p. Balanced (content p)) ps
     → Keeps stay e content xs ps
 stays e content xs ps h b =
     record {
@@ -188,8 +196,10 @@ stays e content xs ps h b =
       balanced = each-weaken (λ p k. subst Balanced (sym (map-stay (content p))) k) ps b;
     }
 
-pub rewrites : (i : ℕ) (w : Form) (e : ℕ → ℕ → Half → Bool) (content : Part → Content) (xs : Content) (ps : List Part) → ((j : ℕ) → Shape (e j) (marks j xs))
-    → Each (λ p. Balanced (content p)) ps → ((m : Item → ℕ) → sum m xs ≡ sum (λ p. sum m (content p)) ps) → Asked i w content xs ps → Keeps (rewrite-item i w) e content xs ps
+pub rewrites : (i : ℕ) (w : Form) (e : ℕ → ℕ → Half → Bool) (content : Part → Content) (xs : Content) (ps : List Part)
+    → ((j : ℕ) → Shape (e j) (marks j xs))
+    → Each (λ p. Balanced (content p)) ps → ((m : Item → ℕ) → sum m xs ≡ sum (λ p. sum m (content p)) ps) → Asked i w content xs ps
+    → Keeps (rewrite-item i w) e content xs ps
 rewrites i w e content xs ps h b t a =
     let n = just-two i xs (a .two) in
     record {
@@ -202,7 +212,8 @@ rewrites i w e content xs ps h b t a =
 
 -- the rules 5 to 8 of the changed parts
 pub both-kept : (f g : Item → Item) (ps : List Part) → fault-5 ps ≡ none → Rule6 ps → fault-8 ps ≡ none
-    → Keeps f (λ j. waits [] j) (λ p. p .source) (source-sequence ps) ps → Keeps g (λ j. waits (bare-sequence ps) j) (λ p. target-items (p .target)) (target-sequence ps) ps
+    → Keeps f (λ j. waits [] j) (λ p. p .source) (source-sequence ps) ps
+    → Keeps g (λ j. waits (bare-sequence ps) j) (λ p. target-items (p .target)) (target-sequence ps) ps
     → Kept (map (on-both f g) ps)
 both-kept f g ps five six eight s t =
     let qs : List Part = map (on-both f g) ps in
@@ -211,17 +222,21 @@ both-kept f g ps five six eight s t =
       six = counted-rule-6 qs
           (record {
             source-side = λ j. let a = six .source-side j in let b = sum-map (source-ids j) (on-both f g) ps
-                ∙ sum-cong (λ p. source-ids j (on-both f g p)) (source-ids j) (λ p. ap (λ (z : ℕ). part-bit j p + z) (starts-map j f (s .flat-same) (p .source))) ps in omega arith;
+                ∙ sum-cong (λ p. source-ids j (on-both f g p)) (source-ids j)
+                (λ p. ap (λ (z : ℕ). part-bit j p + z) (starts-map j f (s .flat-same) (p .source))) ps in omega arith;
             target-side = λ j. let a = six .target-side j in let b = sum-map (target-ids j) (on-both f g) ps
                 ∙ sum-cong (λ p. target-ids j (on-both f g p)) (target-ids j)
-                (λ p. ap (λ (z : ℕ). part-bit j p + z) (ap (starts j) (items-of g (p .target)) ∙ starts-map j g (t .flat-same) (target-items (p .target)))) ps in omega arith;
+                (λ p. ap (λ (z : ℕ). part-bit j p + z)
+                (ap (starts j) (items-of g (p .target)) ∙ starts-map j g (t .flat-same) (target-items (p .target)))) ps in omega arith;
           });
       seven = good-rule-7 qs
           (record {
             source-side = λ j. subst (λ (l : Content). Shape (waits [] j) (marks j l)) (sym (source-is f g ps)) (s .shapes j);
-            target-side = λ j. Shape-mono (λ c h k. ap (λ (l : Content). anyMk c h (marks j l)) (bare-is f g ps) ∙ s .blind j (bare-sequence ps) c h ∙ k)
+            target-side = λ j. Shape-mono
+                (λ c h k. ap (λ (l : Content). anyMk c h (marks j l)) (bare-is f g ps) ∙ s .blind j (bare-sequence ps) c h ∙ k)
                 (subst (λ (l : Content). Shape (waits (bare-sequence ps) j) (marks j l)) (sym (target-is f g ps)) (t .shapes j));
             bal = both-balanced f g ps (s .balanced) (t .balanced);
           });
-      eight = eased-8 ps qs (subst (Eased [] (source-sequence ps)) (sym (source-is f g ps)) (s .eased)) (subst (Eased [] (target-sequence ps)) (sym (target-is f g ps)) (t .eased)) eight;
+      eight = eased-8 ps qs (subst (Eased [] (source-sequence ps)) (sym (source-is f g ps)) (s .eased))
+          (subst (Eased [] (target-sequence ps)) (sym (target-is f g ps)) (t .eased)) eight;
     }

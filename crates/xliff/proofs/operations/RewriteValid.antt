@@ -35,8 +35,10 @@ use Rattle.xliff.proofs.operations.RewriteSides.{on-both, stay, map-sta
 some-same : {A : Type 0} {a b : A} → Path (Option A) (some a) (some b) → a ≡ b
 some-same e = cc
 
-make-asked : {e : ℕ → Half → Bool} (i : ℕ) (w : Form) (content : Part → Content) (xs : Content) (ps : List Part) (p : Whole) → Shape e (marks i xs) → find-whole i xs ≡ some p
-    → already w (p .start) ≡ false → (w ≡ form-P → unfit-letter p ≡ false) → (w ≡ form-P → any (λ q. are-partners i (map (rewrite-item i w) (content q))) ps ≡ true)
+make-asked : {e : ℕ → Half → Bool} (i : ℕ) (w : Form) (content : Part → Content) (xs : Content) (ps : List Part) (p : Whole)
+    → Shape e (marks i xs) → find-whole i xs ≡ some p
+    → already w (p .start) ≡ false → (w ≡ form-P → unfit-letter p ≡ false)
+    → (w ≡ form-P → any (λ q. are-partners i (map (rewrite-item i w) (content q))) ps ≡ true)
     → Asked i w content xs ps
 unfolding already unfit-letter
 make-asked i w content xs ps p sh e a u n =
@@ -66,15 +68,19 @@ part-S side f e p = rw e (ap (λ (t : Target). record { head = p .head; source =
 
 part-T : (side : ℕ) (f : Item → Item) → eqb side 'S' ≡ false → (p : Part) → rewrite-part side f p ≡ on-both stay f p
 unfolding rewrite-part
-part-T side f e p = rw e (ap (λ (l : Content). record { head = p .head; source = l; target = rewrite-target f (p .target) }) (sym (map-stay (p .source))))
+part-T side f e p = rw e
+    (ap (λ (l : Content). record { head = p .head; source = l; target = rewrite-target f (p .target) }) (sym (map-stay (p .source))))
 
-content-S : (side i : ℕ) (f : Item → Item) → eqb side 'S' ≡ true → (p : Part) → are-partners i (side-content side (rewrite-part side f p)) ≡ are-partners i (map f (p .source))
+content-S : (side i : ℕ) (f : Item → Item) → eqb side 'S' ≡ true → (p : Part)
+    → are-partners i (side-content side (rewrite-part side f p)) ≡ are-partners i (map f (p .source))
 unfolding side-content
 content-S side i f e p = rw e (ap (λ (q : Part). are-partners i (q .source)) (part-S side f e p))
 
-content-T : (side i : ℕ) (f : Item → Item) → eqb side 'S' ≡ false → (p : Part) → are-partners i (side-content side (rewrite-part side f p)) ≡ are-partners i (map f (target-items (p .target)))
+content-T : (side i : ℕ) (f : Item → Item) → eqb side 'S' ≡ false → (p : Part)
+    → are-partners i (side-content side (rewrite-part side f p)) ≡ are-partners i (map f (target-items (p .target)))
 unfolding side-content
-content-T side i f e p = rw e (ap (λ (q : Part). are-partners i (target-items (q .target))) (part-T side f e p) ∙ ap (are-partners i) (items-of f (p .target)))
+content-T side i f e p = rw e
+    (ap (λ (q : Part). are-partners i (target-items (q .target))) (part-T side f e p) ∙ ap (are-partners i) (items-of f (p .target)))
 
 -- the refusals of a pair that did not apply
 record Tried (u : XliffUnit) (side i : ℕ) (w : Form) (p : Whole) : Type 0 where
@@ -130,7 +136,8 @@ unfolding pair-refusal
 not-found u side i w e = true≢false (applies-none 20 true e)
 
 -- An accepted rewrite
-pub rewrite-accepted : (t : List ℕ) (side i w room : ℕ) (r : List ℕ) → Bytes t → rewrite t side i w room ≡ result r → Accepted t (rewrite-unit (unit t) side i (form-of w)) r
+pub rewrite-accepted : (t : List ℕ) (side i w room : ℕ) (r : List ℕ) → Bytes t → rewrite t side i w room ≡ result r
+    → Accepted t (rewrite-unit (unit t) side i (form-of w)) r
 unfolding rewrite rewrite-refusal rewrite-unit with-parts fault-6-to-10 side-sequence Valid
 rewrite-accepted t side i w room r bt e =
     let (valid, own, same) = operation-result t _ _ r e in
@@ -153,11 +160,14 @@ rewrite-accepted t side i w room r bt e =
         let seven : Good7 ps = rule-7-good ps six (then-left _ _ r7) in
         let at : find-whole i (source-sequence ps) ≡ some p = rw s at found-it in
         let asked = make-asked i (form-of w) (λ q. q .source) (source-sequence ps) ps p (seven .source-side i) at (t .not-already) (t .letter)
-        (λ k. sym (any-map (λ q. are-partners i (side-content side q)) (λ q. are-partners i (map f (q .source))) (rewrite-part side f) (content-S side i f s) ps) ∙ t .partners k) in
+        (λ k. sym (any-map (λ q. are-partners i (side-content side q)) (λ q. are-partners i (map f (q .source))) (rewrite-part side f)
+        (content-S side i f s) ps) ∙ t .partners k) in
         subst Kept (sym (map-same (rewrite-part side f) (on-both f stay) (part-S side f s) ps))
         (both-kept f stay ps (h .rule-5) six (then-left _ _ (then-right (fault-7 ps) _ r7))
-        (rewrites i (form-of w) (λ j. waits [] j) (λ q. q .source) (source-sequence ps) ps (seven .source-side) (sources-balanced ps (seven .bal)) (λ m. total-source m ps) asked)
-        (stays (λ j. waits (bare-sequence ps) j) (λ q. target-items (q .target)) (target-sequence ps) ps (seven .target-side) (targets-balanced ps (seven .bal))))
+        (rewrites i (form-of w) (λ j. waits [] j) (λ q. q .source) (source-sequence ps) ps (seven .source-side)
+        (sources-balanced ps (seven .bal)) (λ m. total-source m ps) asked)
+        (stays (λ j. waits (bare-sequence ps) j) (λ q. target-items (q .target)) (target-sequence ps) ps (seven .target-side)
+        (targets-balanced ps (seven .bal))))
     kept p found-it t h false s =
         let f : Item → Item = rewrite-item i (form-of w) in
         let ps : List Part = u .parts in
@@ -165,12 +175,15 @@ rewrite-accepted t side i w room r bt e =
         let six : Rule6 ps = rule-6-counted ps (then-left _ _ (h .rules)) in
         let seven : Good7 ps = rule-7-good ps six (then-left _ _ r7) in
         let at : find-whole i (target-sequence ps) ≡ some p = rw s at found-it in
-        let asked = make-asked i (form-of w) (λ q. target-items (q .target)) (target-sequence ps) ps p (seven .target-side i) at (t .not-already) (t .letter)
-        (λ k. sym (any-map (λ q. are-partners i (side-content side q)) (λ q. are-partners i (map f (target-items (q .target)))) (rewrite-part side f) (content-T side i f s) ps) ∙ t .partners k) in
+        let asked = make-asked i (form-of w) (λ q. target-items (q .target)) (target-sequence ps) ps p (seven .target-side i) at
+        (t .not-already) (t .letter)
+        (λ k. sym (any-map (λ q. are-partners i (side-content side q)) (λ q. are-partners i (map f (target-items (q .target))))
+        (rewrite-part side f) (content-T side i f s) ps) ∙ t .partners k) in
         subst Kept (sym (map-same (rewrite-part side f) (on-both stay f) (part-T side f s) ps))
         (both-kept stay f ps (h .rule-5) six (then-left _ _ (then-right (fault-7 ps) _ r7))
         (stays (λ j. waits [] j) (λ q. q .source) (source-sequence ps) ps (seven .source-side) (sources-balanced ps (seven .bal)))
-        (rewrites i (form-of w) (λ j. waits (bare-sequence ps) j) (λ q. target-items (q .target)) (target-sequence ps) ps (seven .target-side) (targets-balanced ps (seven .bal))
+        (rewrites i (form-of w) (λ j. waits (bare-sequence ps) j) (λ q. target-items (q .target)) (target-sequence ps) ps
+        (seven .target-side) (targets-balanced ps (seven .bal))
         (λ m. total-target m ps (h .rule-5)) asked))
 
     by : (o : Option Whole) → find-whole i (side-sequence side (u .parts)) ≡ o → pair-refusal u side i (form-of w) o ≡ none
@@ -192,7 +205,8 @@ rewrite-accepted t side i w room r bt e =
           rule-5 = k .five;
           rules =
               then-none _ _ (k .six) (then-none _ _ (k .seven) (then-none _ _ (k .eight)
-              (then-none _ _ (rule-9-kept ps qs source-same target-same (then-left _ _ r9)) (rule-10-kept ps qs source-same target-same (then-right (fault-9 ps) _ r9)))));
+              (then-none _ _ (rule-9-kept ps qs source-same target-same (then-left _ _ r9))
+              (rule-10-kept ps qs source-same target-same (then-right (fault-9 ps) _ r9)))));
         }
 
 -- An accepted rewrite leaves a valid table

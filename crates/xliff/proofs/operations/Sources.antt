@@ -88,7 +88,8 @@ flattened-append xs ys = map-append flat xs ys
 pub flattened-halves : (n : ℕ) (xs : Content) → flattened (first-items n xs) ++ flattened (second-items n xs) ≡ flattened xs
 unfolding first-items second-items
 flattened-halves n xs =
-    ap₂ _++_ (flattened-map (cut-item (drop n xs)) (flat-cut (drop n xs)) (take n xs)) (flattened-map (cut-item (take n xs)) (flat-cut (take n xs)) (drop n xs))
+    ap₂ _++_ (flattened-map (cut-item (drop n xs)) (flat-cut (drop n xs)) (take n xs))
+    (flattened-map (cut-item (take n xs)) (flat-cut (take n xs)) (drop n xs))
     ∙ sym (flattened-append (take n xs) (drop n xs)) ∙ ap flattened (take-append-drop n xs)
 
 -- sources and orders
@@ -136,7 +137,8 @@ split-source source-cut target-cut new ps n = by (focus ps n) refl
         ∙ ap flattened (sym (source-append b (p ∷ a)) ∙ ap source-sequence (sym (focus-here ps n b p a e)))
 
 -- Join keeps the source
-pub join-source-here : (ps b : List Part) (p q : Part) (a : List Part) → ps ≡ b ++ (p ∷ q ∷ a) → source-sequence (join-focus ps (here b p (q ∷ a))) ≡ source-sequence ps
+pub join-source-here : (ps b : List Part) (p q : Part) (a : List Part) → ps ≡ b ++ (p ∷ q ∷ a)
+    → source-sequence (join-focus ps (here b p (q ∷ a))) ≡ source-sequence ps
 unfolding join-focus join-parts source-sequence gather
 join-source-here ps b p q a e =
     source-orders (join-order ps (p .target) (q .target)) (b ++ (join-parts p q ∷ a))

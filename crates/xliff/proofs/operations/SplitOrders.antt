@@ -25,7 +25,8 @@ unfolding orders order-list gather order-parts order-part order-target
 orders-map f [] = refl
 orders-map f (p ∷ ps) = by (p .target) (orders-map f ps)
   where
-    by : (g : Target) → orders (order-parts f ps) ≡ map f (orders ps) → order-list (order-target f g) ++ orders (order-parts f ps) ≡ map f (order-list g ++ orders ps)
+    by : (g : Target) → orders (order-parts f ps) ≡ map f (orders ps)
+        → order-list (order-target f g) ++ orders (order-parts f ps) ≡ map f (order-list g ++ orders ps)
     by no-target e = e
     by (target q xs) e = ap {B = List ℕ} (λ l. f q ∷ l) e
 
@@ -69,7 +70,8 @@ no-gap q (x ∷ l) = or-both _ _ (by (ltb q x) refl) (no-gap q l)
     by false e = let h : x ≤ q = ltb-false q x e in ne-eqb (suc q) x (λ z. omega arith)
 
 -- raised orders fit among one more
-fits-raise : (n q : ℕ) (used qs : List ℕ) → orders-fit n used qs ≡ true → orders-fit (suc n) (map (raise-above q) used) (map (raise-above q) qs) ≡ true
+fits-raise : (n q : ℕ) (used qs : List ℕ) → orders-fit n used qs ≡ true
+    → orders-fit (suc n) (map (raise-above q) used) (map (raise-above q) qs) ≡ true
 unfolding orders-fit bad-order
 fits-raise n q used [] e = refl
 fits-raise n q used (x ∷ qs) e =
@@ -100,7 +102,8 @@ split-fits n q qs rs e =
     ∙ fits-raise n q [] (qs ++ (q ∷ rs)) e in
     ap (orders-fit (suc n) []) (append-snoc (map (raise-above q) qs) q (suc q ∷ map (raise-above q) rs))
     ∙ insert-fits (suc n) [] (map (raise-above q) qs ++ (q ∷ [])) (suc q) (map (raise-above q) rs) (omega arith) (omega (arith, o .high)) refl
-    (among-append (suc q) (map (raise-above q) qs) (q ∷ []) ∙ or-both _ _ (no-gap q qs) (or-both _ _ (ne-eqb (suc q) q (λ z. omega arith)) refl)) (no-gap q rs) r
+    (among-append (suc q) (map (raise-above q) qs) (q ∷ [])
+    ∙ or-both _ _ (no-gap q qs) (or-both _ _ (ne-eqb (suc q) q (λ z. omega arith)) refl)) (no-gap q rs) r
 
 -- orders that fit among n fit among one more
 fits-more : (n : ℕ) (used qs : List ℕ) → orders-fit n used qs ≡ true → orders-fit (suc n) used qs ≡ true
@@ -113,7 +116,8 @@ fits-more n used (x ∷ qs) e =
     rw (z, le-ltb (suc n) x (let h : x ≤ n = ltb-false n x (or-left _ _ r) in omega arith), or-right (ltb n x) _ r)
     (fits-more n (x ∷ used) qs (and-right (not (bad-order n used x)) _ e))
 
-counted : (f : ℕ → ℕ) (b : List Part) (p x y : Part) (a : List Part) → length (order-parts f b ++ (x ∷ y ∷ order-parts f a)) ≡ suc (length (b ++ (p ∷ a)))
+counted : (f : ℕ → ℕ) (b : List Part) (p x y : Part) (a : List Part)
+    → length (order-parts f b ++ (x ∷ y ∷ order-parts f a)) ≡ suc (length (b ++ (p ∷ a)))
 unfolding order-parts
 counted f b p x y a = simp (length-append, length-map) (omega arith)
 
@@ -127,21 +131,27 @@ split-5 source-cut target-cut new b p a e = by (p .target) refl (fault-5-fits (b
     count f x y = counted f b p x y a
 
     by : (g : Target) → p .target ≡ g → orders-fit (length (b ++ (p ∷ a))) [] (orders (b ++ (p ∷ a))) ≡ true
-        → fault-5 (order-parts (split-order g) b ++ (first-half source-cut target-cut p ∷ second-half source-cut target-cut new p ∷ order-parts (split-order g) a)) ≡ none
+        → fault-5 (order-parts (split-order g) b ++
+        (first-half source-cut target-cut p ∷ second-half source-cut target-cut new p ∷ order-parts (split-order g) a)) ≡ none
     by no-target g k =
         rule-5-back _ 3 [] _
-        (ap₂ (λ (n : ℕ) (l : List ℕ). orders-fit n [] l) (count (split-order no-target) (first-half source-cut target-cut p) (second-half source-cut target-cut new p))
+        (ap₂ (λ (n : ℕ) (l : List ℕ). orders-fit n [] l)
+        (count (split-order no-target) (first-half source-cut target-cut p) (second-half source-cut target-cut new p))
         (orders-append (order-parts (split-order no-target) b) _
         ∙ ap₂ (λ (l m : List ℕ). l ++ m) (orders-map (split-order no-target) b ∙ map-stays (split-order no-target) (λ x. refl) (orders b))
         (ap₂ (λ (t : Target) (l : List ℕ). order-list (first-target target-cut t) ++ (order-list (second-target target-cut t) ++ l)) g
         (orders-map (split-order no-target) a ∙ map-stays (split-order no-target) (λ x. refl) (orders a))))
         ∙ fits-more (length (b ++ (p ∷ a))) [] (orders b ++ orders a)
-        (ap (orders-fit (length (b ++ (p ∷ a))) []) (sym (orders-append b (p ∷ a) ∙ ap (λ (t : Target). orders b ++ (order-list t ++ orders a)) g)) ∙ k))
+        (ap (orders-fit (length (b ++ (p ∷ a))) [])
+        (sym (orders-append b (p ∷ a) ∙ ap (λ (t : Target). orders b ++ (order-list t ++ orders a)) g)) ∙ k))
     by (target q xs) g k =
         rule-5-back _ 3 [] _
-        (ap₂ (λ (n : ℕ) (l : List ℕ). orders-fit n [] l) (count (raise-above q) (first-half source-cut target-cut p) (second-half source-cut target-cut new p))
+        (ap₂ (λ (n : ℕ) (l : List ℕ). orders-fit n [] l)
+        (count (raise-above q) (first-half source-cut target-cut p) (second-half source-cut target-cut new p))
         (orders-append (order-parts (raise-above q) b) _
         ∙ ap₂ (λ (l m : List ℕ). l ++ m) (orders-map (raise-above q) b)
-        (ap₂ (λ (t : Target) (l : List ℕ). order-list (first-target target-cut t) ++ (order-list (second-target target-cut t) ++ l)) g (orders-map (raise-above q) a)))
+        (ap₂ (λ (t : Target) (l : List ℕ). order-list (first-target target-cut t) ++ (order-list (second-target target-cut t) ++ l)) g
+        (orders-map (raise-above q) a)))
         ∙ split-fits (length (b ++ (p ∷ a))) q (orders b) (orders a)
-        (ap (orders-fit (length (b ++ (p ∷ a))) []) (sym (orders-append b (p ∷ a) ∙ ap (λ (t : Target). orders b ++ (order-list t ++ orders a)) g)) ∙ k))
+        (ap (orders-fit (length (b ++ (p ∷ a))) [])
+        (sym (orders-append b (p ∷ a) ∙ ap (λ (t : Target). orders b ++ (order-list t ++ orders a)) g)) ∙ k))

@@ -39,7 +39,8 @@ unfolding fault-5 located
 fault-5-fits ps e = rule-5 (length ps) 3 [] ps e
 
 -- two halves in the place of one content
-glue : (u v xs ys zs old new : Content) → old ≡ u ++ (xs ++ v) → new ≡ u ++ ((ys ++ zs) ++ v) → flattened ys ++ flattened zs ≡ flattened xs → flattened new ≡ flattened old
+glue : (u v xs ys zs old new : Content) → old ≡ u ++ (xs ++ v) → new ≡ u ++ ((ys ++ zs) ++ v) → flattened ys ++ flattened zs ≡ flattened xs
+    → flattened new ≡ flattened old
 glue u v xs ys zs old new x y h =
     rw (x, y)
     (flattened-append u ((ys ++ zs) ++ v) ∙ ap (λ (l : Content). flattened u ++ l) (flattened-append (ys ++ zs) v
@@ -49,15 +50,19 @@ glue u v xs ys zs old new x y h =
 -- with a target
 with-target : (source-cut target-cut new : ℕ) (b : List Part) (p : Part) (a : List Part) (q : ℕ) (xs : Content) → p .target ≡ target q xs
     → orders-fit (length (b ++ (p ∷ a))) [] (orders (b ++ (p ∷ a))) ≡ true
-    → flattened (target-sequence (order-parts (raise-above q) b ++ (first-half source-cut target-cut p ∷ second-half source-cut target-cut new p ∷ order-parts (raise-above q) a)))
+    → flattened (target-sequence
+    (order-parts (raise-above q) b ++ (first-half source-cut target-cut p ∷ second-half source-cut target-cut new p ∷ order-parts (raise-above q) a)))
     ≡ flattened (target-sequence (b ++ (p ∷ a)))
 unfolding first-half second-half first-target second-target orders order-list gather
 with-target source-cut target-cut new b p a q xs g e =
-    let shown : orders (b ++ (p ∷ a)) ≡ orders b ++ (q ∷ orders a) = orders-append b (p ∷ a) ∙ ap (λ (t : Target). orders b ++ (order-list t ++ orders a)) g in
+    let shown : orders (b ++ (p ∷ a)) ≡ orders b ++ (q ∷ orders a) = orders-append b (p ∷ a)
+    ∙ ap (λ (t : Target). orders b ++ (order-list t ++ orders a)) g in
     let o = order-fits (length (b ++ (p ∷ a))) [] (orders b) q (orders a) (ap (orders-fit (length (b ++ (p ∷ a))) []) (sym shown) ∙ e) in
     let (u, v, x, y) =
-    split-targets b a p (first-half source-cut target-cut p) (second-half source-cut target-cut new p) q xs (first-items target-cut xs) (second-items target-cut xs) g
-    (ap (first-target target-cut) g) (ap (second-target target-cut) g) (o .low) (o .high) (unused-order q b (o .not-before)) (unused-order q a (o .not-after)) in
+    split-targets b a p (first-half source-cut target-cut p) (second-half source-cut target-cut new p) q xs (first-items target-cut xs)
+    (second-items target-cut xs) g
+    (ap (first-target target-cut) g) (ap (second-target target-cut) g) (o .low) (o .high) (unused-order q b (o .not-before))
+    (unused-order q a (o .not-after)) in
     glue u v xs (first-items target-cut xs) (second-items target-cut xs) _ _ x y (flattened-halves target-cut xs)
 
 -- without: the orders stay, and the one more is not used
@@ -75,7 +80,8 @@ without-target b p f s a pt ft st e =
     (ap (λ (l : Content). l ++ []) (at (suc (0 + n)) ∙ unused-order (suc (0 + n)) old (too-high n (suc (0 + n)) [] (orders old) (omega arith) e)))
     ∙ append-nil (targets old 0 n)
   where
-    at : (k : ℕ) → target-of-order (order-parts (split-order no-target) b ++ (f ∷ s ∷ order-parts (split-order no-target) a)) k ≡ target-of-order (b ++ (p ∷ a)) k
+    at : (k : ℕ) → target-of-order (order-parts (split-order no-target) b ++ (f ∷ s ∷ order-parts (split-order no-target) a)) k
+        ≡ target-of-order (b ++ (p ∷ a)) k
     at k =
         target-append (order-parts (split-order no-target) b) (f ∷ s ∷ order-parts (split-order no-target) a) k
         ∙ ap₂ (λ (l m : Content). l ++ m) (moved (split-order no-target) k k b (λ o. (λ z. z, λ z. z))) (inner k)
@@ -91,15 +97,19 @@ unfolding split-focus first-half second-half first-target second-target split-or
 split-target source-cut target-cut new ps n e = by (focus ps n) refl
   where
     go : (b : List Part) (p : Part) (a : List Part) (g : Target) → p .target ≡ g → ps ≡ b ++ (p ∷ a)
-        → flattened (target-sequence (order-parts (split-order g) b ++ (first-half source-cut target-cut p ∷ second-half source-cut target-cut new p ∷ order-parts (split-order g) a)))
+        → flattened (target-sequence
+        (order-parts (split-order g) b ++
+        (first-half source-cut target-cut p ∷ second-half source-cut target-cut new p ∷ order-parts (split-order g) a)))
         ≡ flattened (target-sequence ps)
     go b p a no-target h k =
         ap flattened
-        (without-target b p (first-half source-cut target-cut p) (second-half source-cut target-cut new p) a h (ap (first-target target-cut) h) (ap (second-target target-cut) h)
+        (without-target b p (first-half source-cut target-cut p) (second-half source-cut target-cut new p) a h
+        (ap (first-target target-cut) h) (ap (second-target target-cut) h)
         (subst (λ (l : List Part). orders-fit (length l) [] (orders l) ≡ true) k (fault-5-fits ps e))
         ∙ ap target-sequence (sym k))
     go b p a (target q xs) h k =
-        with-target source-cut target-cut new b p a q xs h (subst (λ (l : List Part). orders-fit (length l) [] (orders l) ≡ true) k (fault-5-fits ps e))
+        with-target source-cut target-cut new b p a q xs h
+        (subst (λ (l : List Part). orders-fit (length l) [] (orders l) ≡ true) k (fault-5-fits ps e))
         ∙ ap (λ (l : List Part). flattened (target-sequence l)) (sym k)
 
     by : (f : Focus) → focus ps n ≡ f → flattened (target-sequence (split-focus source-cut target-cut new ps f)) ≡ flattened (target-sequence ps)

@@ -39,10 +39,12 @@ use Rattle.xliff.proofs.rules.Starts.{starts-map, source-ids-orders, ta
 starts-halves : (i n : ℕ) (xs : Content) → starts i (first-items n xs) + starts i (second-items n xs) ≡ starts i xs
 unfolding first-items second-items
 starts-halves i n xs =
-    ap₂ _+_ (starts-map i (cut-item (drop n xs)) (flat-cut (drop n xs)) (take n xs)) (starts-map i (cut-item (take n xs)) (flat-cut (take n xs)) (drop n xs))
+    ap₂ _+_ (starts-map i (cut-item (drop n xs)) (flat-cut (drop n xs)) (take n xs))
+    (starts-map i (cut-item (take n xs)) (flat-cut (take n xs)) (drop n xs))
     ∙ sym (sum-append (start-bit i) (take n xs) (drop n xs)) ∙ ap (starts i) (take-append-drop n xs)
 
-starts-targets : (i n : ℕ) (g : Target) → starts i (target-items (first-target n g)) + starts i (target-items (second-target n g)) ≡ starts i (target-items g)
+starts-targets : (i n : ℕ) (g : Target)
+    → starts i (target-items (first-target n g)) + starts i (target-items (second-target n g)) ≡ starts i (target-items g)
 unfolding first-target second-target target-items
 starts-targets i n no-target = refl
 starts-targets i n (target q xs) = starts-halves i n xs
@@ -90,7 +92,8 @@ none-parts i (p ∷ ps) e =
     let (c, d) = none-parts i ps (or-right (part-has-id i p) _ e) in
     (omega arith, omega arith)
 
-one-more : (i new : ℕ) (ps : List Part) (f : ℕ → Part → ℕ) → sum (f i) ps ≤ 1 → (any (part-has-id new) ps ≡ false → sum (f new) ps ≡ 0) → id-taken ps new ≡ false → sum (f i) ps + new-bit i new ≤ 1
+one-more : (i new : ℕ) (ps : List Part) (f : ℕ → Part → ℕ) → sum (f i) ps ≤ 1 → (any (part-has-id new) ps ≡ false → sum (f new) ps ≡ 0)
+    → id-taken ps new ≡ false → sum (f i) ps + new-bit i new ≤ 1
 unfolding id-taken new-bit
 one-more i new ps f a z t = by (eqb new 0) (eqb new i) refl t
   where
@@ -148,12 +151,14 @@ unfolding first-target second-target
 good-targets n no-target k = (tt, tt)
 good-targets n (target q xs) k = (good-first n xs k, good-second n xs k)
 
+-- with a new id (the state by search: any good one would do)
 good-id : (i : ℕ) (h : Head) → GoodHead h → GoodHead (with-id i h)
 unfolding with-id among
 good-id i (segment f) g = (g .0, search (g .1))
 good-id i (ignorable j) g = g
 
-split-good : (source-cut target-cut new : ℕ) (b : List Part) (p : Part) (a : List Part) → GoodParts (b ++ (p ∷ a)) → GoodParts (split-focus source-cut target-cut new (b ++ (p ∷ a)) (here b p a))
+split-good : (source-cut target-cut new : ℕ) (b : List Part) (p : Part) (a : List Part) → GoodParts (b ++ (p ∷ a))
+    → GoodParts (split-focus source-cut target-cut new (b ++ (p ∷ a)) (here b p a))
 unfolding split-focus first-half second-half
 split-good source-cut target-cut new b p a h =
     let (gb, gp, ga) = each-apart b p a h in
@@ -161,7 +166,8 @@ split-good source-cut target-cut new b p a h =
     let f : ℕ → ℕ = split-order (p .target) in
     each-append (order-parts f b) _ (orders-good f b gb)
     (each-cons (record { head = gp .head; source = good-first source-cut (p .source) (gp .source); target = one })
-    (each-cons (record { head = good-id new (p .head) (gp .head); source = good-second source-cut (p .source) (gp .source); target = two }) (orders-good f a ga)))
+    (each-cons (record { head = good-id new (p .head) (gp .head); source = good-second source-cut (p .source) (gp .source); target = two })
+    (orders-good f a ga)))
 
 -- An accepted split
 pub split-accepted : (t : List ℕ) (n source-cut target-cut new room : ℕ) (r : List ℕ) → Bytes t → split t n source-cut target-cut new room ≡ result r
@@ -170,7 +176,8 @@ unfolding split split-unit split-focus with-parts split-refusal fault-6-to-10 Va
 split-accepted t n source-cut target-cut new room r bt e =
     let (valid, own, same) = operation-result t _ _ r e in
     let first = then-left (split-refusal (unit t) source-cut target-cut new (focus (unit t .parts) n)) _ own in
-    let small = applies-none 15 (too-large room (split-unit (unit t) n source-cut target-cut new)) (then-right (split-refusal (unit t) source-cut target-cut new (focus (unit t .parts) n)) _ own) in
+    let small = applies-none 15 (too-large room (split-unit (unit t) n source-cut target-cut new))
+    (then-right (split-refusal (unit t) source-cut target-cut new (focus (unit t .parts) n)) _ own) in
     let h = sent t bt valid in
     record { was = h; now = by (focus (unit t .parts) n) refl first h; bytes = same; room = room; fits = small }
   where
@@ -186,7 +193,8 @@ split-accepted t n source-cut target-cut new room r bt e =
         let ps : List Part = u .parts in
         let qs : List Part = split-focus source-cut target-cut new ps (here b p a) in
         let old : List Part = b ++ (p ∷ a) in
-        let now-at : split-focus source-cut target-cut new old (here b p a) ≡ qs = ap (λ (l : List Part). split-focus source-cut target-cut new l (here b p a)) (sym at) in
+        let now-at : split-focus source-cut target-cut new old (here b p a)
+        ≡ qs = ap (λ (l : List Part). split-focus source-cut target-cut new l (here b p a)) (sym at) in
         let r7 = then-right (fault-6 ps) _ (h .rules) in
         let r8 = then-right (fault-7 ps) _ r7 in
         let r9 = then-right (fault-8 ps) _ r8 in
@@ -208,14 +216,19 @@ split-accepted t n source-cut target-cut new room r bt e =
           good = subst GoodParts now-at (split-good source-cut target-cut new b p a (subst GoodParts at (h .good)));
           rule-5 = ap fault-5 (sym now-at) ∙ split-5 source-cut target-cut new b p a five;
           rules =
-              then-none _ _ (counted-rule-6 qs (subst Rule6 now-at (split-6 source-cut target-cut new b p a (ap (λ (l : List Part). id-taken l new) (sym at) ∙ taken) six)))
+              then-none _ _
+              (counted-rule-6 qs
+              (subst Rule6 now-at (split-6 source-cut target-cut new b p a (ap (λ (l : List Part). id-taken l new) (sym at) ∙ taken) six)))
               (then-none _ _ (good-rule-7 qs (kept .seven))
-              (then-none _ _ (eased-8 old qs (turned-eased _ _ (kept .source)) (turned-eased _ _ (kept .target)) (ap fault-8 (sym at) ∙ then-left _ _ r8))
-              (then-none _ _ (rule-9-kept ps qs source-same target-same (then-left _ _ r9)) (rule-10-kept ps qs source-same target-same (then-right (fault-9 ps) _ r9)))));
+              (then-none _ _
+              (eased-8 old qs (turned-eased _ _ (kept .source)) (turned-eased _ _ (kept .target)) (ap fault-8 (sym at) ∙ then-left _ _ r8))
+              (then-none _ _ (rule-9-kept ps qs source-same target-same (then-left _ _ r9))
+              (rule-10-kept ps qs source-same target-same (then-right (fault-9 ps) _ r9)))));
         }
       where
         listed : (b : List Part) (p : Part) (a : List Part) (x : Part) (xs : List Part)
-            → order-parts (split-order (p .target)) b ++ (first-half source-cut target-cut p ∷ second-half source-cut target-cut new p ∷ order-parts (split-order (p .target)) a) ≡ x ∷ xs
+            → order-parts (split-order (p .target)) b ++
+            (first-half source-cut target-cut p ∷ second-half source-cut target-cut new p ∷ order-parts (split-order (p .target)) a) ≡ x ∷ xs
             → split-focus source-cut target-cut new (u .parts) (here b p a) ≡ x ∷ xs
         listed b p a x xs e = e
 
@@ -227,5 +240,7 @@ split-accepted t n source-cut target-cut new room r bt e =
         whole b p a at k (applies-none 14 (id-taken (u .parts) new) o2) h
 
 -- An accepted split leaves a valid table
-pub split-valid : (t : List ℕ) (n source-cut target-cut new room : ℕ) (r : List ℕ) → Bytes t → split t n source-cut target-cut new room ≡ result r → Valid r
-split-valid t n source-cut target-cut new room r bt e = accepted-valid t (split-unit (unit t) n source-cut target-cut new) r (split-accepted t n source-cut target-cut new room r bt e)
+pub split-valid : (t : List ℕ) (n source-cut target-cut new room : ℕ) (r : List ℕ) → Bytes t
+    → split t n source-cut target-cut new room ≡ result r → Valid r
+split-valid t n source-cut target-cut new room r bt e = accepted-valid t (split-unit (unit t) n source-cut target-cut new) r
+    (split-accepted t n source-cut target-cut new room r bt e)

@@ -50,7 +50,8 @@ pub data Shape (e : ℕ → Half → Bool) : List Mk → Type 0 where
   sh-lone : (c : ℕ) (s : Half) → e c s ≡ true → Shape e (mk c false s ∷ [])
 
 -- two marks of a shape are those of a pair
-pub a-pair : {e : ℕ → Half → Bool} {m n : Mk} {l : List Mk} → Shape e (m ∷ n ∷ l) → (c : ℕ) × (w : Bool) × (m ≡ mk c w start) × (n ≡ mk c w end) × (l ≡ [])
+pub a-pair : {e : ℕ → Half → Bool} {m n : Mk} {l : List Mk} → Shape e (m ∷ n ∷ l)
+    → (c : ℕ) × (w : Bool) × (m ≡ mk c w start) × (n ≡ mk c w end) × (l ≡ [])
 a-pair (sh-pair c w) = (c, w, refl, refl, refl)
 
 pub Shape-mono : {e g : ℕ → Half → Bool} {p : List Mk} → ((c : ℕ) (s : Half) → e c s ≡ true → g c s ≡ true) → Shape e p → Shape g p
@@ -157,7 +158,8 @@ pub is-half-of : (i : ℕ) (y : Item) → half-of-id i y ≡ true → is-half y 
 unfolding half-of-id
 is-half-of i y e = and-left _ _ e
 
-pub other-half-is : (x y : Item) → is-half x ≡ true → half-of-id (id-of x) y ≡ true → other-half x y ≡ eqb (class x) (class y) && opposite (side x) (side y)
+pub other-half-is : (x y : Item) → is-half x ≡ true → half-of-id (id-of x) y ≡ true
+    → other-half x y ≡ eqb (class x) (class y) && opposite (side x) (side y)
 unfolding other-half
 other-half-is x y h e = ap₂ _&&_ (alike-class x y e) (other-side x y h (is-half-of (id-of x) y e))
 
@@ -181,10 +183,12 @@ module _ (x : Item) (is-h : is-half x ≡ true) where
       picks false false o o′ r r′ f g = g
 
       by : (b : Bool) → half-of-id own y ≡ b → partner-S x ys ≡ look (class x) (side x) (marks own ys)
-          → cond (alike x y && not (is-form-P y)) (other-half x y) (partner-S x ys) ≡ look (class x) (side x) (cond b (mark-of y ∷ []) [] ++ marks own ys)
+          → cond (alike x y && not (is-form-P y)) (other-half x y) (partner-S x ys)
+          ≡ look (class x) (side x) (cond b (mark-of y ∷ []) [] ++ marks own ys)
       by true e ih =
           rw (alike-class x y e)
-          (picks (eqb (class x) (class y)) (is-form-P y) _ _ _ _ (λ a. other-half-is x y is-h e ∙ ap (λ (b : Bool). b && opposite (side x) (side y)) a) ih)
+          (picks (eqb (class x) (class y)) (is-form-P y) _ _ _ _
+          (λ a. other-half-is x y is-h e ∙ ap (λ (b : Bool). b && opposite (side x) (side y)) a) ih)
       by false e ih = rw (not-alike x y is-h e) ih
 
   pub any-other : (ys : Content) → any (other-half x) ys ≡ anyMk (class x) (side x) (marks own ys)
@@ -202,7 +206,8 @@ unfolding any marks gather
 any-nothing i [] = refl
 any-nothing i (y ∷ ys) = by (half-of-id i y) (any-nothing i ys)
   where
-    by : (b : Bool) → not (any (half-of-id i) ys) ≡ nothing (marks i ys) → not (b || any (half-of-id i) ys) ≡ nothing (cond b (mark-of y ∷ []) [] ++ marks i ys)
+    by : (b : Bool) → not (any (half-of-id i) ys) ≡ nothing (marks i ys)
+        → not (b || any (half-of-id i) ys) ≡ nothing (cond b (mark-of y ∷ []) [] ++ marks i ys)
     by true ih = refl
     by false ih = ih
 
@@ -232,7 +237,8 @@ ok-at wait b x a h =
     two false true = refl
     two false false = refl
 
-    by : (p : Bool) → not (not p && not look-ahead && not alone) ≡ okMk (waits wait (id-of x)) (marks (id-of x) b) (mk (class x) p (side x)) (marks (id-of x) a)
+    by : (p : Bool)
+        → not (not p && not look-ahead && not alone) ≡ okMk (waits wait (id-of x)) (marks (id-of x) b) (mk (class x) p (side x)) (marks (id-of x) a)
     by true = refl
     by false = two look-ahead alone
 
@@ -264,7 +270,8 @@ unfolding marks gather
 marks-rev i [] xs = refl
 marks-rev i (y ∷ b) xs = marks-rev i b (y ∷ xs) ∙ by (half-of-id i y)
   where
-    by : (c : Bool) → reverseAux (marks i b) (cond c (mark-of y ∷ []) [] ++ marks i xs) ≡ reverseAux (cond c (mark-of y ∷ []) [] ++ marks i b) (marks i xs)
+    by : (c : Bool)
+        → reverseAux (marks i b) (cond c (mark-of y ∷ []) [] ++ marks i xs) ≡ reverseAux (cond c (mark-of y ∷ []) [] ++ marks i b) (marks i xs)
     by true = refl
     by false = refl
 
@@ -376,7 +383,8 @@ shape-from e i (mk c false start ∷ mk d false end ∷ mk d₃ true end ∷ l) 
 shape-from e i (mk c false start ∷ mk d false end ∷ mk d₃ false end ∷ l) r h ok =
     absurd (third (eqb d₃ d) refl (eqb d₃ c) refl (look-one d c (e d end) (ok .1 .0)) (ok .1 .1 .0))
   where
-    third : (p : Bool) → eqb d₃ d ≡ p → (q : Bool) → eqb d₃ c ≡ q → d ≡ c → cond p false (cond q true false) || false && (false && e d₃ end) ≡ true → ⊥
+    third : (p : Bool) → eqb d₃ d ≡ p → (q : Bool) → eqb d₃ c ≡ q → d ≡ c
+        → cond p false (cond q true false) || false && (false && e d₃ end) ≡ true → ⊥
     third true a q b k f = false≢true f
     third false a true b k f = eqb-false d₃ d a (eqb-true d₃ c b ∙ sym k)
     third false a false b k f = false≢true f
@@ -419,13 +427,15 @@ Run-id i (x ∷ l) {s} {t} r = by (is-form-P x) refl r (λ u q. Run-id i l {s = 
     closed true u q = r-cls q
     closed false u q = q
 
-    half-by : is-form-P x ≡ true → (half x ≡ 1) ⊎ (half x ≡ 2) → Run (cond (eqb (half x) 1) (opn (key-of x)) (cls (key-of x)) ∷ map pm l) s t → IH → Goal true (side x) s
+    half-by : is-form-P x ≡ true → (half x ≡ 1) ⊎ (half x ≡ 2)
+        → Run (cond (eqb (half x) 1) (opn (key-of x)) (cls (key-of x)) ∷ map pm l) s t → IH → Goal true (side x) s
     half-by e (inl h) q ih = rw (pm-half x e, h) (opened (eqb (id-of x) i) s (ih (key-of x ∷ s) (inv-opn (rw h at q))))
     half-by e (inr h) q ih =
         let (u, k, p) = inv-cls (rw h at q) in
         rw (pm-half x e, h, k) (closed (eqb (id-of x) i) u (ih u p))
 
-    by : (b : Bool) → is-form-P x ≡ b → Run (cond b (cond (eqb (half x) 1) (opn (key-of x)) (cls (key-of x))) skip ∷ map pm l) s t → IH → Goal b (side x) s
+    by : (b : Bool) → is-form-P x ≡ b → Run (cond b (cond (eqb (half x) 1) (opn (key-of x)) (cls (key-of x))) skip ∷ map pm l) s t → IH
+        → Goal b (side x) s
     by true e q ih = half-by e (P-half x e) q ih
     by false e q ih = skipped (is-half x && eqb (id-of x) i) (side x) s (ih s (inv-skip q))
 

@@ -64,7 +64,8 @@ pm-turn h x = by (h (key-of x)) refl
     hidden e true false = rw e
     hidden e false s = refl
 
-    shown : h (key-of x) ≡ false → (p s : Bool) → hide h (cond p (cond s (opn (key-of x)) (cls (key-of x))) skip) ≡ cond p (cond s (opn (key-of x)) (cls (key-of x))) skip
+    shown : h (key-of x) ≡ false → (p s : Bool)
+        → hide h (cond p (cond s (opn (key-of x)) (cls (key-of x))) skip) ≡ cond p (cond s (opn (key-of x)) (cls (key-of x))) skip
     shown e true true = rw e
     shown e true false = rw e
     shown e false s = refl
@@ -85,8 +86,10 @@ unfolding turn half-of-id
 mkOf-turn h i x = by (h (key-of x)) refl
   where
     one : (b a : Bool) → h (key (class x) (id-of x)) ≡ b → eqb (id-of x) i ≡ a → (t : Bool)
-        → cond (t && a) (mk (class x) (not b && is-form-P x) (side x) ∷ []) [] ≡ map (turn-mk h i) (cond (t && a) (mk (class x) (is-form-P x) (side x) ∷ []) [])
-    one b true e f true = ap (λ (z : Bool). mk (class x) (not z && is-form-P x) (side x) ∷ []) (sym e ∙ ap (λ (j : ℕ). h (key (class x) j)) (eqb-true (id-of x) i f))
+        → cond (t && a) (mk (class x) (not b && is-form-P x) (side x) ∷ []) []
+        ≡ map (turn-mk h i) (cond (t && a) (mk (class x) (is-form-P x) (side x) ∷ []) [])
+    one b true e f true = ap (λ (z : Bool). mk (class x) (not z && is-form-P x) (side x) ∷ [])
+        (sym e ∙ ap (λ (j : ℕ). h (key (class x) j)) (eqb-true (id-of x) i f))
     one b false e f true = refl
     one b a e f false = refl
 
@@ -100,9 +103,11 @@ marks-turn h i [] = refl
 marks-turn h i (x ∷ xs) = ap₂ _++_ (mkOf-turn h i x) (marks-turn h i xs) ∙ sym (map-append (turn-mk h i) (mkOf i x) (marks i xs))
 
 -- only a stretch of the sequence is turned, with balanced marks: it holds both halves of pc and mrk of an id, or none
-pub Shape-mid : {e : ℕ → Half → Bool} (h : Key → Bool) (i : ℕ) (x y z : List Mk) → Bal (map (pmk i) y) → Shape e (x ++ (y ++ z)) → Shape e (x ++ (map (turn-mk h i) y ++ z))
+pub Shape-mid : {e : ℕ → Half → Bool} (h : Key → Bool) (i : ℕ) (x y z : List Mk) → Bal (map (pmk i) y) → Shape e (x ++ (y ++ z))
+    → Shape e (x ++ (map (turn-mk h i) y ++ z))
 Shape-mid h i [] [] z v s = s
-Shape-mid {e} h i [] (m ∷ []) [] v (sh-lone c s k) = subst (λ (b : Bool). Shape e (mk c b s ∷ [])) (sym (and-false (not (h (key c i))))) (sh-lone c s k)
+Shape-mid {e} h i [] (m ∷ []) [] v (sh-lone c s k) = subst (λ (b : Bool). Shape e (mk c b s ∷ [])) (sym (and-false (not (h (key c i)))))
+    (sh-lone c s k)
 Shape-mid h i [] (m ∷ []) (n ∷ []) v (sh-pair c true) = absurd (no-end (inv-opn v))
 Shape-mid {e} h i [] (m ∷ []) (n ∷ []) v (sh-pair c false) =
     subst (λ (b : Bool). Shape e (mk c b start ∷ mk c false end ∷ [])) (sym (and-false (not (h (key c i))))) (sh-pair c false)
@@ -135,7 +140,8 @@ anyMk-turn h i c s [] = refl
 anyMk-turn h i c s (mk d w t ∷ l) = ap (λ (b : Bool). eqb c d && opposite s t || b) (anyMk-turn h i c s l)
 
 -- what waits does not see forms
-pub waits-turn : (h : Key → Bool) (i : ℕ) (X s Z : Content) (c : ℕ) (t : Half) → anyMk c t (marks i (X ++ (map (turn h) s ++ Z))) ≡ anyMk c t (marks i (X ++ (s ++ Z)))
+pub waits-turn : (h : Key → Bool) (i : ℕ) (X s Z : Content) (c : ℕ) (t : Half)
+    → anyMk c t (marks i (X ++ (map (turn h) s ++ Z))) ≡ anyMk c t (marks i (X ++ (s ++ Z)))
 waits-turn h i X s Z c t =
     ap (anyMk c t) (marks-three i X (map (turn h) s) Z) ∙ anyMk-append c t (marks i X) _
     ∙ ap (λ (b : Bool). anyMk c t (marks i X) || b)
@@ -175,7 +181,8 @@ is-cls x k e = by (is-form-P x) refl (is-start-half x) refl e
     by true p false s q = (let z : key-of x ≡ k = cc in z, p, s)
     by false p b s q = let z : true ≡ false = cc in absurd (false≢true (sym z))
 
-pub seen-here : (x : Item) (t : Half) (l : List Mk) → is-form-P x ≡ true → opposite t (side x) ≡ true → anyMk (class x) t (mkOf (id-of x) x ++ l) ≡ true
+pub seen-here : (x : Item) (t : Half) (l : List Mk) → is-form-P x ≡ true → opposite t (side x) ≡ true
+    → anyMk (class x) t (mkOf (id-of x) x ++ l) ≡ true
 seen-here x t l p o = rw (own-mark x p, eq-eqb (class x) (class x) refl, o)
 
 -- among the marks of its id it is seen by the other half (t)
@@ -204,8 +211,11 @@ pub cut-balances : (a d : Content) → Balanced (a ++ d) → Balanced (map (turn
 unfolding is-cut
 cut-balances a d b =
     let q = Run-split (map pm a) (subst (λ (l : List PM). Run l [] []) (map-append pm a d) b) in
-    let r = cut-balanced (is-cut a d) (map pm a) (map pm d) (q .0) (λ k o. open-cut k (opened-in (q .1) o) (closed-in (q .2) o)) (q .1) (q .2) in
-    (subst (λ (l : List PM). Run l [] []) (sym (pms-turn (is-cut a d) a)) (r .0), subst (λ (l : List PM). Run l [] []) (sym (pms-turn (is-cut a d) d)) (r .1))
+    let r = cut-balanced (is-cut a d) (map pm a) (map pm d) (q .0) (λ k o. open-cut k (opened-in (q .1) o) (closed-in (q .2) o)) (q .1) (q .2) in (
+      subst (λ (l : List PM). Run l [] []) (sym (pms-turn (is-cut a d) a)) (r .0),
+      subst (λ (l : List PM). Run l [] [])
+          (sym (pms-turn (is-cut a d) d)) (r .1),
+    )
   where
     none-on : {k : Key} {s : List Key} → On k s → s ≡ [] → ⊥
     none-on on-top e = let z : true ≡ false = cc in false≢true (sym z)
