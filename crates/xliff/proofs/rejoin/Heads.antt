@@ -12,7 +12,7 @@ use Rattle.xliff.specs.Focus.{order-target, order-part, order-parts}
 use Rattle.xliff.specs.Split.{first-target, second-target, raise-above, split-order}
 use Rattle.xliff.specs.Join.{rank, earliest, dash, join-heads, highest-unused, lower-above, bad-orders}
 use Rattle.xliff.specs.Good.{GoodHead}
-use Rattle.xliff.proofs.lists.Tests.{or-left, or-right}
+use Rattle.xliff.proofs.lists.Tests.{or-left, or-right, map-stays, map-map}
 
 -- THE HEAD: both halves have the state of the part, and its canResegment, Y or - in a part that is not closed
 same-state : (s : ℕ) → earliest s s ≡ s
@@ -57,14 +57,20 @@ raise-lower q r = by (ltb q r) refl
     by true e = let h : q < r = ltb-true q r e in rw (lt-ltb q (suc r) (let l : q < suc r = omega arith in l)) (omega arith)
     by false e = rw e
 
--- orders changed and changed back, part by part
+-- Orders that stay, and orders changed and changed back, part by part
+own-target : (p : Part) (t : Target) → t ≡ p .target → _≡_ {A = Part} (record { head = p .head; source = p .source; target = t }) p
+own-target p t e = ap (λ (g : Target). record { head = p .head; source = p .source; target = g }) e
+
+orders-stay : (f : ℕ → ℕ) → ((t : Target) → order-target f t ≡ t) → (l : List Part) → order-parts f l ≡ l
+unfolding order-parts order-part
+orders-stay f same l = map-stays (order-part f) (λ p. own-target p (order-target f (p .target)) (same (p .target))) l
+
 orders-back : (f g : ℕ → ℕ) → ((t : Target) → order-target g (order-target f t) ≡ t) → (l : List Part)
     → order-parts g (order-parts f l) ≡ l
 unfolding order-parts order-part
-orders-back f g back [] = refl
-orders-back f g back (p ∷ l) =
-    ap₂ {C = List Part} _∷_ (ap (λ (t : Target). record { head = p .head; source = p .source; target = t }) (back (p .target)))
-    (orders-back f g back l)
+orders-back f g back l =
+    map-map (order-part g) (order-part f) l
+    ∙ map-stays (λ p. order-part g (order-part f p)) (λ p. own-target p (order-target g (order-target f (p .target))) (back (p .target))) l
 
 pub fall-back : (q : ℕ) (l : List Part) → order-parts (lower-above q) (order-parts (raise-above q) l) ≡ l
 unfolding order-target
@@ -76,10 +82,8 @@ fall-back q l = orders-back (raise-above q) (lower-above q) by l
 
 -- A PART WITHOUT TARGET: its split leaves all orders. Then the highest value is unused, and none is above it
 pub unmoved : (l : List Part) → order-parts (split-order no-target) l ≡ l
-unfolding order-parts order-part order-target split-order
-unmoved [] = refl
-unmoved (p ∷ l) =
-    ap₂ {C = List Part} _∷_ (ap (λ (t : Target). record { head = p .head; source = p .source; target = t }) (by (p .target))) (unmoved l)
+unfolding order-target split-order
+unmoved l = orders-stay (split-order no-target) by l
   where
     by : (t : Target) → order-target (split-order no-target) t ≡ t
     by no-target = refl
@@ -93,7 +97,7 @@ pub stay-low : (h : ℕ) (l : List Part) → ((k : ℕ) → h < k → among k (o
 unfolding order-parts order-part order-target orders order-list gather lower-above among
 stay-low h [] low = refl
 stay-low h (p ∷ l) low =
-    ap₂ {C = List Part} _∷_ (ap (λ (t : Target). record { head = p .head; source = p .source; target = t }) (by (p .target) low))
+    ap₂ {C = List Part} _∷_ (own-target p (order-target (lower-above h) (p .target)) (by (p .target) low))
     (stay-low h l (λ k u. rest (p .target) k (low k u)))
   where
     rest : (t : Target) (k : ℕ) → among k (order-list t ++ orders l) ≡ false → among k (orders l) ≡ false

@@ -19,7 +19,7 @@ use Rattle.xliff.specs.Join.{join-targets, join-parts, highest-unused, l
 use Rattle.xliff.specs.Rewrite.{rewrite-target}
 use Rattle.xliff.specs.Rejoin.{OpenAtCuts, turned-item, turned-part, turned}
 use Rattle.xliff.proofs.lists.Tests.{map-append, or-both}
-use Rattle.xliff.proofs.unit.Result.{then-left, then-right, then-none, applies-false, Sent, result-valid}
+use Rattle.xliff.proofs.unit.Result.{then-left, then-right, then-none, then-last, applies-false, Sent, result-valid}
 use Rattle.xliff.proofs.unit.Accepted.{Within, small-enough, read-back}
 use Rattle.xliff.proofs.operations.Sources.{focus-here, focus-at, focus-in}
 use Rattle.xliff.proofs.operations.RewriteSides.{same-orders, order-same}
@@ -57,10 +57,6 @@ not-refused v n j seven =
     (then-none _ _ (applies-false 12 _ (or-both _ _ (j .one-open) (j .two-open)))
     (then-none _ _ (applies-false 16 _ (j .in-sequence)) (applies-false 17 _ (ap is-fault seven))))
 
-after-none : (a b c : Option Refusal) → a ≡ none → b ≡ none → (a then (b then c)) ≡ c
-unfolding _then_
-after-none a b c x y = rw (x, y)
-
 -- such a join, where the result meets 5 to 10
 pub join-does : (v : XliffUnit) (n room : ℕ) → Joinable v n → Sent v → Within v → Sent (join-unit v n)
     → join (encode v) n room ≡ output-asked room (join-unit v n)
@@ -72,7 +68,7 @@ join-does v n room j sent-v within-v sent-joined =
     ≡ output-asked room (join-unit v n))
     (sym (read-back v sent-v within-v))
     (ap (λ (o : Option Refusal). unless o (encode (join-unit v n)))
-    (after-none (table-refusal (encode v)) (join-refusal v n (focus (v .parts) n)) (applies 15 (too-large room (join-unit v n)))
+    (then-last (table-refusal (encode v)) (join-refusal v n (focus (v .parts) n)) (applies 15 (too-large room (join-unit v n)))
     (result-valid most-bytes v sent-v (small-enough most-bytes v within-v (within-v .size))) (not-refused v n j seven)))
   where
     seven : fault-7 (join-unit v n .parts) ≡ none
@@ -80,8 +76,8 @@ join-does v n room j sent-v within-v sent-joined =
 
 -- JOINED AND TURNED, in either sequence
 module _ (c : OpenAtCuts) where
-  abbrev T : Part → Part
-  T p = turned-part c p
+  abbrev turning : Part → Part
+  turning p = turned-part c p
 
   targets-joined : (f : Item → Item) (g h : Target)
       → join-targets (rewrite-target f g) (rewrite-target f h) ≡ rewrite-target f (join-targets g h)
@@ -91,7 +87,7 @@ module _ (c : OpenAtCuts) where
   targets-joined f (target q xs) no-target = refl
   targets-joined f (target q xs) (target r ys) = ap (target q) (sym (map-append f xs ys))
 
-  parts-joined : (p q : Part) → join-parts (T p) (T q) ≡ T (join-parts p q)
+  parts-joined : (p q : Part) → join-parts (turning p) (turning q) ≡ turning (join-parts p q)
   unfolding join-parts turned-part
   parts-joined p q =
       ap₂ (λ (l : Content) (g : Target). record { head = join-parts p q .head; source = l; target = g })
@@ -104,7 +100,7 @@ module _ (c : OpenAtCuts) where
   target-ordered f k no-target = refl
   target-ordered f k (target q xs) = refl
 
-  parts-ordered : (f : ℕ → ℕ) (ps : List Part) → order-parts f (map T ps) ≡ map T (order-parts f ps)
+  parts-ordered : (f : ℕ → ℕ) (ps : List Part) → order-parts f (map turning ps) ≡ map turning (order-parts f ps)
   unfolding order-parts order-part turned-part
   parts-ordered f [] = refl
   parts-ordered f (p ∷ ps) =
@@ -114,16 +110,17 @@ module _ (c : OpenAtCuts) where
       (parts-ordered f ps)
 
   -- the same orders are unused, so the same orders fall
-  orders-same : (ps : List Part) → orders (map T ps) ≡ orders ps
+  orders-same : (ps : List Part) → orders (map turning ps) ≡ orders ps
   unfolding turned-part
-  orders-same ps = same-orders T (λ p. order-same (turned-item (c .source)) (turned-item (c .target)) (p .target)) ps
+  orders-same ps = same-orders turning (λ p. order-same (turned-item (c .source)) (turned-item (c .target)) (p .target)) ps
 
   same-unused : (ps : List Part)
-      → lower-above (highest-unused (length (map T ps)) (orders (map T ps))) ≡ lower-above (highest-unused (length ps) (orders ps))
-  same-unused ps = ap lower-above (ap₂ highest-unused (length-map ps T) (orders-same ps))
+      → lower-above (highest-unused (length (map turning ps)) (orders (map turning ps)))
+      ≡ lower-above (highest-unused (length ps) (orders ps))
+  same-unused ps = ap lower-above (ap₂ highest-unused (length-map ps turning) (orders-same ps))
 
   same-fall : (ps : List Part) (f : Item → Item) (g h : Target)
-      → join-order (map T ps) (rewrite-target f g) (rewrite-target f h) ≡ join-order ps g h
+      → join-order (map turning ps) (rewrite-target f g) (rewrite-target f h) ≡ join-order ps g h
   unfolding join-order rewrite-target
   same-fall ps f no-target no-target = same-unused ps
   same-fall ps f no-target (target r ys) = same-unused ps
@@ -131,27 +128,28 @@ module _ (c : OpenAtCuts) where
   same-fall ps f (target q xs) (target r ys) = refl
 
   focus-joined : (ps b : List Part) (p q : Part) (a : List Part)
-      → join-focus (map T ps) (here (map T b) (T p) (T q ∷ map T a)) ≡ map T (join-focus ps (here b p (q ∷ a)))
+      → join-focus (map turning ps) (here (map turning b) (turning p) (turning q ∷ map turning a))
+      ≡ map turning (join-focus ps (here b p (q ∷ a)))
   unfolding join-focus turned-part
   focus-joined ps b p q a =
       ap₂ (λ (f : ℕ → ℕ) (l : List Part). order-parts f l) (same-fall ps (turned-item (c .target)) (p .target) (q .target))
-      (ap (λ (r : Part). map T b ++ (r ∷ map T a)) (parts-joined p q) ∙ sym (map-append T b (join-parts p q ∷ a)))
+      (ap (λ (r : Part). map turning b ++ (r ∷ map turning a)) (parts-joined p q) ∙ sym (map-append turning b (join-parts p q ∷ a)))
       ∙ parts-ordered (join-order ps (p .target) (q .target)) (b ++ (join-parts p q ∷ a))
 
   focus-turned : (ps : List Part) (n : ℕ) (b : List Part) (p : Part) (a : List Part) → focus ps n ≡ here b p a
-      → focus (map T ps) n ≡ here (map T b) (T p) (map T a)
+      → focus (map turning ps) n ≡ here (map turning b) (turning p) (map turning a)
   focus-turned ps n b p a e =
-      ap₂ focus (ap (map T) (focus-here ps n b p a e) ∙ map-append T b (p ∷ a))
-      (focus-at ps n b p a e ∙ ap suc (sym (length-map b T)))
-      ∙ focus-in (map T b) (T p) (map T a)
+      ap₂ focus (ap (map turning) (focus-here ps n b p a e) ∙ map-append turning b (p ∷ a))
+      (focus-at ps n b p a e ∙ ap suc (sym (length-map b turning)))
+      ∙ focus-in (map turning b) (turning p) (map turning a)
 
   pub unit-joined : (v : XliffUnit) (n : ℕ) → Joinable v n → join-unit (turned c v) n ≡ turned c (join-unit v n)
   unfolding join-unit turned with-parts
   unit-joined v n j =
       ap (with-parts v)
-      (ap (join-focus (map T (v .parts))) (focus-turned (v .parts) n (j .before) (j .one) (j .two ∷ j .rest) (j .at))
+      (ap (join-focus (map turning (v .parts))) (focus-turned (v .parts) n (j .before) (j .one) (j .two ∷ j .rest) (j .at))
       ∙ focus-joined (v .parts) (j .before) (j .one) (j .two) (j .rest)
-      ∙ ap (λ (f : Focus). map T (join-focus (v .parts) f)) (sym (j .at)))
+      ∙ ap (λ (f : Focus). map turning (join-focus (v .parts) f)) (sym (j .at)))
 
   same-sequence : (f : Item → Item) (g h : Target) → bad-orders (rewrite-target f g) (rewrite-target f h) ≡ bad-orders g h
   unfolding bad-orders rewrite-target
@@ -164,10 +162,10 @@ module _ (c : OpenAtCuts) where
   unfolding turned with-parts turned-part is-closed
   still-joinable v n j =
       record {
-        before = map T (j .before);
-        one = T (j .one);
-        two = T (j .two);
-        rest = map T (j .rest);
+        before = map turning (j .before);
+        one = turning (j .one);
+        two = turning (j .two);
+        rest = map turning (j .rest);
         at = focus-turned (v .parts) n (j .before) (j .one) (j .two ∷ j .rest) (j .at);
         one-open = j .one-open;
         two-open = j .two-open;

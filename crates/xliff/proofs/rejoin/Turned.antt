@@ -80,25 +80,25 @@ turned-flat c u =
     (flat-turned (c .source)) (flat-turned (c .target)) (u .parts))
 
 -- TURNED TWICE: those of both lists
-item-twice : (K L : Content) (x : Item) → turned-item L (turned-item K x) ≡ turned-item (K ++ L) x
+item-twice : (starts more : Content) (x : Item) → turned-item more (turned-item starts x) ≡ turned-item (starts ++ more) x
 unfolding turned-item alike flat
-item-twice K L x = by (any (alike x) K) refl
+item-twice starts more x = by (any (alike x) starts) refl
   where
     again : (b : Bool) → cond b (in-form form-S (in-form form-S x)) (in-form form-S x) ≡ in-form form-S x
     again true = flat-in-form form-S x
     again false = refl
 
-    both : any (alike x) (K ++ L) ≡ any (alike x) K || any (alike x) L
-    both = any-append (alike x) K L
+    both : any (alike x) (starts ++ more) ≡ any (alike x) starts || any (alike x) more
+    both = any-append (alike x) starts more
 
     turns-by : {a b : Bool} → a ≡ b → cond a (in-form form-S x) x ≡ cond b (in-form form-S x) x
     turns-by e = ap (λ (z : Bool). cond z (in-form form-S x) x) e
 
-    by : (b : Bool) → any (alike x) K ≡ b
-        → cond (any (alike (cond b (in-form form-S x) x)) L) (in-form form-S (cond b (in-form form-S x) x)) (cond b (in-form form-S x) x)
-        ≡ cond (any (alike x) (K ++ L)) (in-form form-S x) x
-    by true e = again (any (alike (in-form form-S x)) L) ∙ sym (turns-by (both ∙ ap (λ (z : Bool). z || any (alike x) L) e))
-    by false e = sym (turns-by (both ∙ ap (λ (z : Bool). z || any (alike x) L) e))
+    by : (b : Bool) → any (alike x) starts ≡ b
+        → cond (any (alike (cond b (in-form form-S x) x)) more) (in-form form-S (cond b (in-form form-S x) x)) (cond b (in-form form-S x) x)
+        ≡ cond (any (alike x) (starts ++ more)) (in-form form-S x) x
+    by true e = again (any (alike (in-form form-S x)) more) ∙ sym (turns-by (both ∙ ap (λ (z : Bool). z || any (alike x) more) e))
+    by false e = sym (turns-by (both ∙ ap (λ (z : Bool). z || any (alike x) more) e))
 
 pub turned-twice : (c d : OpenAtCuts) (u : XliffUnit) → turned d (turned c u) ≡ turned (both-open c d) u
 unfolding turned with-parts turned-part both-open

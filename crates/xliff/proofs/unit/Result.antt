@@ -38,6 +38,10 @@ unfolding _then_
 then-none none b p q = q
 then-none (some r) b p q = p
 
+pub then-last : (a b c : Option Refusal) → a ≡ none → b ≡ none → (a then (b then c)) ≡ c
+unfolding _then_
+then-last a b c p q = rw (p, q)
+
 pub applies-none : (n : ℕ) (b : Bool) → applies n b ≡ none → b ≡ false
 unfolding applies
 applies-none n true e = absurd (none-some (sym e))

@@ -13,7 +13,7 @@ use Rattle.xliff.specs.Item.{Item, Content, text, character, standalone,
 use Rattle.xliff.specs.Unit.{Head, Target, no-target, target, Part, XliffUnit}
 use Rattle.xliff.specs.Encode.{Record, opening, closing, part-head, target-head, text-run, inline, ill-text, broken, record-bytes, text-before, item-before, content-records, target-records, part-records, unit-records, spell, encode}
 use Rattle.xliff.specs.Parse.{most-records, most-parts, bad-text, bad-item, entries, Stage, unit-due, part-due, in-source, in-target, complete, alone, on, fault, inline-step, unit-step, part-step, outer-step, step, is-part, may-end, first-bad, table-fault, content-fault, Reading, take-record, reading, records, unit, content}
-use Rattle.xliff.specs.Good.{Each, each-nil, each-cons, Allowed, no-text, one-point, GoodItem, GoodRecord, AllGood, part-heads, GoodIn, GoodContent, GoodTarget, GoodPart, GoodParts}
+use Rattle.xliff.specs.Good.{each-nil, each-cons, Allowed, no-text, one-point, GoodItem, GoodRecord, AllGood, part-heads, GoodIn, GoodContent, GoodTarget, GoodPart, GoodParts}
 use Rattle.xliff.proofs.lists.Each.{each-append}
 use Rattle.xliff.proofs.records.Parse.{placed, walk-spell}
 use Rattle.xliff.proofs.unit.Table.{Runs, at-end, goes-on, fault-on, cond-on, starts-text, table-walked, content-walked}
