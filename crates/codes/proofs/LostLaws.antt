@@ -3,7 +3,7 @@ use Rattle.xliff.specs.Good.{GoodItem, gets}
 use Prim.Native.Nat.{ℕ, suc, _+_, _-_, _<_, _≤_}
 use mathlib.Core.Path.{_≡_, refl, sym, ap, _∙_}
 use mathlib.Core.Bool.{Bool, true, false, not, _&&_, true≢false}
-use mathlib.Core.List.{List, [], _∷_, _++_}
+use mathlib.Core.List.{List, _++_}
 use native.Mathlib.Omega.{arith}
 use lib.ListN.{length, getD, drop}
 use lib.Dec.{eqb}
@@ -12,7 +12,7 @@ use Rattle.xliff.specs.Bytes.{equal, among, any}
 use Rattle.xliff.specs.Item.{Item, Content, start, end, text, character, standalone, isolated, pair, annotation-start, annotation-end, class, non-removable}
 use Rattle.xliff.specs.Encode.{Record, text-run, inline, record-bytes, content-records}
 use Rattle.xliff.specs.SetTarget.{same-flat, is-lost}
-use Rattle.xliff.proofs.lists.Tests.{and-false}
+use Rattle.xliff.proofs.lists.Tests.{and-false, any-same}
 use Rattle.walk.specs.Kept.{items}
 use Rattle.walk.proofs.WalkLaws.{Next, Searched, search-found, search-on}
 use Rattle.walk.specs.Place.{Begins}
@@ -21,12 +21,6 @@ use Rattle.codes.specs.Codes.{codeAt, code}
 use Rattle.codes.proofs.CodeLaws.{begins-code}
 use Rattle.codes.specs.Lost.{nonRemovableAt, fieldsAt, sameAt, is-code-at, lostAt}
 use Rattle.codes.proofs.SameLaws.{item-non-removable, text-non-removable, item-same, text-same, code-same}
-
--- tests that agree at each item
-any-same : (p q : Item → Bool) → ((x : Item) → p x ≡ q x) → (xs : Content) → any p xs ≡ any q xs
-unfolding any
-any-same p q e [] = refl
-any-same p q e (x ∷ xs) = rw (e x, any-same p q e xs)
 
 -- a code that is looked for
 no-code : (t : List ℕ) (c : ℕ) → is-code-at t (text c) ≡ false

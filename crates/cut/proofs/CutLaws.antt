@@ -7,13 +7,13 @@ use mathlib.Core.List.{List, [], _∷_, _++_, map, append-nil}
 use native.Mathlib.Omega.{arith}
 use lib.ListN.{length, take, drop}
 use Rattle.xliff.specs.Bytes.{two, four, any, two-at}
-use Rattle.xliff.specs.Item.{Item, Content, start, end, form-P, form-S, text, character, standalone, isolated, pair, annotation-start, annotation-end, mark, id-of, class, half, alike, other-half, in-form, flat}
+use Rattle.xliff.specs.Item.{Item, Content, start, end, form-P, form-S, text, character, standalone, isolated, pair, annotation-start, annotation-end, mark, id-of, class, half, alike, other-half, in-form}
 use Rattle.xliff.specs.Encode.{Record, text-run, inline, code-bytes, field-bytes, record-bytes, spell, content-records, content-bytes, item-before}
 use Rattle.xliff.specs.Parse.{Mark, UN, UE, SG, IG, TG, TX, CP, PH, PO, PC, SC, EC, IS, IE, MO, SM, MC, EM, unknown, is, mark-of, mark-at, reading, take-record}
 use Rattle.xliff.specs.Split.{cut-item}
 use Rattle.xliff.proofs.lists.Tests.{two-value, and-false}
 use Rattle.xliff.proofs.unit.Table.{starts-text, content-records-text}
-use Rattle.xliff.proofs.unit.FlatSize.{item-width}
+use Rattle.xliff.proofs.unit.Forms.{item-long}
 use Rattle.walk.specs.Kept.{Kept, kept-end, kept-item, kept-text, items, Inline, an-item, a-text}
 use Rattle.walk.specs.Marks.{number, kindOf, kindAt, kind, is-other, has-other}
 use Rattle.writer.specs.Pieces.{lead, overlay, numberBytes}
@@ -160,12 +160,8 @@ cut-written r qs t o l m k i b g e mark kind id turn out =
     ∙ ap (λ (x : List ℕ). lead x o) (cut-one r (items qs) g)
 
 pub cut-length : (r : Record) (ys : Content) → Inline r → length (record-bytes (cut-record ys r)) ≡ length (record-bytes r)
-unfolding cut-item flat
-cut-length (inline x) ys (an-item g) = by (any (other-half x) ys)
-  where
-    by : (b : Bool) → length (record-bytes (inline (cond b (in-form form-S x) x))) ≡ length (record-bytes (inline x))
-    by true = item-width x
-    by false = refl
+unfolding cut-item
+cut-length (inline x) ys (an-item g) = item-long form-S (any (other-half x) ys) x
 cut-length (text-run cs) ys (a-text a l) = refl
 
 -- the records of a content, cut, are those of the content cut

@@ -14,7 +14,7 @@ use Rattle.xliff.specs.Answer.{refusal}
 use Rattle.xliff.specs.Encode as encode
 use Rattle.xliff.specs.Encode.{record-bytes, unit-records}
 use Rattle.xliff.specs.Parse.{unit, read, is-part, most-records}
-use Rattle.xliff.proofs.lists.Tests.{any-append}
+use Rattle.xliff.proofs.lists.Tests.{any-append, any-same}
 use Rattle.xliff.specs.Rules.{Owner, of-part, of-source, of-target, Named, start-name, clashes, may-share, first-clash, fault-6}
 use Rattle.places.specs.Offsets.{At}
 use Rattle.places.proofs.Places.{at-next, at-end}
@@ -58,11 +58,6 @@ share-same m n = by (eqb m 2) (eqb m 3) (eqb n 2) (eqb n 3) refl refl refl refl
 clash-same : (a at b : ℕ) → clashes (record { owner = owner (a % 64); name = a / 64; at = at }) (named-key b) ≡ clashTest a b
 unfolding clashes named-key
 clash-same a at b = ap (λ (s : Bool). eqb (a / 64) (b / 64) && not s) (share-same (a % 64) (b % 64))
-
-any-same : {A : Type 0} (p q : A → Bool) → ((x : A) → p x ≡ q x) → (l : List A) → any p l ≡ any q l
-unfolding any
-any-same p q e [] = refl
-any-same p q e (x ∷ l) = ap₂ _||_ (e x) (any-same p q e l)
 
 -- an id clashes with one that was met
 hits : (a at n : ℕ) (keys : List ℕ) (met : List Named) → Met keys n met

@@ -70,8 +70,8 @@ span-end at p place s =
 
 -- all bytes, by the parts before and behind
 table-is : (t : List ℕ) → Passes t → (b : List Part) (p : Part) (a : List Part) → unit t .parts ≡ b ++ (p ∷ a)
-    → t ≡ record-bytes (opening (unit t .opening)) ++ spell (gather part-records b) ++ spell
-    (part-records p ++ (gather part-records a ++ (closing ∷ [])))
+    → t ≡ record-bytes (opening (unit t .opening)) ++ spell (gather part-records b)
+    ++ spell (part-records p ++ (gather part-records a ++ (closing ∷ [])))
 unfolding unit-records spell gather
 table-is t h b p a e =
     sym (h .bytes)
@@ -99,8 +99,8 @@ target-stands : (t : List ℕ) (g : Target) (place : PartPlace) (rest : List ℕ
 unfolding target-records spell gather has-target record-bytes content-bytes two
 target-stands t no-target place rest s l d = (s .has, s .order, omega (arith, s .ends))
 target-stands t (target q xs) place rest s l d =
-    let e : drop (place .target) t ≡ record-bytes (target-head q) ++ (spell (content-records xs) ++ rest) = d
-    ∙ append-assoc (record-bytes (target-head q)) (spell (content-records xs)) rest in
+    let e : drop (place .target) t ≡ record-bytes (target-head q) ++ (spell (content-records xs) ++ rest)
+    = d ∙ append-assoc (record-bytes (target-head q)) (spell (content-records xs)) rest in
     let u = slice-at t (place .target) (place .target + 4) (record-bytes (target-head q)) (spell (content-records xs) ++ rest) e l refl in (
       s .has,
       s .order,
@@ -245,8 +245,7 @@ module _ (t : List ℕ) (h : Passes t) (n at left : ℕ) (s : Reached t n at lef
               q,
               s .offset,
               ap (λ (x : List ℕ). length x) g,
-              length-append (spell (gather part-records (s .behind)))
-                  (spell (part-records p)),
+              length-append (spell (gather part-records (s .behind))) (spell (part-records p)),
             );
             there = subst (λ (k : ℕ). At t k (gather part-records (next-part .1) ++ (closing ∷ []))) (sym q)
                 (at-past t at (part-records p) (gather part-records (next-part .1) ++ (closing ∷ [])) next-there);

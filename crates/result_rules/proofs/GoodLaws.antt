@@ -7,14 +7,13 @@ use mathlib.Core.List.{List, _∷_}
 use native.Mathlib.Omega.{arith}
 use lib.ListN.{length}
 use lib.Dec.{ltb}
-use borrow.Author.Tests.{le-ltb}
 use Rattle.xliff.specs.Unit.{Part, XliffUnit}
 use Rattle.xliff.specs.Encode.{opening, unit-records, encode}
 use Rattle.xliff.specs.Parse.{unit, most-bytes, most-parts, most-records}
 use Rattle.xliff.specs.Check.{too-large}
-use Rattle.xliff.proofs.lists.Tests.{or-none}
 use Rattle.xliff.proofs.records.Parse.{records-unit}
 use Rattle.xliff.proofs.unit.Valid.{unit-runs, heads-unit}
+use Rattle.xliff.proofs.unit.Accepted as limits
 use Rattle.places.specs.Passes.{Passes}
 
 pub record GoodUnit (v : XliffUnit) : Type 0 where
@@ -47,10 +46,4 @@ module _ (v : XliffUnit) (g : GoodUnit v) where
 
   -- within the limits 15 is only a matter of the room
   pub only-room : (room : ℕ) → too-large room v ≡ ltb room (length (encode v))
-  unfolding too-large
-  only-room room = rw (
-    le-ltb most-bytes (length (encode v)) (g .size),
-    le-ltb most-records (length (unit-records v)) (g .few),
-    le-ltb most-parts
-        (length (v .parts)) (g .few-parts),
-  ) (or-none (ltb room (length (encode v))))
+  only-room room = limits.only-room v (record { size = g .size; records = g .few; parts = g .few-parts }) room

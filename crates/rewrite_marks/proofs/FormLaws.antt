@@ -20,8 +20,10 @@ use Rattle.glance.specs.Glances.{headIn}
 use Rattle.keys.specs.Keys.{key, idKey, classKey, halfKey}
 use Rattle.keys.proofs.KeyLaws.{id-key, class-key, half-key}
 use Rattle.writer.specs.Pieces.{overlay}
-use Rattle.rewrite_marks.specs.Rewritten.{inside-after, on-record, if-inside, form-by, insideOf, halfMark, formed}
-use Rattle.rewrite_marks.proofs.LengthLaws.{mark-long, fields-kept, half-mark}
+use Rattle.rewrite_marks.specs.Rewritten.{inside-after, if-inside, form-by, insideOf, halfMark, formed}
+use Rattle.xliff.specs.Good.{on-record}
+use Rattle.xliff.proofs.unit.Forms.{mark-long, fields-kept}
+use Rattle.rewrite_marks.proofs.LengthLaws.{half-mark}
 
 pub inside-is : (source inside : Bool) (cs : List ℕ) (x : Record) → insideOf source inside (headIn x) ≡ inside-after source inside (record-meaning cs x)
 unfolding inside-after

@@ -5,15 +5,17 @@ use mathlib.Core.Bool.{Bool, true, false, cond}
 use mathlib.Core.List.{List, [], _∷_, _++_, map, append-assoc}
 use lib.Dec.{eqb}
 use Rattle.xliff.specs.Bytes.{'S', gather}
-use Rattle.xliff.specs.Item.{Item, Content, Fields, Half, Form, text, character, standalone, isolated, pair, annotation-start, annotation-end, in-form, half}
+use Rattle.xliff.specs.Item.{Item, Content, Form}
 use Rattle.xliff.specs.Unit.{Target, no-target, target, Part, XliffUnit}
-use Rattle.xliff.specs.Encode.{Record, opening, closing, part-head, target-head, text-run, inline, ill-text, broken, text-before, item-before, content-records, target-records, part-records, unit-records}
+use Rattle.xliff.specs.Encode.{Record, opening, closing, part-head, target-head, text-run, inline, content-records, target-records, part-records, unit-records}
 use Rattle.xliff.specs.Rules.{half-of-id}
 use Rattle.xliff.specs.Focus.{with-parts}
 use Rattle.xliff.specs.Rewrite.{rewrite-item, rewrite-target, rewrite-part, rewrite-unit}
 use Rattle.places.specs.Offsets.{Inner, no-inner, text-inner, inline-inner}
 use Rattle.places.proofs.Places.{content-inner}
-use Rattle.rewrite_marks.specs.Rewritten.{inside-after, on-record, rewritten}
+use Rattle.rewrite_marks.specs.Rewritten.{inside-after, rewritten}
+use Rattle.xliff.specs.Good.{on-record}
+use Rattle.xliff.proofs.unit.Forms.{content-kept}
 
 -- outside a content of the side nothing changes
 outside : (f : Item → Item) (source : Bool) {ys : List Record} (bs : List Record) → Inner ys → rewritten f source false (ys ++ bs) ≡ ys ++ rewritten f source false bs
@@ -29,56 +31,16 @@ inside f source bs (text-inner {cs} h) = ap {B = List Record} (λ l. text-run cs
 inside f source bs (inline-inner {x} h) = ap {B = List Record} (λ l. inline (f x) ∷ l) (inside f source bs h)
 
 -- the records of a content whose halves are rewritten
-text-kept : (f : Item → Item) (c : ℕ) (rs : List Record) → text-before c (map (on-record f) rs) ≡ map (on-record f) (text-before c rs)
-unfolding on-record text-before
-text-kept f c [] = refl
-text-kept f c (opening d ∷ rs) = refl
-text-kept f c (closing ∷ rs) = refl
-text-kept f c (part-head h ∷ rs) = refl
-text-kept f c (target-head q ∷ rs) = refl
-text-kept f c (text-run cs ∷ rs) = refl
-text-kept f c (inline x ∷ rs) = refl
-text-kept f c (ill-text ∷ rs) = refl
-text-kept f c (broken b ∷ rs) = refl
-
 module _ (i : ℕ) (w : Form) where
   abbrev f : Item → Item
   f = rewrite-item i w
 
-  pair-before : (b : Bool) (h : Half) (v : Form) (g : Fields) (rs : List Record) → item-before (cond b (pair h w g) (pair h v g)) rs ≡ inline (cond b (pair h w g) (pair h v g)) ∷ rs
-  unfolding item-before
-  pair-before true h v g rs = refl
-  pair-before false h v g rs = refl
-
-  start-before : (b : Bool) (v : Form) (j t : ℕ) (rs : List Record)
-      → item-before (cond b (annotation-start w j t) (annotation-start v j t)) rs
-      ≡ inline (cond b (annotation-start w j t) (annotation-start v j t)) ∷ rs
-  unfolding item-before
-  start-before true v j t rs = refl
-  start-before false v j t rs = refl
-
-  end-before : (b : Bool) (v : Form) (j : ℕ) (rs : List Record) → item-before (cond b (annotation-end w j) (annotation-end v j)) rs ≡ inline (cond b (annotation-end w j) (annotation-end v j)) ∷ rs
-  unfolding item-before
-  end-before true v j rs = refl
-  end-before false v j rs = refl
-
-  item-kept : (x : Item) (rs : List Record) → item-before (f x) (map (on-record f) rs) ≡ map (on-record f) (item-before x rs)
-  unfolding rewrite-item half-of-id half in-form item-before on-record
-  item-kept (text c) rs = text-kept f c rs
-  item-kept (character c) rs = refl
-  item-kept (standalone g) rs = refl
-  item-kept (isolated h g) rs = refl
-  item-kept (pair h v g) rs = pair-before (half-of-id i (pair h v g)) h v g (map (on-record f) rs)
-  item-kept (annotation-start v j t) rs = start-before (half-of-id i (annotation-start v j t)) v j t (map (on-record f) rs)
-  item-kept (annotation-end v j) rs = end-before (half-of-id i (annotation-end v j)) v j (map (on-record f) rs)
-
-  content-kept : (xs : Content) → content-records (map f xs) ≡ map (on-record f) (content-records xs)
-  unfolding content-records
-  content-kept [] = refl
-  content-kept (x ∷ xs) = ap (item-before (f x)) (content-kept xs) ∙ item-kept x (content-records xs)
+  content-rewritten : (xs : Content) → content-records (map f xs) ≡ map (on-record f) (content-records xs)
+  unfolding rewrite-item
+  content-rewritten xs = content-kept w (half-of-id i) xs
 
   content-inside : (source : Bool) (xs : Content) (bs : List Record) → rewritten f source true (content-records xs ++ bs) ≡ content-records (map f xs) ++ rewritten f source true bs
-  content-inside source xs bs = inside f source bs (content-inner xs) ∙ ap (λ (l : List Record). l ++ rewritten f source true bs) (sym (content-kept xs))
+  content-inside source xs bs = inside f source bs (content-inner xs) ∙ ap (λ (l : List Record). l ++ rewritten f source true bs) (sym (content-rewritten xs))
 
   content-outside : (source : Bool) (xs : Content) (bs : List Record) → rewritten f source false (content-records xs ++ bs) ≡ content-records xs ++ rewritten f source false bs
   content-outside source xs bs = outside f source bs (content-inner xs)

@@ -23,8 +23,10 @@ use Rattle.table.specs.declared.Read.the-variants.{Good}
 use Rattle.glance.specs.declared.Glance.{Glance}
 use Rattle.orders.proofs.WalkLaws.{Stepped, Walked}
 use Rattle.writer.specs.Pieces.{lead}
-use Rattle.rewrite_marks.specs.Rewritten.{inside-after, on-record, if-inside, rewritten, form-by, rewrittenBytes, insideOf, formed}
-use Rattle.rewrite_marks.proofs.LengthLaws.{mark-long, record-long}
+use Rattle.rewrite_marks.specs.Rewritten.{inside-after, if-inside, rewritten, form-by, rewrittenBytes, insideOf, formed}
+use Rattle.xliff.specs.Good.{on-record}
+use Rattle.xliff.proofs.unit.Forms.{mark-long}
+use Rattle.rewrite_marks.proofs.LengthLaws.{rewritten-long}
 use Rattle.rewrite_marks.proofs.FormLaws.{inside-is, record-formed}
 
 module _ (i : ℕ) (p : Bool) where
@@ -86,7 +88,7 @@ module _ (i : ℕ) (p : Bool) where
             left = s .others;
             done = m .done ++ record-bytes (on-record (if-inside inside f) (s .first));
             here = v .rest;
-            far = omega (arith, m .far, v .wide, s .wide, record-long i (form-by p) inside (s .first), length-append (m .done) (record-bytes (on-record (if-inside inside f) (s .first))));
+            far = omega (arith, m .far, v .wide, s .wide, rewritten-long i (form-by p) inside (s .first), length-append (m .done) (record-bytes (on-record (if-inside inside f) (s .first))));
             is = e ∙ moved;
             all = joined;
           }

@@ -7,6 +7,7 @@ use Rattle.xliff.specs.Bytes.{'C', 'E', 'M', 'O', 'P', 'S'}
 use Rattle.xliff.specs.Item as item
 use Rattle.xliff.specs.Item.{Form, form-P, form-S, class, half}
 use Rattle.xliff.specs.Encode as encode
+use Rattle.xliff.specs.Good.{on-record}
 use Rattle.xliff.specs.Encode.{opening, closing, part-head, target-head, text-run, inline, ill-text, broken, unit-records, spell}
 use Rattle.xliff.specs.Parse.{unit}
 use Rattle.xliff.specs.Rules.{half-of-id}
@@ -24,17 +25,7 @@ inside-after source inside (inline x) = inside
 inside-after source inside ill-text = inside
 inside-after source inside (broken b) = inside
 
--- the items of records changed, where the walk stands in a content of the side
-unfoldable pub on-record : (item.Item → item.Item) → encode.Record → encode.Record
-on-record f (opening c) = opening c
-on-record f closing = closing
-on-record f (part-head h) = part-head h
-on-record f (target-head q) = target-head q
-on-record f (text-run cs) = text-run cs
-on-record f (inline x) = inline (f x)
-on-record f ill-text = ill-text
-on-record f (broken b) = broken b
-
+-- the items of records changed (`on-record`), where the walk stands in a content of the side
 abbrev pub if-inside : Bool → (item.Item → item.Item) → item.Item → item.Item
 if-inside inside f x = cond inside (f x) x
 

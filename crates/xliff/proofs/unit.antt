@@ -5,4 +5,4 @@ pub mod Valid
 pub mod Result
 pub mod Accepted
 pub mod Limits
-pub mod FlatSize
+pub mod Forms

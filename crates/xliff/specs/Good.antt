@@ -97,3 +97,14 @@ closed = record-bytes closing
 unfoldable pub gets : ℕ → ℕ → List ℕ → List ℕ
 gets i zero s = []
 gets i (suc n) s = getD s i 0 ∷ gets (suc i) n s
+
+-- A record with its item changed
+unfoldable pub on-record : (Item → Item) → Record → Record
+on-record f (opening c) = opening c
+on-record f closing = closing
+on-record f (part-head h) = part-head h
+on-record f (target-head q) = target-head q
+on-record f (text-run cs) = text-run cs
+on-record f (inline x) = inline (f x)
+on-record f ill-text = ill-text
+on-record f (broken b) = broken b

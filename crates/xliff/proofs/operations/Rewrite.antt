@@ -16,12 +16,12 @@ use Rattle.xliff.specs.Rules.{half-of-id, partner-P, nearest}
 use Rattle.xliff.specs.Rewrite.{rewrite-item, Whole, ended-by, find-whole, are-partners}
 use Rattle.xliff.proofs.rules.Flat.{class-alike, half-alike, id-alike}
 use Rattle.xliff.proofs.lists.Sum.{bit, sum, sum-append, sum-le}
-use Rattle.xliff.proofs.lists.Tests.{none-some, and-left, and-right, map-append, rev-append, map-map}
+use Rattle.xliff.proofs.lists.Tests.{none-some, and-left, and-right, map-append, rev-append, map-map, map-same}
 use Rattle.xliff.proofs.operations.Sources.{flat-rewrite}
-use Rattle.xliff.proofs.rules.Stack.{Key, key, PM, skip, opn, cls, Run, r-opn, r-cls, Bal, Run-append, Run-split, Run-frame, Run-det, Empties-run, Run-hide}
+use Rattle.xliff.proofs.rules.Stack.{Key, key, PM, skip, opn, cls, Run, r-opn, r-cls, Bal, Run-append, Run-split, Run-frame, Run-det, Empties-run}
 use Rattle.xliff.proofs.rules.Balance.{key-of, pm, Balanced, start-partner}
 use Rattle.xliff.proofs.rules.Marks.{Mk, mk, side, mark-of, mkOf, marks, Shape, sh-none, sh-pair, sh-lone, opposite, anyMk, other-half-is, not-alike, not-other, is-half-of, is-id, pm-half, inv-skip}
-use Rattle.xliff.proofs.rules.Turn.{is-cls, turn, pms-turn, flat-same}
+use Rattle.xliff.proofs.rules.Turn.{is-cls, turn, flat-same, balanced-turn}
 use Rattle.xliff.proofs.rules.Eight.{near, letter-fits, Eased, eased-cons, eased-refl, eased-append}
 
 -- how many halves of an id a content has; how many of them with the marks of pc or mrk
@@ -510,14 +510,10 @@ rewrite-turn h i x e = rw e (by (is-half x) refl (eqb (id-of x) i))
 -- to the marks of start and end: any balanced content stays balanced
 pub balanced-to-S : (i : ℕ) (c : Content) → Balanced c → Balanced (map (rewrite-item i form-S) c)
 balanced-to-S i c b =
-    subst (λ (l : List PM). Bal l) (sym (pms-turn of-id c) ∙ sym (ap (map pm) (same c))) (Run-hide of-id b)
+    subst Balanced (sym (map-same (rewrite-item i form-S) (turn of-id) (λ x. rewrite-turn of-id i x refl) c)) (balanced-turn of-id c b)
   where
     of-id : Key → Bool
     of-id (key d j) = eqb j i
-
-    same : (xs : Content) → map (rewrite-item i form-S) xs ≡ map (turn of-id) xs
-    same [] = refl
-    same (x ∷ xs) = ap₂ {C = Content} _∷_ (rewrite-turn of-id i x refl) (same xs)
 
 -- exactly two halves, and if they are no marks of pc or mrk, none of these
 P-low : (i : ℕ) (x : Item) → P-bit i x ≤ half-bit i x

@@ -15,8 +15,8 @@ use Rattle.xliff.specs.Sequences.{located}
 use Rattle.xliff.specs.Rules.{fault-5, fault-6, fault-7, fault-8}
 use Rattle.xliff.specs.Rewrite.{rewrite-item, rewrite-target, are-partners}
 use Rattle.xliff.proofs.lists.Sum.{sum, sum-cong, sum-map}
-use Rattle.xliff.specs.Good.{Each, each-nil, each-cons}
-use Rattle.xliff.proofs.lists.Each.{each-weaken}
+use Rattle.xliff.specs.Good.{Each, each-nil, each-cons, GoodIn, GoodTarget}
+use Rattle.xliff.proofs.lists.Each.{each-map, each-weaken}
 use Rattle.xliff.proofs.lists.Tests.{map-append, map-stays}
 use Rattle.xliff.proofs.operations.Sources.{flat-rewrite}
 use Rattle.xliff.proofs.rules.Orders.{orders-fit}
@@ -39,6 +39,17 @@ stay x = x
 
 pub map-stay : (xs : Content) → map stay xs ≡ xs
 map-stay xs = map-stays stay (λ x. refl) xs
+
+-- its target changed item by item: to no effect, or so that it stays good
+pub target-unchanged : (f : Item → Item) → ((x : Item) → f x ≡ x) → (t : Target) → rewrite-target f t ≡ t
+unfolding rewrite-target
+target-unchanged f same no-target = refl
+target-unchanged f same (target q xs) = ap (target q) (map-stays f same xs)
+
+pub good-target : (f : Item → Item) → ((x : Item) → GoodIn x → GoodIn (f x)) → (t : Target) → GoodTarget t → GoodTarget (rewrite-target f t)
+unfolding rewrite-target
+good-target f good no-target g = tt
+good-target f good (target q xs) g = each-map f good xs g
 
 -- CONTENTS of one side: those that hold the halves stay balanced, and no other changes
 module _ (i : ℕ) (content : Part → Content) where

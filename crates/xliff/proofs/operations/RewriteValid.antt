@@ -8,14 +8,14 @@ use mathlib.Core.Option.{Option, none, some}
 use lib.Dec.{eqb}
 use Rattle.xliff.specs.Bytes.{'P', 'S', 'T', Bytes, any, among}
 use Rattle.xliff.specs.Answer.{applies, result}
-use Rattle.xliff.specs.Item.{Item, Content, Half, Form, form-P, form-S, in-form}
-use Rattle.xliff.specs.Unit.{Target, no-target, target, Part, XliffUnit, target-items, source-sequence, target-sequence}
+use Rattle.xliff.specs.Item.{Item, Content, Half, Form, form-P, form-S}
+use Rattle.xliff.specs.Unit.{Target, target, Part, XliffUnit, target-items, source-sequence, target-sequence}
 use Rattle.xliff.specs.Parse.{unit}
 use Rattle.xliff.specs.Rules.{half-of-id, fault-6, fault-7, fault-8, fault-9, fault-6-to-10}
 use Rattle.xliff.specs.Check.{Valid, too-large}
 use Rattle.xliff.specs.Focus.{with-parts}
 use Rattle.xliff.specs.Rewrite.{form-of, rewrite-item, rewrite-target, rewrite-part, rewrite-unit, side-content, side-sequence, Whole, find-whole, are-partners, unfit-letter, to-P-refusal, already, pair-refusal, rewrite-refusal, rewrite}
-use Rattle.xliff.specs.Good.{each-nil, each-cons, GoodIn, GoodTarget, GoodPart, GoodParts}
+use Rattle.xliff.specs.Good.{each-nil, each-cons, GoodIn, GoodPart, GoodParts}
 use Rattle.xliff.proofs.lists.Each.{each-map}
 use Rattle.xliff.proofs.lists.Tests.{or-left, or-right, map-same}
 use Rattle.xliff.proofs.operations.Sources.{rewrite-source}
@@ -27,9 +27,9 @@ use Rattle.xliff.proofs.rules.Marks.{marks, Shape, waits}
 use Rattle.xliff.proofs.rules.Six.{Rule6, rule-6-counted}
 use Rattle.xliff.proofs.rules.Total.{total-source, total-target}
 use Rattle.xliff.proofs.rules.Seven.{bare-sequence, Good7, rule-7-good}
-use Rattle.xliff.proofs.rules.Starts.{good-form}
+use Rattle.xliff.proofs.rules.Starts.{good-if}
 use Rattle.xliff.proofs.operations.Rewrite.{two-halves, found, found-two}
-use Rattle.xliff.proofs.operations.RewriteSides.{on-both, stay, map-stay, items-of, sources-balanced, targets-balanced, Asked, Kept, stays, rewrites, both-kept}
+use Rattle.xliff.proofs.operations.RewriteSides.{on-both, stay, map-stay, items-of, sources-balanced, targets-balanced, Asked, Kept, stays, rewrites, both-kept, target-unchanged, good-target}
 
 -- what acceptance says of the pair
 some-same : {A : Type 0} {a b : A} → Path (Option A) (some a) (some b) → a ≡ b
@@ -57,14 +57,10 @@ any-map P Q g h [] = refl
 any-map P Q g h (p ∷ ps) = ap₂ _||_ (h p) (any-map P Q g h ps)
 
 -- the part of a side
-target-stays : (t : Target) → t ≡ rewrite-target stay t
-unfolding rewrite-target
-target-stays no-target = refl
-target-stays (target q xs) = ap (target q) (sym (map-stay xs))
-
 part-S : (side : ℕ) (f : Item → Item) → eqb side 'S' ≡ true → (p : Part) → rewrite-part side f p ≡ on-both f stay p
 unfolding rewrite-part
-part-S side f e p = rw e (ap (λ (t : Target). record { head = p .head; source = map f (p .source); target = t }) (target-stays (p .target)))
+part-S side f e p = rw e (ap (λ (t : Target). record { head = p .head; source = map f (p .source); target = t })
+    (sym (target-unchanged stay (λ x. refl) (p .target))))
 
 part-T : (side : ℕ) (f : Item → Item) → eqb side 'S' ≡ false → (p : Part) → rewrite-part side f p ≡ on-both stay f p
 unfolding rewrite-part
@@ -110,16 +106,7 @@ tried u side i form-P p e =
 -- good as bytes
 pub good-item : (i : ℕ) (w : Form) (x : Item) → GoodIn x → GoodIn (rewrite-item i w x)
 unfolding rewrite-item
-good-item i w x g = by (half-of-id i x)
-  where
-    by : (b : Bool) → GoodIn (cond b (in-form w x) x)
-    by true = good-form w x g
-    by false = g
-
-pub good-own-target : (i : ℕ) (w : Form) (g : Target) → GoodTarget g → GoodTarget (rewrite-target (rewrite-item i w) g)
-unfolding rewrite-target
-good-own-target i w no-target g = tt
-good-own-target i w (target q xs) g = each-map (rewrite-item i w) (good-item i w) xs g
+good-item i w x g = good-if w (half-of-id i x) x g
 
 pub good-parts : (side i : ℕ) (w : Form) (ps : List Part) → GoodParts ps → GoodParts (map (rewrite-part side (rewrite-item i w)) ps)
 unfolding rewrite-part
@@ -129,7 +116,7 @@ good-parts side i w (p ∷ ps) (each-cons g h) = each-cons (by (eqb side 'S')) (
     by : (b : Bool) → GoodPart (cond b (record { head = p .head; source = map (rewrite-item i w) (p .source); target = p .target })
         (record { head = p .head; source = p .source; target = rewrite-target (rewrite-item i w) (p .target) }))
     by true = record { head = g .head; source = each-map (rewrite-item i w) (good-item i w) (p .source) (g .source); target = g .target }
-    by false = record { head = g .head; source = g .source; target = good-own-target i w (p .target) (g .target) }
+    by false = record { head = g .head; source = g .source; target = good-target (rewrite-item i w) (good-item i w) (p .target) (g .target) }
 
 not-found : (u : XliffUnit) (side i : ℕ) (w : Form) → pair-refusal u side i w none ≡ none → ⊥
 unfolding pair-refusal

@@ -68,13 +68,13 @@ flat-in-form w (pair h v f) = refl
 flat-in-form w (annotation-start v i t) = refl
 flat-in-form w (annotation-end v i) = refl
 
+pub flat-if : (w : Form) (b : Bool) (x : Item) → flat (cond b (in-form w x) x) ≡ flat x
+flat-if w true x = flat-in-form w x
+flat-if w false x = refl
+
 pub flat-cut : (beyond : Content) (x : Item) → flat (cut-item beyond x) ≡ flat x
 unfolding cut-item
-flat-cut beyond x = by (any (other-half x) beyond)
-  where
-    by : (b : Bool) → flat (cond b (in-form form-S x) x) ≡ flat x
-    by true = flat-in-form form-S x
-    by false = refl
+flat-cut beyond x = flat-if form-S (any (other-half x) beyond) x
 
 pub flattened-map : (f : Item → Item) → ((x : Item) → flat (f x) ≡ flat x) → (xs : Content) → flattened (map f xs) ≡ flattened xs
 unfolding flattened
@@ -175,11 +175,7 @@ remove-source ps n = by (focus ps n) refl
 -- Rewriting keeps both sequences flattened
 pub flat-rewrite : (i : ℕ) (w : Form) (x : Item) → flat (rewrite-item i w x) ≡ flat x
 unfolding rewrite-item
-flat-rewrite i w x = by (half-of-id i x)
-  where
-    by : (b : Bool) → flat (cond b (in-form w x) x) ≡ flat x
-    by true = flat-in-form w x
-    by false = refl
+flat-rewrite i w x = flat-if w (half-of-id i x) x
 
 pub rewrite-source : (side i : ℕ) (w : Form) (ps : List Part)
     → flattened (source-sequence (map (rewrite-part side (rewrite-item i w)) ps)) ≡ flattened (source-sequence ps)

@@ -10,7 +10,7 @@ use lib.ListN.{take, drop, take-append-drop}
 use borrow.Author.Tests.{eqb-true}
 use Rattle.xliff.specs.Bytes.{Bytes, any, among}
 use Rattle.xliff.specs.Answer.{applies, result}
-use Rattle.xliff.specs.Item.{Item, Content, form-S, in-form, flattened, id-of, is-start, other-half}
+use Rattle.xliff.specs.Item.{Item, Content, form-S, flattened, id-of, is-start, other-half}
 use Rattle.xliff.specs.Unit.{Head, segment, ignorable, Target, no-target, target, Part, XliffUnit, head-id, target-items, is-closed, source-sequence, target-sequence, with-id}
 use Rattle.xliff.specs.Parse.{unit}
 use Rattle.xliff.specs.Rules.{starts-id, fault-5, fault-6, fault-7, fault-8, fault-9, fault-6-to-10}
@@ -33,7 +33,7 @@ use Rattle.xliff.proofs.rules.Six.{start-bit, starts, part-bit, source-
 use Rattle.xliff.proofs.rules.Seven.{Good7, rule-7-good, good-rule-7}
 use Rattle.xliff.proofs.operations.Cut.{split-keeps}
 use Rattle.xliff.proofs.rules.Eight.{turned-eased, eased-8}
-use Rattle.xliff.proofs.rules.Starts.{starts-map, source-ids-orders, target-ids-orders, good-form}
+use Rattle.xliff.proofs.rules.Starts.{starts-map, source-ids-orders, target-ids-orders, good-if}
 
 -- Rule 6: the starts of a content are those of its two halves
 starts-halves : (i n : ℕ) (xs : Content) → starts i (first-items n xs) + starts i (second-items n xs) ≡ starts i xs
@@ -132,11 +132,7 @@ split-6 source-cut target-cut new b p a t r =
 -- good as bytes
 good-cut : (beyond : Content) (x : Item) → GoodIn x → GoodIn (cut-item beyond x)
 unfolding cut-item
-good-cut beyond x g = by (any (other-half x) beyond)
-  where
-    by : (b : Bool) → GoodIn (cond b (in-form form-S x) x)
-    by true = good-form form-S x g
-    by false = g
+good-cut beyond x g = good-if form-S (any (other-half x) beyond) x g
 
 good-first : (n : ℕ) (xs : Content) → GoodContent xs → GoodContent (first-items n xs)
 unfolding first-items

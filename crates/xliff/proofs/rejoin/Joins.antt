@@ -2,11 +2,12 @@
 -- unit with the same marks turned.
 use Prim.Native.Nat.{ℕ, suc, _≤_, _<_}
 use mathlib.Core.Path.{_≡_, refl, sym, ap, ap₂, _∙_, subst}
-use mathlib.Core.Bool.{false}
+use mathlib.Core.Bool.{Bool, true, false}
 use mathlib.Core.List.{List, [], _∷_, _++_, map}
 use mathlib.Core.Option.{Option, none}
+use lib.Dec.{ltb}
 use lib.ListN.{length, length-map}
-use borrow.Author.Tests.{lt-ltb}
+use borrow.Author.Tests.{lt-ltb, le-ltb}
 use Rattle.xliff.specs.Item.{Item, Content}
 use Rattle.xliff.specs.Unit.{Target, no-target, target, Part, XliffUnit, is-closed, orders}
 use Rattle.xliff.specs.Encode.{encode}
@@ -20,7 +21,7 @@ use Rattle.xliff.specs.Rewrite.{rewrite-target}
 use Rattle.xliff.specs.Rejoin.{OpenAtCuts, turned-item, turned-part, turned}
 use Rattle.xliff.proofs.lists.Tests.{map-append, or-both}
 use Rattle.xliff.proofs.unit.Result.{then-left, then-right, then-none, then-last, applies-false, Sent, result-valid}
-use Rattle.xliff.proofs.unit.Accepted.{Within, small-enough, read-back}
+use Rattle.xliff.proofs.unit.Accepted.{Within, only-room, read-back}
 use Rattle.xliff.proofs.operations.Sources.{focus-here, focus-at, focus-in}
 use Rattle.xliff.proofs.operations.RewriteSides.{same-orders, order-same}
 use Rattle.xliff.proofs.rejoin.Turned.{turned-sent, turned-within}
@@ -29,14 +30,18 @@ use Rattle.xliff.proofs.rejoin.Turned.{turned-sent, turned-within}
 abbrev pub output-asked : ℕ → XliffUnit → Outcome
 output-asked room v = unless (applies 15 (too-large room v)) (encode v)
 
-pub has-room : (room : ℕ) (v : XliffUnit) → Within v → length (encode v) ≤ room → output-asked room v ≡ result (encode v)
-unfolding unless
-has-room room v w l = ap (λ (o : Option Refusal). unless o (encode v)) (applies-false 15 _ (small-enough room v w l))
+room-asked : (room : ℕ) (v : XliffUnit) → Within v → (b : Bool) → ltb room (length (encode v)) ≡ b
+    → output-asked room v ≡ unless (applies 15 b) (encode v)
+room-asked room v w b e = ap (λ (c : Bool). unless (applies 15 c) (encode v)) (only-room v w room ∙ e)
 
-pub no-room : (room : ℕ) (v : XliffUnit) → room < length (encode v)
+pub room-enough : (room : ℕ) (v : XliffUnit) → Within v → length (encode v) ≤ room → output-asked room v ≡ result (encode v)
+unfolding unless applies
+room-enough room v w l = room-asked room v w false (le-ltb room (length (encode v)) l)
+
+pub room-short : (room : ℕ) (v : XliffUnit) → Within v → room < length (encode v)
     → output-asked room v ≡ refuse (record { number = 15; place = 0 })
-unfolding unless too-large applies
-no-room room v l = rw (lt-ltb room (length (encode v)) l)
+unfolding unless applies
+room-short room v w l = room-asked room v w true (lt-ltb room (length (encode v)) l)
 
 -- WHAT A JOIN ASKS of the two parts
 pub record Joinable (v : XliffUnit) (n : ℕ) : Type 0 where
@@ -58,7 +63,7 @@ not-refused v n j seven =
     (then-none _ _ (applies-false 16 _ (j .in-sequence)) (applies-false 17 _ (ap is-fault seven))))
 
 -- such a join, where the result meets 5 to 10
-pub join-does : (v : XliffUnit) (n room : ℕ) → Joinable v n → Sent v → Within v → Sent (join-unit v n)
+join-does : (v : XliffUnit) (n room : ℕ) → Joinable v n → Sent v → Within v → Sent (join-unit v n)
     → join (encode v) n room ≡ output-asked room (join-unit v n)
 unfolding join operation unless Valid fault-6-to-10
 join-does v n room j sent-v within-v sent-joined =
@@ -69,7 +74,8 @@ join-does v n room j sent-v within-v sent-joined =
     (sym (read-back v sent-v within-v))
     (ap (λ (o : Option Refusal). unless o (encode (join-unit v n)))
     (then-last (table-refusal (encode v)) (join-refusal v n (focus (v .parts) n)) (applies 15 (too-large room (join-unit v n)))
-    (result-valid most-bytes v sent-v (small-enough most-bytes v within-v (within-v .size))) (not-refused v n j seven)))
+    (result-valid most-bytes v sent-v (only-room v within-v most-bytes ∙ le-ltb most-bytes (length (encode v)) (within-v .size)))
+    (not-refused v n j seven)))
   where
     seven : fault-7 (join-unit v n .parts) ≡ none
     seven = then-left _ _ (then-right (fault-6 (join-unit v n .parts)) _ (sent-joined .rules))
@@ -143,7 +149,7 @@ module _ (c : OpenAtCuts) where
       (focus-at ps n b p a e ∙ ap suc (sym (length-map b turning)))
       ∙ focus-in (map turning b) (turning p) (map turning a)
 
-  pub unit-joined : (v : XliffUnit) (n : ℕ) → Joinable v n → join-unit (turned c v) n ≡ turned c (join-unit v n)
+  unit-joined : (v : XliffUnit) (n : ℕ) → Joinable v n → join-unit (turned c v) n ≡ turned c (join-unit v n)
   unfolding join-unit turned with-parts
   unit-joined v n j =
       ap (with-parts v)

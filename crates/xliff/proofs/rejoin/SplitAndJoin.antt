@@ -23,9 +23,9 @@ use Rattle.xliff.proofs.lists.Each.{each-apart}
 use Rattle.xliff.proofs.rules.Six.{Rule6, rule-6-counted}
 use Rattle.xliff.proofs.rules.Seven.{Good7, rule-7-good}
 use Rattle.xliff.proofs.unit.Result.{then-left, then-right, applies-none, operation-result, Sent, sent}
-use Rattle.xliff.proofs.unit.Accepted.{accepted-unit, within}
+use Rattle.xliff.proofs.unit.Accepted.{accepted-unit, Within, within}
 use Rattle.xliff.proofs.unit.Limits.{valid-bytes, valid-within}
-use Rattle.xliff.proofs.unit.FlatSize.{same-size}
+use Rattle.xliff.proofs.unit.Forms.{same-size}
 use Rattle.xliff.proofs.operations.Sources.{focus-here, focus-at, focus-in}
 use Rattle.xliff.proofs.operations.Closed.{open-with-id}
 use Rattle.xliff.proofs.operations.Cut.{after-split}
@@ -33,7 +33,7 @@ use Rattle.xliff.proofs.operations.SplitValid.{split-accepted}
 use Rattle.xliff.proofs.rejoin.Heads.{halves-follow}
 use Rattle.xliff.proofs.rejoin.Turned.{turned-flat, turned-sent, turned-within, turned-twice, turned-none}
 use Rattle.xliff.proofs.rejoin.Parts.{joined-back}
-use Rattle.xliff.proofs.rejoin.Joins.{output-asked, has-room, no-room, Joinable, join-turned}
+use Rattle.xliff.proofs.rejoin.Joins.{output-asked, room-enough, room-short, Joinable, join-turned}
 
 -- what a split leaves to a join: two halves that can be joined, and what that gives
 record Left (u : XliffUnit) (n source-cut target-cut new : ℕ) : Type 0 where
@@ -141,12 +141,15 @@ module _ (t : List ℕ) (n source-cut target-cut new room : ℕ) (s : List ℕ) 
       record {
         enough = λ back l.
             join-back c back
-            ∙ has-room back after-all (turned-within (both-open cuts c) (unit t) (valid-within t bt v)) (omega (arith, as-long, l));
-        too-short = λ back l. join-back c back ∙ no-room back after-all (omega (arith, as-long, l));
+            ∙ room-enough back after-all still-within (omega (arith, as-long, l));
+        too-short = λ back l. join-back c back ∙ room-short back after-all still-within (omega (arith, as-long, l));
       }
     where
       after-all : XliffUnit
       after-all = turned (both-open cuts c) (unit t)
+
+      still-within : Within after-all
+      still-within = turned-within (both-open cuts c) (unit t) (valid-within t bt v)
 
       as-long : length (encode after-all) ≡ length t
       as-long = same-size after-all (unit t) (turned-flat (both-open cuts c) (unit t)) .size ∙ ap length (valid-bytes t bt v)

@@ -14,31 +14,31 @@ use Rattle.xliff.specs.Rules.{fault-5, fault-6, fault-7, fault-8, fault-
 use Rattle.xliff.specs.Focus.{with-parts}
 use Rattle.xliff.specs.Rewrite.{rewrite-target}
 use Rattle.xliff.specs.Rejoin.{OpenAtCuts, nothing-open, turned-item, turned-part, turned, both-open, flat-part, flat-unit}
-use Rattle.xliff.specs.Good.{Each, GoodIn, GoodTarget, GoodPart}
+use Rattle.xliff.specs.Good.{Each, GoodIn, GoodPart}
 use Rattle.xliff.proofs.lists.Each.{each-map, each-weaken}
 use Rattle.xliff.proofs.lists.Tests.{and-false, any-append, map-same, map-stays, map-map}
 use Rattle.xliff.proofs.rules.Flat.{rule-9-kept, rule-10-kept}
-use Rattle.xliff.proofs.rules.Stack.{Key, key, PM, Bal, Run-hide}
+use Rattle.xliff.proofs.rules.Stack.{Key, key}
 use Rattle.xliff.proofs.rules.Balance.{Balanced}
 use Rattle.xliff.proofs.rules.Marks.{Mk, mk, marks, Shape, sh-none, sh-pair, sh-lone, waits, anyMk}
-use Rattle.xliff.proofs.rules.Turn.{turn, turn-mk, pms-turn, marks-turn, anyMk-turn}
+use Rattle.xliff.proofs.rules.Turn.{turn, turn-mk, marks-turn, anyMk-turn, balanced-turn}
 use Rattle.xliff.proofs.rules.Six.{Rule6, rule-6-counted}
 use Rattle.xliff.proofs.rules.Seven.{bare-sequence, Good7, rule-7-good}
 use Rattle.xliff.proofs.rules.Eight.{flat-turn, eased-turn}
-use Rattle.xliff.proofs.rules.Starts.{good-form}
+use Rattle.xliff.proofs.rules.Starts.{good-if}
 use Rattle.xliff.proofs.unit.Result.{then-left, then-right, then-none, Sent}
 use Rattle.xliff.proofs.unit.Accepted.{Within}
-use Rattle.xliff.proofs.unit.FlatSize.{same-size}
-use Rattle.xliff.proofs.operations.Sources.{flat-in-form, flattened-map}
-use Rattle.xliff.proofs.operations.RewriteSides.{on-both, sources-balanced, targets-balanced, source-is, target-is, Keeps, Kept, both-kept}
+use Rattle.xliff.proofs.unit.Forms.{same-size}
+use Rattle.xliff.proofs.operations.Sources.{flat-in-form, flat-if, flattened-map}
+use Rattle.xliff.proofs.operations.RewriteSides.{on-both, target-unchanged, good-target, sources-balanced, targets-balanced, source-is, target-is, Keeps, Kept, both-kept}
 
 -- the pairs and annotations of a list, by key
 abbrev keyed : Content → Key → Bool
 keyed starts (key c i) = any (λ y. eqb c (class y) && eqb i (id-of y)) starts
 
 flat-turned : (starts : Content) (x : Item) → flat (turned-item starts x) ≡ flat x
-unfolding turned-item turn flat alike
-flat-turned starts x = flat-turn (keyed starts) x
+unfolding turned-item
+flat-turned starts x = flat-if form-S (any (alike x) starts) x
 
 -- PARTS CHANGED item by item, twice or to no effect: only what becomes of an item matters
 target-twice : (f g h : Item → Item) → ((x : Item) → g (f x) ≡ h x) → (t : Target)
@@ -57,11 +57,6 @@ twice f g h f′ g′ h′ source-same target-same ps =
         ap₂ (λ (l : Content) (t : Target). record { head = p .head; source = l; target = t })
         (map-map g f (p .source) ∙ map-same (λ x. g (f x)) h source-same (p .source))
         (target-twice f′ g′ h′ target-same (p .target))
-
-target-unchanged : (f : Item → Item) → ((x : Item) → f x ≡ x) → (t : Target) → rewrite-target f t ≡ t
-unfolding rewrite-target
-target-unchanged f same no-target = refl
-target-unchanged f same (target q xs) = ap (target q) (map-stays f same xs)
 
 unchanged : (f g : Item → Item) → ((x : Item) → f x ≡ x) → ((x : Item) → g x ≡ x) → (ps : List Part) → map (on-both f g) ps ≡ ps
 unchanged f g source-same target-same ps = map-stays (on-both f g) each ps
@@ -120,9 +115,6 @@ shape-turned h i (m ∷ n ∷ []) (sh-pair c w) = sh-pair c (not (h (key c i)) &
 shape-turned {e} h i (m ∷ []) (sh-lone c s k) =
     subst (λ (b : Bool). Shape e (mk c b s ∷ [])) (sym (and-false (not (h (key c i))))) (sh-lone c s k)
 
-balanced-turned : (h : Key → Bool) (xs : Content) → Balanced xs → Balanced (map (turn h) xs)
-balanced-turned h xs b = subst (λ (l : List PM). Bal l) (sym (pms-turn h xs)) (Run-hide h b)
-
 -- what `both-kept` asks of each side
 turns : (h : Key → Bool) (e : ℕ → ℕ → Half → Bool) (content : Part → Content) (xs : Content) (ps : List Part)
     → ((j : ℕ) → Shape (e j) (marks j xs)) → Each (λ p. Balanced (content p)) ps → Keeps (turn h) e content xs ps
@@ -132,7 +124,7 @@ turns h e content xs ps shapes balanced =
       eased = eased-turn h [] xs;
       shapes = λ j. subst (Shape (e j)) (sym (marks-turn h j xs)) (shape-turned h j (marks j xs) (shapes j));
       blind = λ j ys c s. ap (anyMk c s) (marks-turn h j ys) ∙ anyMk-turn h j c s (marks j ys);
-      balanced = each-weaken (λ p b. balanced-turned h (content p) b) ps balanced;
+      balanced = each-weaken (λ p b. balanced-turn h (content p) b) ps balanced;
     }
 
 kept-5-to-8 : (c : OpenAtCuts) (ps : List Part) → fault-5 ps ≡ none → fault-6-to-10 ps ≡ none → Kept (map (turned-part c) ps)
@@ -166,16 +158,7 @@ kept-6-to-10 c ps five rules =
 -- good as bytes
 good-turned : (starts : Content) (x : Item) → GoodIn x → GoodIn (turned-item starts x)
 unfolding turned-item
-good-turned starts x g = by (any (alike x) starts)
-  where
-    by : (b : Bool) → GoodIn (cond b (in-form form-S x) x)
-    by true = good-form form-S x g
-    by false = g
-
-good-target : (starts : Content) (t : Target) → GoodTarget t → GoodTarget (rewrite-target (turned-item starts) t)
-unfolding rewrite-target
-good-target starts no-target k = tt
-good-target starts (target q xs) k = each-map (turned-item starts) (good-turned starts) xs k
+good-turned starts x g = good-if form-S (any (alike x) starts) x g
 
 good-part : (c : OpenAtCuts) (p : Part) → GoodPart p → GoodPart (turned-part c p)
 unfolding turned-part
@@ -183,7 +166,7 @@ good-part c p g =
     record {
       head = g .head;
       source = each-map (turned-item (c .source)) (good-turned (c .source)) (p .source) (g .source);
-      target = good-target (c .target) (p .target) (g .target);
+      target = good-target (turned-item (c .target)) (good-turned (c .target)) (p .target) (g .target);
     }
 
 pub turned-sent : (c : OpenAtCuts) (u : XliffUnit) → Sent u → Sent (turned c u)

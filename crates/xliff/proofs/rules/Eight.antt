@@ -9,12 +9,12 @@ use mathlib.Core.Logic.{_⊎_, inl, inr}
 use mathlib.Core.Option.{Option, none, some}
 use lib.Dec.{eqb}
 use Rattle.xliff.specs.Bytes.{'F', 'N', any}
-use Rattle.xliff.specs.Item.{Item, Content, Fields, flat, flattened, fields, is-pair, is-code, is-end-half, is-form-P, is-fixed, other-half}
+use Rattle.xliff.specs.Item.{Item, Content, Fields, flat, flattened, fields, is-pair, is-code, is-end-half, is-form-P, is-fixed, other-half, form-S}
 use Rattle.xliff.specs.Unit.{Part, source-sequence, target-sequence}
 use Rattle.xliff.specs.Rules.{nearest, end-letter, ill-matched, ill-ended, fixed-but-free, is-F, unled, bad-8-target, bad-8-source, fault-8}
 use Rattle.xliff.proofs.lists.Tests.{and-left, and-right, or-left, or-right, and-both, and-false, or-both, or-none}
 use Rattle.xliff.proofs.rules.Sequences.{clear, rule-8, rule-8-back, clear-cong}
-use Rattle.xliff.proofs.operations.Sources.{flat-in-form}
+use Rattle.xliff.proofs.operations.Sources.{flat-if}
 use Rattle.xliff.proofs.rules.Flat.{class-flat, id-flat, half-flat, fields-flat, other-half-flat, any-flat, class-alike, half-alike, fields-alike}
 use Rattle.xliff.proofs.rules.Stack.{Key}
 use Rattle.xliff.proofs.rules.Balance.{key-of}
@@ -169,11 +169,7 @@ eased-append (eased-cons e w q) r = eased-cons e w (eased-append q r)
 
 pub flat-turn : (h : Key → Bool) (x : Item) → flat (turn h x) ≡ flat x
 unfolding turn flat
-flat-turn h x = by (h (key-of x))
-  where
-    by : (b : Bool) → flat (cond b (flat x) x) ≡ flat x
-    by true = flat-in-form _ x
-    by false = refl
+flat-turn h x = flat-if form-S (h (key-of x)) x
 
 form-turn : (h : Key → Bool) (x : Item) → is-form-P (turn h x) ≡ true → is-form-P x ≡ true
 unfolding turn

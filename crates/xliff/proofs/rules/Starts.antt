@@ -11,6 +11,7 @@ use Rattle.xliff.proofs.operations.Sources.{items-order}
 use Rattle.xliff.proofs.lists.Sum.{sum, sum-cong, sum-map}
 use Rattle.xliff.proofs.rules.Flat.{class-flat, id-flat, half-flat}
 use Rattle.xliff.proofs.rules.Six.{start-bit, starts, part-bit, source-ids, target-ids}
+use mathlib.Core.Bool.{Bool, true, false, cond}
 
 -- a start is one in any form
 start-blind : (i : ℕ) (x : Item) → start-bit i (flat x) ≡ start-bit i x
@@ -43,3 +44,7 @@ good-form w (isolated h f) g = g
 good-form w (pair h v f) g = g
 good-form w (annotation-start v i t) g = g
 good-form w (annotation-end v i) g = g
+
+pub good-if : (w : Form) (b : Bool) (x : Item) → GoodIn x → GoodIn (cond b (in-form w x) x)
+good-if w true x g = good-form w x g
+good-if w false x g = g

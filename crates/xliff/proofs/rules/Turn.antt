@@ -12,7 +12,7 @@ use Rattle.xliff.specs.Item.{Item, Content, Half, start, end, form-P, fo
 use Rattle.xliff.specs.Rules.{half-of-id}
 use Rattle.xliff.proofs.lists.Tests.{map-append, and-false, or-true}
 use Rattle.xliff.proofs.rules.Flat.{class-flat, id-flat, half-flat}
-use Rattle.xliff.proofs.rules.Stack.{Key, key, PM, skip, opn, cls, Run, Bal, Run-split, hide, On, on-top, on-below, Has, has-here, has-later, opened-in, closed-in, cut-balanced}
+use Rattle.xliff.proofs.rules.Stack.{Key, key, PM, skip, opn, cls, Run, Bal, Run-split, Run-hide, hide, On, on-top, on-below, Has, has-here, has-later, opened-in, closed-in, cut-balanced}
 use Rattle.xliff.proofs.rules.Balance.{key-of, pm, Balanced}
 use Rattle.xliff.proofs.rules.Marks.{Mk, mk, side, mark-of, mkOf, marks, marks-append, Shape, sh-pair, sh-lone, opposite, anyMk, pmk, pm-half, Bal-id, inv-opn, no-cls, no-end}
 
@@ -149,6 +149,10 @@ waits-turn h i X s Z c t =
     ∙ ap (λ (b : Bool). b || anyMk c t (marks i Z)) (ap (anyMk c t) (marks-turn h i s) ∙ anyMk-turn h i c t (marks i s))
     ∙ sym (anyMk-append c t (marks i s) (marks i Z)))
     ∙ sym (anyMk-append c t (marks i X) (marks i s ++ marks i Z)) ∙ ap (anyMk c t) (sym (marks-three i X s Z))
+
+-- a balanced content with some keys turned is balanced
+pub balanced-turn : (h : Key → Bool) (xs : Content) → Balanced xs → Balanced (map (turn h) xs)
+balanced-turn h xs b = subst (λ (l : List PM). Bal l) (sym (pms-turn h xs)) (Run-hide h b)
 
 -- CUTTING a content: the keys whose start is before the cut and whose end is behind it
 unfoldable pub is-cut : Content → Content → Key → Bool

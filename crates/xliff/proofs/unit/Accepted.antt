@@ -15,7 +15,7 @@ use Rattle.xliff.specs.Parse.{most-bytes, most-records, most-parts, unit
 use Rattle.xliff.specs.Check.{Valid, too-large}
 use Rattle.xliff.specs.Good.{each-nil, each-cons}
 use Rattle.xliff.proofs.lists.Each.{each-append}
-use Rattle.xliff.proofs.lists.Tests.{or-left, or-right, or-both}
+use Rattle.xliff.proofs.lists.Tests.{or-left, or-right, or-none}
 use Rattle.xliff.proofs.records.Parse.{records-unit}
 use Rattle.xliff.proofs.operations.SplitTarget.{fault-5-fits}
 use Rattle.xliff.proofs.unit.Valid.{unit-runs}
@@ -49,13 +49,18 @@ within room v e =
       parts = ltb-false most-parts (length (v .parts)) (or-right (ltb most-records (length (unit-records v))) _ g);
     }
 
--- a unit in order and within the limits: it is too large for no output as long, and as bytes it is read back
-pub small-enough : (room : ℕ) (v : XliffUnit) → Within v → length (encode v) ≤ room → too-large room v ≡ false
+-- within the limits 15 is only a matter of the room
+pub only-room : (v : XliffUnit) → Within v → (room : ℕ) → too-large room v ≡ ltb room (length (encode v))
 unfolding too-large
-small-enough room v w l =
-    or-both _ _ (le-ltb room (length (encode v)) l)
-    (or-both _ _ (le-ltb most-bytes (length (encode v)) (w .size))
-    (or-both _ _ (le-ltb most-records (length (unit-records v)) (w .records)) (le-ltb most-parts (length (v .parts)) (w .parts))))
+only-room v w room =
+    rw (
+      le-ltb most-bytes (length (encode v)) (w .size),
+      le-ltb most-records (length (unit-records v)) (w .records),
+      le-ltb most-parts (length (v .parts)) (w .parts),
+    )
+    (or-none (ltb room (length (encode v))))
+
+-- a unit in order and within the limits is, as bytes, read back
 
 pub read-back : (v : XliffUnit) → Sent v → Within v → unit (encode v) ≡ v
 read-back v s w =
