@@ -1,0 +1,20 @@
+-- Laws of units as XML
+pub mod LetterLaws
+pub mod TagLaws
+pub mod TextLaws
+pub mod NumberLaws
+pub mod AttributeLaws
+pub mod FieldLaws
+pub mod CodeLaws
+pub mod AnnotationLaws
+pub mod ItemLaws
+pub mod ContentLaws
+pub mod PartLaws
+pub mod UnitLaws
+pub mod MatchLaws
+pub mod RoundTripLaw
+pub mod PlaceLaws
+pub mod MergeLaws
+pub mod TableLaws
+pub mod EndLaws
+pub mod BoundLaws

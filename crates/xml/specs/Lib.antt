@@ -1,0 +1,10 @@
+-- Units as XML
+pub mod Words
+pub mod Characters
+pub mod Tokens
+pub mod Attributes
+pub mod Elements
+pub mod Write
+pub mod Xml
+-- The worked examples
+pub mod examples

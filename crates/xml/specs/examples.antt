@@ -1,0 +1,4 @@
+-- Examples by computation.
+pub mod Notation
+pub mod Reading
+pub mod Writing
