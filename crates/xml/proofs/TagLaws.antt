@@ -171,7 +171,8 @@ all-attributes t (a ∷ ats) s g =
 unfoldable pub ends-name : ℕ → Bool
 ends-name b = eqb b space || eqb b '>' || eqb b '/'
 
-same-step : (st st′ : State) (at b : ℕ) (s : List ℕ) → step st at b s ≡ step st′ at b s
+-- states with the same step have the same tokens
+pub same-step : (st st′ : State) (at b : ℕ) (s : List ℕ) → step st at b s ≡ step st′ at b s
     → tokens st 0 at (b ∷ s) ≡ tokens st′ 0 at (b ∷ s)
 unfolding tokens
 same-step st st′ at b s e = rw (e, tokens)

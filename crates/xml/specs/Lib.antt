@@ -2,6 +2,7 @@
 pub mod Words
 pub mod Characters
 pub mod Tokens
+pub mod Places
 pub mod Attributes
 pub mod Elements
 pub mod Write
