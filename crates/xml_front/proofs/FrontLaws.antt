@@ -29,7 +29,7 @@ agree-none (a ∷ u) = refl
 
 agree-cons : (a : ℕ) (u t : List ℕ) → agree (a ∷ u) t ≡ eqb a (getD t 0 a) && agree u (drop 1 t)
 unfolding agree
-agree-cons a u [] = rw (eq-eqb a a refl, agree-none u) refl
+agree-cons a u [] = rw (eq-eqb a a refl, agree-none u)
 agree-cons a u (b ∷ t) = refl
 
 pub agree-1 : (a : ℕ) (t : List ℕ) → agree (a ∷ []) t ≡ eqb a (getD t 0 a)
@@ -64,15 +64,15 @@ and-turn a b c = sym (and-assoc a b c) ∙ ap (λ (x : Bool). x && c) (and-comm 
 
 pub whole : (u s : List ℕ) → equal u (take (length u) s) ≡ leb (length u) (length s) && agree u s
 unfolding equal agree
-whole [] s = rw (le-leb 0 (length s) (omega arith)) refl
-whole (a ∷ u) [] = rw (lt-leb (length (a ∷ u)) 0 (omega arith)) refl
+whole [] s = rw (le-leb 0 (length s) (omega arith))
+whole (a ∷ u) [] = rw (lt-leb (length (a ∷ u)) 0 (omega arith))
 whole (a ∷ u) (b ∷ s) = ap (λ (x : Bool). eqb a b && x) (whole u s) ∙ and-turn (eqb a b) (leb (length u) (length s)) (agree u s)
     ∙ ap (λ (x : Bool). x && (eqb a b && agree u s)) (sym (leb·suc-suc (length u) (length s)))
 
 partial : (u s : List ℕ) → ltb (length s) (length u) && equal s (take (length s) u) ≡ ltb (length s) (length u) && agree u s
 unfolding equal agree
 partial [] [] = refl
-partial [] (b ∷ s) = rw (le-ltb (length (b ∷ s)) 0 (omega arith)) refl
+partial [] (b ∷ s) = rw (le-ltb (length (b ∷ s)) 0 (omega arith))
 partial (a ∷ u) [] = refl
 partial (a ∷ u) (b ∷ s) =
     ap (λ (x : Bool). x && (eqb b a && equal s (take (length s) u))) (leb·suc-suc (suc (length s)) (length u))
@@ -101,23 +101,23 @@ unfilled t = refl
 -- the three answers, by the code point that the front would spell
 first-some : (t : List ℕ) → begins-with t (spelled t) ≡ true → allowed-first t ≡ some (spelled t)
 unfolding allowed-first
-first-some t h = rw h refl
+first-some t h = rw h
 
 first-none : (t : List ℕ) → begins-with t (spelled t) ≡ false → allowed-first t ≡ none
 unfolding allowed-first
-first-none t h = rw h refl
+first-none t h = rw h
 
 found-if : (t : List ℕ) → begins-with t (spelled t) ≡ true → found (spelled t) (length (utf8 (spelled t)) - 1) ≡ front-character t
 unfolding front-character
-found-if t h = rw (first-some t h, front-character) refl
+found-if t h = rw (first-some t h, front-character)
 
 cut-if : (t : List ℕ) → begins-with t (spelled t) ≡ false → cut-character t ≡ true → cut ≡ front-character t
 unfolding front-character
-cut-if t h k = rw (first-none t h, front-character, k) refl
+cut-if t h k = rw (first-none t h, front-character, k)
 
 wrong-if : (t : List ℕ) → begins-with t (spelled t) ≡ false → cut-character t ≡ false → wrong ≡ front-character t
 unfolding front-character
-wrong-if t h k = rw (first-none t h, front-character, k) refl
+wrong-if t h k = rw (first-none t h, front-character, k)
 
 module _ (t : List ℕ) (c : ℕ) (is : c ≡ spelled t) where
   pub front-found : begins-with t c ≡ true → found c (length (utf8 c) - 1) ≡ front-character t

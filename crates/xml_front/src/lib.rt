@@ -4,7 +4,7 @@ ghost use Prim.Native.Nat.{_+_, _-_, _≤_, _<_};
 ghost use lib.ListN.{length, getD};
 ghost use lib.Dec.{eqb};
 ghost use Rattle.xliff.specs.Text.{utf8, begins-with};
-ghost use Rattle.xml.specs.Characters.{is-scalar, part-of, cut-character, front-character};
+ghost use Rattle.xml.specs.Characters.{begins, is-scalar, part-of, cut-character, front-character};
 ghost use Rattle.xml_front.specs.Fronts.{told, spelling, filled-up, agree};
 use text::xml_char;
 
@@ -14,6 +14,23 @@ pub enum Front {
     Found(u32, usize),
     Cut,
     Wrong,
+}
+
+// Whether a text begins with a word.
+pub fn begins(word: &[u8], text: &[u8]) -> bool
+    ensures { λ r. ⌜ r ≡ begins (now (word .entry)) (now (text .entry)) ⌝ }
+{
+    let mut at: usize = 0;
+    while at < word.len() {
+        if text.len() <= at {
+            return false;
+        }
+        if word[at] != text[at] {
+            return false;
+        }
+        at += 1;
+    }
+    true
 }
 
 fn wider(x: u8) -> u32
