@@ -18,3 +18,4 @@ pub mod MergeLaws
 pub mod TableLaws
 pub mod EndLaws
 pub mod BoundLaws
+pub mod FitLaws

@@ -1,0 +1,3 @@
+pub mod BlankLaws
+pub mod FitLaws
+pub mod ValueLaws
