@@ -25,7 +25,7 @@ abbrev Base : ℕ → Type 0
 Base base = (v d : ℕ) → 0x10FFFF < v → 0x10FFFF < v * base + d
 
 -- what is made of a byte behind the digits
-abbrev ended : ℕ → Bool → ℕ → ℕ → Front
+abbrev pub ended : ℕ → Bool → ℕ → ℕ → Front
 ended b any v size = cond (eqb b semicolon && any && xml-allows v) (found v size) wrong
 
 pub large : (base : ℕ) → Base base → (any : Bool) (v w size : ℕ) (s : List ℕ) → 0x10FFFF < v → 0x10FFFF < w

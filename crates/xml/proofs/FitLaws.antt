@@ -14,6 +14,7 @@ use Rattle.xliff.proofs.lists.Tests.{and-right, equal-true}
 use Rattle.xml.specs.Words.{'amp', 'lt', 'gt', 'quot', 'apos', Words·all}
 use Rattle.xml.specs.Characters.{'#', semicolon, Front, found, cut, wrong, begins, cut-character, front-character, only-name, entity, digit-value, numeric, numeric-reference, front-reference}
 use Rattle.xliff.proofs.text.Utf8.{utf8-nonempty}
+use Rattle.xml.proofs.BoundLaws.{ended}
 
 -- where a code point is found, it takes at most n bytes behind the first
 pub data Fits (n : ℕ) : Front → Type 0 where
@@ -89,7 +90,7 @@ numeric-fits base any v size (b ∷ s) n h =
     by (digit-value base b) (λ d. numeric-fits base true (v * base + d) (suc size) s n (omega arith))
   where
     by : (o : Option ℕ) → ((d : ℕ) → Fits n (numeric base true (v * base + d) (suc size) s))
-        → Fits n (elim o [ some d ↦ numeric base true (v * base + d) (suc size) s | none ↦ cond (eqb b semicolon && any && xml-allows v) (found v size) wrong ])
+        → Fits n (elim o [ some d ↦ numeric base true (v * base + d) (suc size) s | none ↦ ended b any v size ])
     by none ih =
         fits-or n (eqb b semicolon && any && xml-allows v) (found v size) wrong (λ k. found-fits (omega arith)) wrong-fits
     by (some d) ih = ih d
