@@ -5,7 +5,7 @@ use mathlib.Core.Path.{_≡_, sym, ap, _∙_}
 use mathlib.Core.Bool.{true}
 use mathlib.Core.List.{List, [], _∷_, _++_, append-assoc, append-nil}
 use lib.ListN.{length, take, drop, getD, length-drop}
-use lib.Seq.{take-suc, getD-drop}
+use lib.Seq.{take-suc, drop-cons, getD-drop}
 use Rattle.xml.specs.Characters.{in-a-name, continues-name}
 use Rattle.xml.specs.Tokens.{State, in-name, in-attribute, go, step}
 use Rattle.xml.specs.Places.{tokens-at}
@@ -60,3 +60,12 @@ name-goes-on s from at r h c =
     on st n e =
         to-next s (st (so-far n)) at h (st (so-far n ++ (getD s at 0 ∷ []))) e
         ∙ ap (λ (l : List ℕ). tokens-at s (st l) (at + 1)) (name-more s from at (r .low) h n)
+
+-- a name from its first byte on
+pub first-byte : (s : List ℕ) (i upto : ℕ) → i < length s → i + 1 ≤ upto
+    → getD s i 0 ∷ bytes-between s (i + 1) upto ≡ bytes-between s i upto
+first-byte s i upto h k =
+    ap (λ (j : ℕ). getD s i 0 ∷ take (upto - (i + 1)) (drop j s)) (let z : i + 1 ≡ suc i = omega arith in z)
+    ∙ sym
+    (ap (λ (j : ℕ). take j (drop i s)) (let z : upto - i ≡ suc (upto - (i + 1)) = omega arith in z)
+    ∙ ap (take (suc (upto - (i + 1)))) (drop-cons s i 0 h))

@@ -1,0 +1,4 @@
+pub mod ReadingLaws
+pub mod ValueLaws
+pub mod NameLaws
+pub mod NextLaws
