@@ -13,8 +13,8 @@ use xml_values::Ended;
 use xml_values::blanks_end;
 use xml_values::value_end;
 
-// An attribute: its name stands from `from` to `upto`, its value from `value` to the byte `mark`, and the tag goes on at
-// `next`.
+// An attribute: its name stands from `from` to `upto`, its value from `value` to the byte `mark`, and the tag goes on
+// at `next`.
 pub struct AttributeAt {
     pub from: usize,
     pub upto: usize,
@@ -23,8 +23,8 @@ pub struct AttributeAt {
     pub next: usize,
 }
 
-// An attribute; the tag's end, with the place behind it, and whether in short form; the text ends in the tag; the tag is
-// at fault.
+// An attribute; the tag's end, with the place behind it, and whether in short form; the text ends in the tag; the tag
+// is at fault.
 pub enum Next {
     One(AttributeAt),
     End(usize, bool),

@@ -1,0 +1,4 @@
+pub mod MarkedLaws
+pub mod TagLaws
+pub mod CommentLaws
+pub mod OpeningLaws
