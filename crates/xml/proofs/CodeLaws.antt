@@ -8,19 +8,19 @@ use lib.Dec.{eqb, ltb, leb}
 use borrow.Author.Tests.{eqb-true, ltb-false, le-leb, leb-false}
 use Rattle.xliff.specs.Bytes.{'-', 'N', 'Y', equal, any, among}
 use Rattle.xliff.specs.Text.{between, xml-allows}
-use Rattle.xliff.specs.Item.{Content, Fields, start, end, form-P, form-S, character, standalone, isolated, pair}
+use Rattle.xliff.specs.Item.{Item, Content, Fields, start, end, form-P, form-S, character, standalone, isolated, pair}
 use Rattle.xliff.specs.Parse.{bad-item}
 use Rattle.xliff.specs.Desk.{hex-byte}
 use Rattle.xliff.proofs.lists.Tests.{or-left, or-right}
 use Rattle.xml.specs.Words.{'cp', 'ph', 'pc', 'sc', 'ec', 'id', 'hex', 'copyOf', 'dataRef', 'dataRefStart', 'dataRefEnd', 'startRef', 'canOverlap', 'isolated', 'yes', 'no', Words·all}
-use Rattle.xml.specs.Tokens.{doubled}
-use Rattle.xml.specs.Attributes.{with, named, only, value-of, yes-no, letter-of, choice}
+use Rattle.xml.specs.Tokens.{Attribute, doubled}
+use Rattle.xml.specs.Attributes.{code-fields, with, named, only, value-of, yes-no, letter-of, choice}
 use Rattle.xml.specs.Elements.{single, nested, read-cp, read-ph, end-of-pc, read-pc, isolated-letter, read-sc, read-ec, inline-of-name}
-use Rattle.xml.specs.Write.{attribute, word-attribute, hints, ph-attributes, half-attributes, pc-attributes, item-text, pending, first-data}
+use Rattle.xml.specs.Write.{short-tag, attribute, word-attribute, hints, ph-attributes, half-attributes, pc-attributes, item-text, pending, first-data}
 use Rattle.xml.proofs.LetterLaws.{is-letter, letters, plain}
 use Rattle.xml.proofs.TagLaws.{good-name, good-attributes}
 use Rattle.xml.proofs.NumberLaws.{hexadecimal-back, hexadecimal-plain}
-use Rattle.xml.proofs.AttributeLaws.{optional-shown, choice-word, yes-no-back, good-one, good-number, good-unless-zero, ph-read, half-id-read, half-ref-read, pc-read}
+use Rattle.xml.proofs.AttributeLaws.{Half, optional-shown, choice-word, yes-no-back, good-one, good-number, good-unless-zero, ph-read, half-id-read, half-ref-read, pc-read}
 use Rattle.xml.proofs.FieldLaws.{Numbers, Letters, code-back, Single, Opening, good-hints}
 
 -- cp
@@ -89,54 +89,42 @@ ph-single f after n l =
       is-read = ph-inline f n l;
     }
 
--- sc and ec
+-- sc and ec: their fields and whether they are isolated, read back
+module _ (id w : List ℕ) (f : Fields) (h : Half id w (half-attributes id w f) f) where
+  abbrev ats : List Attribute
+  ats = half-attributes id w f
+
+  half-back : Numbers f → Letters ('Y' ∷ 'N' ∷ []) f
+      → code-fields id 'dataRef' (choice 'canOverlap' yes-no 'Y' ats) ats ≡ some f
+  half-back n l =
+      code-back id 'dataRef' ('Y' ∷ 'N' ∷ []) (choice 'canOverlap' yes-no 'Y' ats) ats f (h .code) n l
+      (choice-word 'canOverlap' yes-no 'Y' ats (f .canOverlap) (h .can-overlap)
+      (yes-no-back (f .canOverlap) (l .canOverlap)))
+
+  isolated-back : (i : ℕ) → letter-of yes-no w ≡ some i → isolated-letter ats ≡ some i
+  unfolding isolated-letter choice
+  isolated-back i e = rw (h .is-isolated, choice) e
+
 sc-inline : (f : Fields) (w : List ℕ) (i : ℕ) → letter-of yes-no w ≡ some i → Numbers f → Letters ('Y' ∷ 'N' ∷ []) f
     → read-sc (half-attributes 'id' w f) ≡ some (single (cond (eqb i 'Y') (isolated start f) (pair start form-S f)))
-unfolding read-sc with isolated-letter
+unfolding read-sc with
 sc-inline f w i e n l =
     let h = half-id-read f w in
-    let iso : choice 'isolated' yes-no 'N' (half-attributes 'id' w f) ≡ some i =
-    unfold choice in rw (h .is-isolated, choice) e in
-    rw (
-      h .code .no-other,
-      iso,
-      code-back 'id' 'dataRef' ('Y' ∷ 'N' ∷ []) (choice 'canOverlap' yes-no 'Y' (half-attributes 'id' w f))
-          (half-attributes 'id' w f) f (h .code) n l
-          (choice-word 'canOverlap' yes-no 'Y' (half-attributes 'id' w f) (f .canOverlap) (h .can-overlap)
-          (yes-no-back (f .canOverlap) (l .canOverlap))),
-    )
+    rw (h .code .no-other, isolated-back 'id' w f h i e, half-back 'id' w f h n l)
 
 ec-inline : (f : Fields) → Numbers f → Letters ('Y' ∷ 'N' ∷ []) f
     → read-ec (half-attributes 'startRef' 'no' f) ≡ some (single (pair end form-S f))
-unfolding read-ec with isolated-letter
+unfolding read-ec with letter-of yes-no equal Words·all
 ec-inline f n l =
     let h = half-ref-read f 'no' in
-    let iso : choice 'isolated' yes-no 'N' (half-attributes 'startRef' 'no' f) ≡ some 'N' =
-    unfold choice letter-of yes-no equal Words·all in rw (h .is-isolated, choice) in
-    rw (
-      iso,
-      h .code .no-other,
-      code-back 'startRef' 'dataRef' ('Y' ∷ 'N' ∷ []) (choice 'canOverlap' yes-no 'Y' (half-attributes 'startRef' 'no' f))
-          (half-attributes 'startRef' 'no' f) f (h .code) n l
-          (choice-word 'canOverlap' yes-no 'Y' (half-attributes 'startRef' 'no' f) (f .canOverlap) (h .can-overlap)
-          (yes-no-back (f .canOverlap) (l .canOverlap))),
-    )
+    rw (isolated-back 'startRef' 'no' f h 'N' refl, h .code .no-other, half-back 'startRef' 'no' f h n l)
 
 ie-inline : (f : Fields) → Numbers f → Letters ('Y' ∷ 'N' ∷ []) f
     → read-ec (half-attributes 'id' 'yes' f) ≡ some (single (isolated end f))
-unfolding read-ec with isolated-letter
+unfolding read-ec with letter-of yes-no equal Words·all
 ie-inline f n l =
     let h = half-id-read f 'yes' in
-    let iso : choice 'isolated' yes-no 'N' (half-attributes 'id' 'yes' f) ≡ some 'Y' =
-    unfold choice letter-of yes-no equal Words·all in rw (h .is-isolated, choice) in
-    rw (
-      iso,
-      h .code .no-other,
-      code-back 'id' 'dataRef' ('Y' ∷ 'N' ∷ []) (choice 'canOverlap' yes-no 'Y' (half-attributes 'id' 'yes' f))
-          (half-attributes 'id' 'yes' f) f (h .code) n l
-          (choice-word 'canOverlap' yes-no 'Y' (half-attributes 'id' 'yes' f) (f .canOverlap) (h .can-overlap)
-          (yes-no-back (f .canOverlap) (l .canOverlap))),
-    )
+    rw (isolated-back 'id' 'yes' f h 'Y' refl, h .code .no-other, half-back 'id' 'yes' f h n l)
 
 good-half : (id : List ℕ) (w : List ℕ) (f : Fields) → good-name id ≡ true → plain w ≡ true
     → good-attributes (half-attributes id w f) ≡ true
@@ -145,61 +133,45 @@ good-half id w f g p =
     good-number id (f .id) _ g (good-unless-zero 'copyOf' (f .copyOf) _ refl (good-unless-zero 'dataRef' (f .dataRef) _ refl
     (good-hints true f (attribute 'isolated' w) (good-one 'isolated' w [] refl p refl))))
 
+half-single : (x : Item) (name id w : List ℕ) (f : Fields) (t : List ℕ) → t ≡ short-tag name (half-attributes id w f)
+    → good-name name ≡ true → good-name id ≡ true → plain w ≡ true → Half id w (half-attributes id w f) f
+    → inline-of-name name (half-attributes id w f) ≡ some (single x) → Single x t
+half-single x name id w f t e g k p h r =
+    record {
+      name = name;
+      attributes = half-attributes id w f;
+      is-text = e;
+      name-good = g;
+      good = good-half id w f k p;
+      none-twice = h .code .none-twice;
+      is-read = r;
+    }
+
 pub is-single : (f : Fields) (after : Content) → Numbers f → Letters ('Y' ∷ 'N' ∷ []) f
     → Single (isolated start f) (item-text (isolated start f) after)
 unfolding item-text good-name is-letter letters between Words·all inline-of-name equal plain letter-of yes-no
 is-single f after n l =
-    record {
-      name = 'sc';
-      attributes = half-attributes 'id' 'yes' f;
-      is-text = refl;
-      name-good = refl;
-      good = good-half 'id' 'yes' f refl refl;
-      none-twice = half-id-read f 'yes' .code .none-twice;
-      is-read = sc-inline f 'yes' 'Y' refl n l;
-    }
+    half-single (isolated start f) 'sc' 'id' 'yes' f _ refl refl refl refl (half-id-read f 'yes')
+    (sc-inline f 'yes' 'Y' refl n l)
 
 pub ie-single : (f : Fields) (after : Content) → Numbers f → Letters ('Y' ∷ 'N' ∷ []) f
     → Single (isolated end f) (item-text (isolated end f) after)
-unfolding item-text good-name is-letter letters between Words·all inline-of-name equal plain letter-of yes-no
+unfolding item-text good-name is-letter letters between Words·all inline-of-name equal plain
 ie-single f after n l =
-    record {
-      name = 'ec';
-      attributes = half-attributes 'id' 'yes' f;
-      is-text = refl;
-      name-good = refl;
-      good = good-half 'id' 'yes' f refl refl;
-      none-twice = half-id-read f 'yes' .code .none-twice;
-      is-read = ie-inline f n l;
-    }
+    half-single (isolated end f) 'ec' 'id' 'yes' f _ refl refl refl refl (half-id-read f 'yes') (ie-inline f n l)
 
 pub sc-single : (f : Fields) (after : Content) → Numbers f → Letters ('Y' ∷ 'N' ∷ []) f
     → Single (pair start form-S f) (item-text (pair start form-S f) after)
 unfolding item-text good-name is-letter letters between Words·all inline-of-name equal plain letter-of yes-no
 sc-single f after n l =
-    record {
-      name = 'sc';
-      attributes = half-attributes 'id' 'no' f;
-      is-text = refl;
-      name-good = refl;
-      good = good-half 'id' 'no' f refl refl;
-      none-twice = half-id-read f 'no' .code .none-twice;
-      is-read = sc-inline f 'no' 'N' refl n l;
-    }
+    half-single (pair start form-S f) 'sc' 'id' 'no' f _ refl refl refl refl (half-id-read f 'no')
+    (sc-inline f 'no' 'N' refl n l)
 
 pub ec-single : (f : Fields) (after : Content) → Numbers f → Letters ('Y' ∷ 'N' ∷ []) f
     → Single (pair end form-S f) (item-text (pair end form-S f) after)
-unfolding item-text good-name is-letter letters between Words·all inline-of-name equal plain letter-of yes-no
+unfolding item-text good-name is-letter letters between Words·all inline-of-name equal plain
 ec-single f after n l =
-    record {
-      name = 'ec';
-      attributes = half-attributes 'startRef' 'no' f;
-      is-text = refl;
-      name-good = refl;
-      good = good-half 'startRef' 'no' f refl refl;
-      none-twice = half-ref-read f 'no' .code .none-twice;
-      is-read = ec-inline f n l;
-    }
+    half-single (pair end form-S f) 'ec' 'startRef' 'no' f _ refl refl refl refl (half-ref-read f 'no') (ec-inline f n l)
 
 -- pc, with the dataRef of its end
 pc-inline : (f : Fields) (d : ℕ) → d < 65536 → Numbers f → Letters ('Y' ∷ 'N' ∷ []) f

@@ -62,8 +62,7 @@ content-whole side xs s k q =
     (content-reads side xs s (k .good) (k .fit) (k .matched)
     (subst (λ (l : List Item). deeper (length l) xs ≡ false) (sym (k .none-left)) (k .shallow)) q .0)
 
--- the heads of parts
--- the attributes of a segment of these fields
+-- the heads of parts: the attributes of a segment of these fields
 abbrev attributes-of : ℕ → ℕ → ℕ → List Attribute
 attributes-of i c s = head-attributes (segment (record { id = i; canResegment = c; state = s }))
 

@@ -1,7 +1,7 @@
 -- A written tag is read as its name and its attributes.
 use Prim.Native.Nat.{ℕ, suc}
 use mathlib.Core.Path.{_≡_, refl, sym, ap, _∙_, subst}
-use mathlib.Core.Bool.{Bool, true, false, not, _&&_, _||_, false≢true}
+use mathlib.Core.Bool.{Bool, true, false, not, _&&_, false≢true}
 use mathlib.Core.List.{List, [], _∷_, _++_, append-assoc, append-nil}
 use native.Mathlib.Omega.{arith}
 use lib.Dec.{eqb, leb}
@@ -166,10 +166,6 @@ all-attributes t (a ∷ ats) s g =
     (in-tag (record { place = t .place; name = t .name; attributes = l }) false) s)
     (append-assoc (t .attributes) (a ∷ []) ats)
     (all-attributes (with-attribute t (a .name) (a .value)) ats s (and-right (good-attribute a) _ g))))
-
--- behind a tag's name
-unfoldable pub ends-name : ℕ → Bool
-ends-name b = eqb b space || eqb b '>' || eqb b '/'
 
 -- states with the same step have the same tokens
 pub same-step : (st st′ : State) (at b : ℕ) (s : List ℕ) → step st at b s ≡ step st′ at b s

@@ -17,10 +17,6 @@ use Rattle.xml.specs.Characters.{found, cut, wrong, digit-value, numeric}
 use Rattle.xml.proofs.BoundLaws.{large-decimal, large-hexadecimal}
 use Rattle.xml_reference.specs.References.{base-of, digit-or, capped, numeric-end, or-16}
 
-pub base-hex : (hex : Bool) → eqb (base-of hex) 16 ≡ hex
-base-hex true = refl
-base-hex false = refl
-
 small : (base b d : ℕ) → digit-value base b ≡ some d → d < 16
 unfolding digit-value between
 small base b d e =
