@@ -9,7 +9,7 @@ mod reader;
 mod references;
 mod scanner;
 mod tags;
-mod words;
+pub mod words;
 mod writer;
 
 pub use fault::{Fault, Reason};
