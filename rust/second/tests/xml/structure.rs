@@ -56,6 +56,24 @@ fn point_12_hostile_depth() {
     assert_eq!(read(text.as_bytes()), refused(22, place));
 }
 
+/// Long texts of every sort: each byte is looked at a few times, whatever it is.
+#[test]
+fn point_12_hostile_length() {
+    const LONG: usize = 200_000;
+    for piece in ["]", "&#65;", "<!---->", "<ph id=\"1\"/>", "\r", "é", "<pc id=\"1\"/>"] {
+        let text = in_source(&piece.repeat(LONG));
+        assert_eq!(read(&text).is_ok(), piece == "<!---->", "{piece}");
+        cut(&text[..text.len() - 1]);
+    }
+    let attributes: String = (0..LONG / 10).map(|number| format!(" a{number}=''")).collect();
+    blames("", format!("<unit id='1'{attributes}>"));
+    blames("", format!("<unit id='{}'>", "1".repeat(LONG)));
+    blames("", format!("<unit id='1' id{}='1'>", " ".repeat(LONG)));
+    blames("", format!("<{}/>", "a".repeat(LONG)));
+    blames_in_source(&format!("&#{}65;", "0".repeat(LONG)), "&x;");
+    cut_in_source(format!("<!--{}", "- ".repeat(LONG)));
+}
+
 #[test]
 fn point_13_answers() {
     // 22 goes before 15, and 15 before the check.

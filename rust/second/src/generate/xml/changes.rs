@@ -58,15 +58,26 @@ pub fn change(random: &mut Random, pieces: &mut Vec<Piece>) {
         7 => exchange(random, pieces),
         8 => drop_element(random, pieces),
         _ => {
-            let list = *random.pick(&FOREIGN);
-            let foreign = one_of(random, list).to_vec();
             let place = place(random, pieces);
-            pieces.insert(place, Piece::Bytes(foreign));
+            pieces.insert(place, Piece::Bytes(foreign(random)));
         }
     }
     if pieces.is_empty() {
         pieces.push(Piece::Text(String::new()));
     }
+}
+
+fn foreign(random: &mut Random) -> Vec<u8> {
+    let list = *random.pick(&FOREIGN);
+    one_of(random, list).to_vec()
+}
+
+/// A text of nothing but such pieces, behind the beginning of a unit or not.
+pub fn foreign_text(random: &mut Random) -> Vec<u8> {
+    let begun: [&[u8]; 4] = [b"", b" ", b"<unit id=\"1\">", b"<unit id=\"1\"><segment><source>"];
+    let mut text = random.pick(&begun).to_vec();
+    (0..random.below(6)).for_each(|_| text.extend(foreign(random)));
+    text
 }
 
 /// Mostly in a content, else anywhere, sometimes behind the unit.
@@ -117,17 +128,19 @@ fn change_attribute(random: &mut Random, pieces: &mut [Piece]) {
         return attributes.push(Attribute { name, value, is_default: false });
     }
     let at = random.below(attributes.len());
+    // It stands there, whatever its value was before.
+    attributes[at].is_default = false;
     match random.below(9) {
         0 => attributes.push(attributes[at].clone()),
         1 => drop(attributes.remove(at)),
         2 => attributes[at].name = name,
         3..=5 => attributes[at].value = value,
-        _ => fitting_value(random, &mut attributes[at]),
+        _ => attributes[at].value = fitting_value(random, &attributes[at]),
     }
 }
 
 /// Another value of the same sort, so that a rule may be broken in place of the subset.
-fn fitting_value(random: &mut Random, attribute: &mut Attribute) {
+fn fitting_value(random: &mut Random, attribute: &Attribute) -> String {
     let list: &[u8] = match attribute.name.as_str() {
         "hex" => b"0000|001F|FFFF|DFFF|0041|000D",
         "state" => b"initial|translated|reviewed|final",
@@ -135,8 +148,7 @@ fn fitting_value(random: &mut Random, attribute: &mut Attribute) {
         _ if attribute.value.starts_with(|c: char| c.is_ascii_digit()) => b"1|2|3|4|5|9|20|65535",
         _ => b"yes|no",
     };
-    attribute.value = one_word(random, list);
-    attribute.is_default = false;
+    one_word(random, list)
 }
 
 /// Another element, its end tag with it or not.

@@ -6,13 +6,11 @@ use crate::xml::unit_of;
 /// Bytes that mean something to XML, and some that never do.
 const BYTES: &[u8] = b"<>/&;\"'= \t\r\n-!?[]#x0159aAeysid\0\x01\x7F\xC3\xE2\xED\xEF\xF4\xFF";
 
-const REFERENCES: [&str; 12] = [
-    "&x;", "&#0;", "&#xD800;", "&#X41;", "&#;", "&;", "&", "&lt;", "&#49;", "&#x31;", "&#10;",
-    "&am",
-];
+/// What means something in a value. `|` stands between two choices.
+const IN_VALUES: &str = "&x;|&#0;|&#xD800;|&#X41;|&#;|&;|&|&lt;|&#49;|&#x31;|&#10;|&am|<|<|>|\r\n";
 
 /// A byte changed, dropped, inserted or doubled, a piece of the text dropped or copied, or a
-/// reference put into a value.
+/// reference or the like put into a value.
 pub fn damage(random: &mut Random, text: &mut Vec<u8>) {
     if text.is_empty() {
         return;
@@ -24,7 +22,9 @@ pub fn damage(random: &mut Random, text: &mut Vec<u8>) {
         3 => drop(text.remove(place)),
         4 | 5 => text.insert(place, random.letter(BYTES)),
         6 => text.insert(place, text[place]),
-        7 | 8 => drop(put_reference(random, text)),
+        7 | 8 => {
+            put_into_value(random, text);
+        }
         9 => {
             let end = (place + 1 + random.below(30)).min(text.len());
             text.drain(place..end);
@@ -48,7 +48,7 @@ pub fn cut(random: &mut Random, text: &mut Vec<u8>) {
         1 => behind(random, text, |byte| byte >= 0xC0),
         2 => behind(random, text, |byte| byte == b'!'),
         3 => unit_of(text).err().map(|fault| fault.place + random.below(24)),
-        4 => put_reference(random, text).map(|end| end + random.below(3)),
+        4 => put_into_value(random, text).map(|end| end + random.below(3)),
         _ => None,
     };
     text.truncate(place.unwrap_or(anywhere).min(text.len()));
@@ -60,15 +60,16 @@ fn behind(random: &mut Random, text: &[u8], opens: impl Fn(u8) -> bool) -> Optio
     (!places.is_empty()).then(|| random.pick(&places) + 1 + random.below(3))
 }
 
-/// Puts a reference before or behind a quote, so mostly into a value; where it ends.
-fn put_reference(random: &mut Random, text: &mut Vec<u8>) -> Option<usize> {
+/// Puts a reference or the like before or behind a quote, so mostly into a value; where it ends.
+fn put_into_value(random: &mut Random, text: &mut Vec<u8>) -> Option<usize> {
     let is_quote = |place: &usize| matches!(text[*place], b'"' | b'\'');
     let quotes: Vec<usize> = (0..text.len()).filter(is_quote).collect();
     if quotes.is_empty() {
         return None;
     }
     let place = random.pick(&quotes) + random.below(2);
-    let reference = *random.pick(&REFERENCES);
-    text.splice(place..place, reference.bytes());
-    Some(place + reference.len())
+    let choices: Vec<&str> = IN_VALUES.split('|').collect();
+    let put = *random.pick(&choices);
+    text.splice(place..place, put.bytes());
+    Some(place + put.len())
 }

@@ -55,6 +55,7 @@ fn input_of_kind(random: &mut Random, kind: XmlKind) -> Vec<u8> {
             spelled_unit(random, &unit)
         }
         XmlKind::Changed => changed_text(random),
+        XmlKind::Damaged if random.chance(15) => changes::foreign_text(random),
         XmlKind::Damaged => {
             let mut text = any_text(random);
             (0..1 + random.below(3)).for_each(|_| damage::damage(random, &mut text));
