@@ -8,19 +8,14 @@ use super::words::{letter_of, Words};
 #[derive(Default)]
 pub struct Attributes<'a> {
     values: HashMap<&'a str, String>,
-    /// A doubled attribute or a reference in a value that names nothing.
+    /// A doubled attribute.
     pub fault: Option<Reason>,
 }
 
 impl<'a> Attributes<'a> {
-    pub fn add(&mut self, name: &'a str, value: Result<String, Reason>) {
-        match value {
-            Err(reason) => self.fault = Some(reason),
-            Ok(value) => {
-                if self.values.insert(name, value).is_some() {
-                    self.fault = Some(Reason::DoubledAttribute);
-                }
-            }
+    pub fn add(&mut self, name: &'a str, value: String) {
+        if self.values.insert(name, value).is_some() {
+            self.fault = Some(Reason::DoubledAttribute);
         }
     }
 

@@ -14,6 +14,8 @@ pub enum Stop {
     NoUtf8,
     /// The character is one that XML forbids.
     Forbidden,
+    /// A reference that is whole names nothing.
+    Nothing,
 }
 
 pub struct Scanner<'a> {

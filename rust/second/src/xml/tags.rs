@@ -56,6 +56,7 @@ impl<'a> Scanner<'a> {
         let place = self.place();
         let tag = self.tag_by_grammar().map_err(|stop| match stop {
             Stop::Cut => self.at_end(Reason::CutTag),
+            Stop::Nothing => Reason::ReferenceInValue.at(place),
             _ => Reason::BrokenTag.at(place),
         })?;
         match tag.attributes.fault {
@@ -112,14 +113,15 @@ impl<'a> Scanner<'a> {
         Ok(())
     }
 
-    /// Takes a value: "References in attribute values are decoded; values are never trimmed".
-    fn value(&mut self) -> Result<Result<String, Reason>, Stop> {
+    /// Takes a value: "References in attribute values are decoded; values are never trimmed". One
+    /// that names nothing is judged where it is whole, and its tag is blamed, cut or not.
+    fn value(&mut self) -> Result<String, Stop> {
         let quote = self.peek()?;
         if quote != b'"' && quote != b'\'' {
             return Err(Stop::Grammar);
         }
         self.skip(1);
-        let mut value = Ok(String::new());
+        let mut value = String::new();
         loop {
             let character = match self.peek()? {
                 byte if byte == quote => {
@@ -127,14 +129,10 @@ impl<'a> Scanner<'a> {
                     return Ok(value);
                 }
                 b'<' => return Err(Stop::Grammar),
-                b'&' => self.reference()?.ok(),
-                _ => Some(as_blank(self.character()?)),
+                b'&' => self.reference()?.map_err(|_| Stop::Nothing)?,
+                _ => as_blank(self.character()?),
             };
-            match (character, &mut value) {
-                (Some(character), Ok(value)) => value.push(character),
-                (Some(_), Err(_)) => {}
-                (None, _) => value = Err(Reason::ReferenceInValue),
-            }
+            value.push(character);
         }
     }
 }
