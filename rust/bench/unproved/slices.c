@@ -19,6 +19,7 @@ bool by_address_remove_target(slice *table, uint16_t part, slice *out, uint8_t *
 bool by_address_rewrite(slice *table, uint8_t side, uint16_t id, uint8_t form, slice *out, uint8_t *number,
                         size_t *value);
 bool by_address_read_xml(slice *xml, slice *out, uint8_t *number, size_t *value);
+bool by_address_write_xml(slice *table, slice *out, uint8_t *number, size_t *value);
 size_t by_address_job(slice *job, uint8_t *out);
 
 bool xliff_desk_check(const uint8_t *table, size_t length, uint8_t *number, size_t *value) {
@@ -64,4 +65,10 @@ size_t xliff_desk_job(const uint8_t *job, size_t length, uint8_t *out) {
 bool xliff_desk_read_xml(const uint8_t *xml, size_t length, uint8_t *out, size_t room, uint8_t *number, size_t *value) {
     slice lent = {xml, length}, output = {out, room};
     return by_address_read_xml(&lent, &output, number, value);
+}
+
+bool xliff_desk_write_xml(const uint8_t *table, size_t length, uint8_t *out, size_t room, uint8_t *number,
+                          size_t *value) {
+    slice lent = {table, length}, output = {out, room};
+    return by_address_write_xml(&lent, &output, number, value);
 }
