@@ -1,7 +1,7 @@
 //! Jobs in the notation of document 01: a line for each record or request, `SG 1 - I`,
 //! `TX "A. B"`, `SP 1 2 0 2`. [`read`] and [`read_requests`] turn lines into tables and requests,
-//! [`records`] and [`job`] turn bytes into lines. Marks, fields and lengths are known here, no rule: whether a
-//! table is valid is the desk's to say.
+//! [`records`] and [`job`] turn bytes into lines. Marks, fields and lengths are known here, no rule:
+//! whether a table is valid is the desk's to say.
 
 mod fields;
 mod hexadecimal;
