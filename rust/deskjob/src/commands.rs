@@ -7,9 +7,8 @@ use crate::job::{Job, Unit, ROOM};
 use crate::table::{set_in, texts};
 use crate::{lines, requests};
 
-/// No table's text is longer: a table has at most 682 codes, each of less than 140 bytes as a tag,
-/// and 64 parts.
-const TEXT_ROOM: usize = 100_000;
+/// Enough for every table's text: no record is spelled with 16 bytes for each of its own.
+const TEXT_ROOM: usize = 16 * ROOM;
 
 /// What a command prints to standard output, and how it ends.
 #[derive(Clone, Debug, PartialEq, Eq)]
@@ -22,7 +21,7 @@ pub struct Shown {
 pub enum End {
     /// Nothing is refused: exit status 0.
     Accepted,
-    /// The table or a request is refused: exit status 1.
+    /// The unit or a request is refused: exit status 1.
     Refused,
     /// The command cannot be carried out, and why: exit status 2.
     Failed(String),

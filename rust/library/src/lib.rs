@@ -198,8 +198,9 @@ pub fn read_xml(xml: &[u8], out: &mut [u8]) -> Answer {
     })
 }
 
-/// Writes a table's unit as XML; [`read_xml`] gives the table again, byte for byte. A table whose
-/// pc and mrk are deeper than 32 is [`Reason::OutsideXml`] with place 0.
+/// Writes a table's unit as XML; [`read_xml`] gives the table again, byte for byte. An output of 16
+/// times the table's length is enough. A table whose pc and mrk are deeper than 32 is
+/// [`Reason::OutsideXml`] with place 0.
 ///
 /// ```
 /// let mut out = [0; 200];

@@ -77,6 +77,7 @@ fn refused(reason: Reason) -> Answer {
 fn comes_back(table: &[u8]) {
     let mut out = vec![NO_RESULT; ENOUGH];
     let length = write_xml(table, &mut out).expect("a valid table within depth 32");
+    assert!(length < 16 * table.len());
     let mut text = vec![NO_RESULT; length];
     assert_eq!(write_xml(table, &mut text[1..]), refused(Reason::TooLarge));
     assert_eq!(write_xml(table, &mut text), Ok(length));

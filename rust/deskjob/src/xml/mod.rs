@@ -2,6 +2,7 @@
 //! with it. The desk tells number and place alone. What is said of a place is found by a look at
 //! it: help that no answer depends on, and that blames nothing but what stands at the place.
 
+mod attributes;
 mod before;
 mod bytes;
 mod characters;
@@ -18,7 +19,6 @@ mod tag;
 use xliff_desk::{Reason, Refusal};
 
 use before::Before;
-use pieces::Form;
 
 /// What stands at a place, and what is wrong with it.
 struct Finding {
@@ -69,10 +69,12 @@ fn wrong_tag(bytes: &[u8], before: &Before) -> String {
         Ok(tag) => tag,
         Err(wrong) => return wrong,
     };
-    let attributes = || if tag.form == Form::End { None } else { elements::wrong_attribute(&tag) };
-    tag.doubled_attribute()
+    attributes::doubled(&tag)
         .or_else(|| standing::misplaced(&tag, before))
-        .or_else(attributes)
+        .or_else(|| attributes::unknown(&tag))
+        .or_else(|| attributes::bad_value(&tag))
+        .or_else(|| attributes::missing(&tag))
+        .or_else(|| attributes::id_beside_start_ref(&tag))
         .or_else(|| standing::without_source(&tag, before))
         .or_else(|| standing::too_deep(&tag, before))
         .unwrap_or_else(|| "the desk does not read this tag here".into())

@@ -1,7 +1,8 @@
 //! Where a tag may stand.
 
+use super::attributes::one_of;
 use super::before::Before;
-use super::elements::{is_known, one_of, CONTENTS, INLINE, PARTS, SPANNING};
+use super::elements::{is_known, CONTENTS, INLINE, PARTS, SPANNING};
 use super::pieces::Form;
 use super::tag::Tag;
 

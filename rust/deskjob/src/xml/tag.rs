@@ -16,19 +16,11 @@ pub struct Attribute<'a> {
     pub value: String,
 }
 
-impl<'a> Tag<'a> {
+impl Tag<'_> {
     /// The value of an attribute, if it is there.
     pub fn value(&self, name: &str) -> Option<&str> {
         let found = self.attributes.iter().find(|attribute| attribute.name == name);
         found.map(|attribute| attribute.value.as_str())
-    }
-
-    /// "name stands twice", if one does.
-    pub fn doubled_attribute(&self) -> Option<String> {
-        let mut names: Vec<&str> = self.attributes.iter().map(|attribute| attribute.name).collect();
-        names.sort_unstable();
-        let doubled = names.windows(2).find(|pair| pair[0] == pair[1])?;
-        Some(format!("{} stands twice", doubled[0]))
     }
 }
 

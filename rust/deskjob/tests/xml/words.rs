@@ -93,7 +93,11 @@ fn attributes() {
         "the value of hex is \"1a\", not four upper hexadecimal digits",
     );
     tag_told_as("", "<sc/>", "sc has no id, which it must have");
-    tag_told_as("", "<sc id=\"1\" startRef=\"1\"/>", "sc has startRef, which it must not have");
+    tag_told_as(
+        "",
+        "<sc id=\"1\" startRef=\"1\"/>",
+        "startRef is no attribute of sc that the desk reads",
+    );
     let isolated = "an isolated ec has no id, which it must have";
     tag_told_as("", "<ec startRef=\"1\" isolated=\"yes\"/>", isolated);
     tag_told_as(
