@@ -80,7 +80,7 @@ fn point_2_a_cut_text() {
         cut(tag);
     }
     // Judged when it is whole, so not here.
-    for tag in ["<ph x=\"&x;", "<ph id=\"1\" id=\"1\"", "<x", "</x", "<ph id=\"\u{E9}"] {
+    for tag in ["<ph x=\"&x", "<ph id=\"1\" id=\"1\"", "<x", "</x", "<ph id=\"\u{E9}"] {
         cut_in_source(tag);
     }
     cut_in_source(b"<ph id=\"\xC3");
@@ -108,6 +108,10 @@ fn point_2_what_breaks_the_grammar_is_not_cut() {
     blames("", "<unit id=\"\u{1}");
     for reference in ["&1", "&#X", "&#xg", "&a ", "&a<"] {
         blames_in_source("a", reference);
+    }
+    // A reference in a value is judged where it is whole: no byte behind it mends it.
+    for tag in ["<ph x=\"&x;", "<ph id=\"1&#0;", "<ph id=\"&#xD800;\""] {
+        blames_in_source("a", tag);
     }
     // Where no text may stand, a reference or a character is at fault, cut or not.
     for rest in [b"&".as_slice(), b"&am", b"\xC3", b"a"] {
