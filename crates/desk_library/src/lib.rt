@@ -10,6 +10,7 @@ ghost use Rattle.xliff.specs.SetTarget.{set-target};
 ghost use Rattle.xliff.specs.RemoveTarget.{remove-target};
 ghost use Rattle.xliff.specs.Rewrite.{rewrite};
 ghost use Rattle.xliff.specs.Desk.{desk};
+ghost use Rattle.xml.specs.Xml.{read-xml, write-xml};
 ghost use Rattle.answers.specs.Answers.{answer-meaning};
 ghost use Rattle.writer.specs.Pieces.{lead};
 ghost use Rattle.both_ends.specs.Received.{Meets};
@@ -118,6 +119,26 @@ pub extern "C" fn xliff_desk_rewrite(
         (now (out .entry)) (now (out .exit)) ⌝ }
 {
     let a = rewrite::rewrite(table, side, id, form, out);
+    tell(a, number, value)
+}
+
+// A unit in XML to its table.
+#[no_mangle]
+pub extern "C" fn xliff_desk_read_xml(xml: &[u8], out: &mut [u8], number: &mut u8, value: &mut usize) -> bool
+    ensures { λ r. ⌜ Tells (read-xml (now (xml .entry)) (length (now (out .entry)))) r (now (number .exit)) (now (value .exit)) (now (out .entry))
+        (now (out .exit)) ⌝ }
+{
+    let a = read_xml::read_xml(xml, out);
+    tell(a, number, value)
+}
+
+// A table to its unit in XML.
+#[no_mangle]
+pub extern "C" fn xliff_desk_write_xml(table: &[u8], out: &mut [u8], number: &mut u8, value: &mut usize) -> bool
+    ensures { λ r. ⌜ Tells (write-xml (now (table .entry)) (length (now (out .entry)))) r (now (number .exit)) (now (value .exit)) (now (out .entry))
+        (now (out .exit)) ⌝ }
+{
+    let a = write_xml::write_xml(table, out);
     tell(a, number, value)
 }
 

@@ -18,6 +18,8 @@ bool by_address_set_target(slice *table, uint16_t part, uint8_t state, slice *co
 bool by_address_remove_target(slice *table, uint16_t part, slice *out, uint8_t *number, size_t *value);
 bool by_address_rewrite(slice *table, uint8_t side, uint16_t id, uint8_t form, slice *out, uint8_t *number,
                         size_t *value);
+bool by_address_read_xml(slice *xml, slice *out, uint8_t *number, size_t *value);
+bool by_address_write_xml(slice *table, slice *out, uint8_t *number, size_t *value);
 size_t by_address_job(slice *job, uint8_t *out);
 
 bool xliff_desk_check(const uint8_t *table, size_t length, uint8_t *number, size_t *value) {
@@ -58,4 +60,15 @@ bool xliff_desk_rewrite(const uint8_t *table, size_t length, uint8_t side, uint1
 size_t xliff_desk_job(const uint8_t *job, size_t length, uint8_t *out) {
     slice lent = {job, length};
     return by_address_job(&lent, out);
+}
+
+bool xliff_desk_read_xml(const uint8_t *xml, size_t length, uint8_t *out, size_t room, uint8_t *number, size_t *value) {
+    slice lent = {xml, length}, output = {out, room};
+    return by_address_read_xml(&lent, &output, number, value);
+}
+
+bool xliff_desk_write_xml(const uint8_t *table, size_t length, uint8_t *out, size_t room, uint8_t *number,
+                          size_t *value) {
+    slice lent = {table, length}, output = {out, room};
+    return by_address_write_xml(&lent, &output, number, value);
 }

@@ -1,13 +1,14 @@
 //! The commands: each gives what it prints and how it ends.
 
-use notation::records;
-use xliff_desk::{Answer, Refusal};
+use xliff_desk::Answer;
 
 use crate::difference::marked;
+use crate::job::{Job, Unit, ROOM};
+use crate::table::{set_in, texts};
 use crate::{lines, requests};
 
-/// "lends outputs of 8,192 bytes".
-const ROOM: usize = 8192;
+/// Enough for every table's text: no record is spelled with 16 bytes for each of its own.
+const TEXT_ROOM: usize = 16 * ROOM;
 
 /// What a command prints to standard output, and how it ends.
 #[derive(Clone, Debug, PartialEq, Eq)]
@@ -20,7 +21,7 @@ pub struct Shown {
 pub enum End {
     /// Nothing is refused: exit status 0.
     Accepted,
-    /// The table or a request is refused: exit status 1.
+    /// The unit or a request is refused: exit status 1.
     Refused,
     /// The command cannot be carried out, and why: exit status 2.
     Failed(String),
@@ -41,21 +42,25 @@ impl Shown {
 }
 
 /// Each request's answer in words, and the table before and after with the differences marked.
-pub fn run(text: &str) -> Shown {
-    let job = match notation::read(text) {
-        Ok(job) => job,
-        Err(mistake) => return Shown::failed(mistake.to_string()),
-    };
-    let mut table = job.table;
-    let checked = xliff_desk::check(&table);
-    if let Err(refusal) = checked {
-        return Shown::refused(format!("check: {}", blamed(&table, refusal)));
+pub fn run(job: &Job) -> Shown {
+    let (mut shown, table) = session(job);
+    if let Some(table) = table {
+        shown.text += &format!("\nthe table:\n{}", set_in(&table));
     }
-    let mut shown = Shown::accepted(format!("check: {}\n", in_words(checked)));
-    for request in job.requests {
+    shown
+}
+
+/// The answers to a job's requests, and the table after them, unless it is refused itself.
+fn session(job: &Job) -> (Shown, Option<Vec<u8>>) {
+    let mut table = match job.unit.table() {
+        Ok(table) => table,
+        Err(refusal) => return (Shown::refused(format!("check: {refusal}")), None),
+    };
+    let mut shown = Shown::accepted(format!("check: {}\n", in_words(Ok(table.len()))));
+    for request in &job.requests {
         let mut out = vec![0; ROOM];
-        let answer = requests::ask(&request, &table, &mut out);
-        shown.text += &format!("\n{}\n{}\n", requests::in_words(&request), in_words(answer));
+        let answer = requests::ask(request, &table, &mut out);
+        shown.text += &format!("\n{}\n{}\n", requests::in_words(request), in_words(answer));
         match answer {
             Ok(length) => {
                 out.truncate(length);
@@ -65,26 +70,36 @@ pub fn run(text: &str) -> Shown {
             Err(_) => shown.end = End::Refused,
         }
     }
-    shown.text += &format!("\nthe table:\n{}", set_in(&table));
-    shown
+    (shown, Some(table))
 }
 
-/// The answer of the check in words; of a refused table, the blamed record is marked.
-pub fn check(text: &str) -> Shown {
-    match notation::read(text) {
-        Ok(job) => match xliff_desk::check(&job.table) {
-            Err(refusal) => Shown::refused(blamed(&job.table, refusal)),
-            accepted => Shown::accepted(format!("{}\n", in_words(accepted))),
-        },
-        Err(mistake) => Shown::failed(mistake.to_string()),
+/// The answer of the check in words; of a refused unit, what is blamed is shown.
+pub fn check(job: &Job) -> Shown {
+    match job.unit.table() {
+        Ok(table) => Shown::accepted(format!("{}\n", in_words(Ok(table.len())))),
+        Err(refusal) => Shown::refused(refusal),
     }
 }
 
-/// A table in hexadecimal, as the desk prints it.
-pub fn show(digits: &str) -> Shown {
-    match notation::from_hexadecimal(digits.trim()) {
-        Some(table) => Shown::accepted(set_in(&table)),
-        None => Shown::failed("not bytes in hexadecimal"),
+/// The table's lines. One that is given as a table is not checked.
+pub fn show(unit: &Unit) -> Shown {
+    match unit {
+        Unit::Table(table) => Shown::accepted(set_in(table)),
+        Unit::Xml(_) => match unit.table() {
+            Ok(table) => Shown::accepted(set_in(&table)),
+            Err(refusal) => Shown::refused(refusal),
+        },
+    }
+}
+
+/// The table after the job's requests, as XML; where anything is refused, the answers.
+pub fn xml(job: &Job) -> Shown {
+    let (answers, table) = session(job);
+    let Some(table) = table.filter(|_| answers.end == End::Accepted) else { return answers };
+    let mut out = vec![0; TEXT_ROOM];
+    match xliff_desk::write_xml(&table, &mut out) {
+        Ok(length) => Shown::accepted(String::from_utf8_lossy(&out[..length]) + "\n"),
+        Err(refusal) => Shown::refused(format!("{refusal}\n")),
     }
 }
 
@@ -113,26 +128,4 @@ fn in_words(answer: Answer) -> String {
         Ok(length) => format!("OK {length}: accepted"),
         Err(refusal) => refusal.to_string(),
     }
-}
-
-/// A refused table, `>` before the record at the place of the refusal, or behind the last one
-/// where a record is missing.
-fn blamed(table: &[u8], refusal: Refusal) -> String {
-    let mut shown = format!("{refusal}\n");
-    for line in records(table) {
-        let mark = if line.offset == refusal.place { '>' } else { ' ' };
-        shown += &format!("  {mark} {}\n", line.text);
-    }
-    if refusal.place == table.len() {
-        shown += "  > (the table ends here)\n";
-    }
-    shown
-}
-
-fn texts(table: &[u8]) -> Vec<String> {
-    records(table).into_iter().map(|line| line.text).collect()
-}
-
-fn set_in(table: &[u8]) -> String {
-    texts(table).iter().map(|line| format!("  {line}\n")).collect()
 }

@@ -17,6 +17,8 @@ pub fn answer(line: &str) -> Result<String, String> {
         "check" => check(words),
         "job" => job(words),
         "call" => call(words),
+        "xmlread" => with_input(xliff_desk::read_xml, words),
+        "xmlwrite" => with_input(xliff_desk::write_xml, words),
         _ => Err(format!("\"{operation}\" is no operation of the line protocol")),
     }
 }
@@ -42,6 +44,13 @@ fn call(words: &[&str]) -> Result<String, String> {
     let (mut out, table, request) = (lent(room)?, bytes(table)?, bytes(request)?);
     let Some(request) = one_request(&request) else { return Ok("BAD".into()) };
     Ok(with_output(ask(&request, &table, &mut out), &out))
+}
+
+/// `xmlread CAP X`, `xmlwrite CAP T`
+fn with_input(operation: fn(&[u8], &mut [u8]) -> Answer, words: &[&str]) -> Result<String, String> {
+    let [room, input] = exactly(words)?;
+    let (mut out, input) = (lent(room)?, bytes(input)?);
+    Ok(with_output(operation(&input, &mut out), &out))
 }
 
 /// The request that these bytes are, none behind it.

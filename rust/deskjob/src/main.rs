@@ -1,21 +1,26 @@
-//! `deskjob`: jobs and lines, run on the proved desk.
+//! `deskjob`: jobs, units in XML and lines, run on the proved desk.
 
 use std::io::{ErrorKind, Read, Write};
 use std::process::ExitCode;
 
 use deskjob::commands::{self, End, Shown};
+use deskjob::job::{Job, Unit};
 
 const USAGE: &str = "\
-deskjob run JOB     run the requests of a job, and show each answer and what it changed
-deskjob check JOB   check the job's table; of a refused one, mark the blamed record
-deskjob show HEX    show a table that the desk printed in hexadecimal
-deskjob lines       answer lines of the line protocol (vectors/README.md) from standard input
-deskjob --help      show this text
+deskjob run JOB [REQUESTS]   run the requests, and show each answer and what it changed
+deskjob xml JOB [REQUESTS]   run the requests, and write the table after them as XML
+deskjob check JOB            check the unit; of a refused one, show what is blamed
+deskjob show JOB|HEX         show the unit's table, or one that the desk printed in hexadecimal
+deskjob lines                answer lines from standard input (line protocol: vectors/README.md)
+deskjob --help               show this text
 
-JOB is a file in notation, - is standard input; README.md has an example.
+JOB is a file with a job in notation, or with a unit in XML (its first byte that is no blank is <);
+REQUESTS is a file with requests in notation, which come behind those of the job. - is standard
+input. README.md has examples.
 
-Exit status: 0 if nothing is refused, 1 if the table or a request of run or check is refused,
-2 if the command, a file, the notation or a line cannot be read (standard error says why).
+Exit status: 0 if nothing is refused; 1 if the unit or a request is refused (standard output shows
+it; xml then writes no XML); 2 if the command, a file, the notation or a line cannot be read
+(standard error says why).
 ";
 
 fn main() -> ExitCode {
@@ -41,9 +46,10 @@ fn main() -> ExitCode {
 fn command(words: &[&str]) -> Shown {
     match words {
         ["--help" | "-h" | "help"] => Shown::accepted(USAGE),
-        ["run", path] => with_text(path, commands::run),
-        ["check", path] => with_text(path, commands::check),
-        ["show", digits] => commands::show(digits),
+        ["run", job, requests @ ..] if requests.len() < 2 => with_job(job, requests, commands::run),
+        ["xml", job, requests @ ..] if requests.len() < 2 => with_job(job, requests, commands::xml),
+        ["check", job] => with_job(job, &[], commands::check),
+        ["show", digits_or_job] => show(digits_or_job),
         ["lines"] => match read("-") {
             Ok(input) => commands::lines(&input),
             Err(why) => Shown::failed(why),
@@ -53,14 +59,33 @@ fn command(words: &[&str]) -> Shown {
     }
 }
 
-/// The command's outcome for the text of a file.
-fn with_text(path: &str, command: fn(&str) -> Shown) -> Shown {
-    let text = read(path).and_then(|bytes| {
-        String::from_utf8(bytes).map_err(|_| format!("{path}: not a text in UTF-8"))
-    });
-    match text {
-        Ok(text) => command(&text),
+/// The command's outcome for the job of a file, and the requests of another if one is named.
+fn with_job(path: &str, requests: &[&str], command: fn(&Job) -> Shown) -> Shown {
+    match job(path, requests) {
+        Ok(job) => command(&job),
         Err(why) => Shown::failed(why),
+    }
+}
+
+fn job(path: &str, requests: &[&str]) -> Result<Job, String> {
+    if requests.contains(&"-") && path == "-" {
+        return Err("standard input cannot be both the job and the requests".into());
+    }
+    let mut job = Job::read(read(path)?).map_err(|why| format!("{path}: {why}"))?;
+    for path in requests {
+        job.add_requests(read(path)?).map_err(|why| format!("{path}: {why}"))?;
+    }
+    Ok(job)
+}
+
+/// A table in hexadecimal, or else a job.
+fn show(digits_or_job: &str) -> Shown {
+    match notation::from_hexadecimal(digits_or_job.trim()) {
+        Some(table) => commands::show(&Unit::Table(table)),
+        None => match job(digits_or_job, &[]) {
+            Ok(job) => commands::show(&job.unit),
+            Err(why) => Shown::failed(format!("neither bytes in hexadecimal nor a job: {why}")),
+        },
     }
 }
 

@@ -9,7 +9,7 @@ const A_B: &str = "554E59534700012D4954580004412E20425545";
 /// Every line of the vectors, answered as `deskjob lines` answers it.
 #[test]
 fn the_vectors_are_answered() {
-    let path = concat!(env!("CARGO_MANIFEST_DIR"), "/../../vectors/after-00.txt");
+    let path = concat!(env!("CARGO_MANIFEST_DIR"), "/../../vectors/after-01.txt");
     let file = std::fs::read_to_string(path).unwrap();
     let (mut passed, mut failed) = (0, 0);
     for line in file.lines() {
@@ -22,7 +22,7 @@ fn the_vectors_are_answered() {
         }
     }
     assert_eq!(failed, 0, "{failed} lines are answered otherwise, {passed} as expected");
-    assert!(passed >= 75, "only {passed} lines");
+    assert!(passed >= 1250, "only {passed} lines");
 }
 
 /// The printed job of document 01, as a job and as a call.
@@ -42,6 +42,25 @@ fn the_printed_job() {
     assert_eq!(answer(&format!("job {A_B}{request}")), Ok(format!("TEXT {printed}")));
 }
 
+/// A unit in XML and its table.
+#[test]
+fn xml_is_read_and_written() {
+    let xml: String = concat!(
+        r#"<unit id="1" canResegment="yes"><segment id="1" state="initial">"#,
+        "<source>A. B</source></segment></unit>"
+    )
+    .bytes()
+    .map(|byte| format!("{byte:02X}"))
+    .collect();
+    assert_eq!(answer(&format!("xmlread 19 {xml}")), Ok(format!("OK 19 {A_B}")));
+    assert_eq!(answer(&format!("xmlread 18 {xml}")), Ok("NO 15 0".into()));
+    assert_eq!(answer("xmlread 19 -"), Ok("NO 22 0".into()));
+    let length = xml.len() / 2;
+    assert_eq!(answer(&format!("xmlwrite {length} {A_B}")), Ok(format!("OK {length} {xml}")));
+    assert_eq!(answer(&format!("xmlwrite {} {A_B}", length - 1)), Ok("NO 15 0".into()));
+    assert_eq!(answer("xmlwrite 0 554E595545"), Ok("NO 2 3".into()));
+}
+
 /// Unknown marks, requests cut short, bytes behind a request; of a refused table too.
 #[test]
 fn unreadable_requests_are_bad() {
@@ -58,7 +77,11 @@ fn lines_that_are_not_of_the_protocol() {
     let lines = [
         "",
         "# check",
-        "xmlread 10 -",
+        "sheet 10 -",
+        "xmlread 10",
+        "xmlread - -",
+        "xmlread 10 - -",
+        "xmlwrite x -",
         "list=- check -",
         "Check -",
         "check",

@@ -5,6 +5,13 @@ use std::process::{Command, Output, Stdio};
 
 const ACCEPTED: &str = "UN Y\nSG 1 - I\nUE\n";
 const REFUSED: &str = "UN Y\nUE\n";
+const UNIT: &str = "<unit id=\"1\"><segment id=\"1\"><source/></segment></unit>\n";
+
+macro_rules! example {
+    ($name:literal) => {
+        concat!(env!("CARGO_MANIFEST_DIR"), "/examples/", $name)
+    };
+}
 
 fn start(words: &[&str]) -> std::process::Child {
     let mut program = Command::new(env!("CARGO_BIN_EXE_deskjob"));
@@ -36,8 +43,38 @@ fn accepted_is_0_and_refused_is_1() {
     assert_eq!(status(&["run", "-"], &[ACCEPTED, "RT 1\n"].concat()), 1);
     assert_eq!(status(&["show", "5545"], ""), 0);
     assert_eq!(status(&["lines"], "check 554E59534700012D495545\n"), 0);
+    assert_eq!(status(&["lines"], "xmlwrite 200 554E59534700012D495545\n"), 0);
     // a refusal is an answer like others
     assert_eq!(status(&["lines"], "check -\n"), 0);
+}
+
+#[test]
+fn units_in_xml_are_0_and_1_too() {
+    for command in ["check", "run", "show", "xml"] {
+        assert_eq!(status(&[command, "-"], UNIT), 0, "{command}");
+        assert_eq!(status(&[command, "-"], "<unit id=\"1\"/>"), 1, "{command}");
+        assert_eq!(status(&[command, "-"], "<unit id=\"1\""), 1, "{command}");
+        assert_eq!(status(&[command, example!("door.xml")], ""), 0, "{command}");
+        assert_eq!(status(&[command, example!("door-broken.xml")], ""), 1, "{command}");
+    }
+    assert_eq!(status(&["xml", "-"], ACCEPTED), 0);
+    assert_eq!(status(&["show", example!("door.txt")], ""), 0);
+    // two requests, the first refused
+    let requests = example!("door-requests.txt");
+    for command in ["run", "xml"] {
+        assert_eq!(status(&[command, example!("door.xml"), requests], ""), 1);
+        assert_eq!(status(&[command, example!("door.xml"), "-"], "ST 1 I\n"), 1);
+        assert_eq!(status(&[command, "-", "/dev/null"], UNIT), 0);
+    }
+    assert_eq!(status(&["run", "-", example!("door-requests.txt")], UNIT), 1);
+}
+
+#[test]
+fn xml_is_written_with_a_line_feed() {
+    let Output { stdout, .. } = deskjob(&["xml", "-"], UNIT);
+    let written = "<unit id=\"1\" canResegment=\"yes\"><segment id=\"1\" state=\"initial\">\
+                   <source></source></segment></unit>\n";
+    assert_eq!(stdout, written.as_bytes());
 }
 
 #[test]
@@ -46,6 +83,11 @@ fn what_cannot_be_read_is_2() {
     assert_eq!(status(&["walk", "-"], ACCEPTED), 2);
     assert_eq!(status(&["run"], ACCEPTED), 2);
     assert_eq!(status(&["run", "-", "-"], ACCEPTED), 2);
+    assert_eq!(status(&["run", "-", "-", "-"], ACCEPTED), 2);
+    assert_eq!(status(&["check", "-", example!("door-requests.txt")], UNIT), 2);
+    // records behind the unit, in either form
+    assert_eq!(status(&["run", "-", example!("door.txt")], ACCEPTED), 2);
+    assert_eq!(status(&["run", "-", example!("door.xml")], ACCEPTED), 2);
     assert_eq!(status(&["run", "/there/is/no/such/file"], ""), 2);
     assert_eq!(status(&["run", "-"], "XX"), 2);
     assert_eq!(status(&["check", "-"], "XX"), 2);
@@ -69,10 +111,26 @@ fn help_goes_to_standard_output() {
         let Output { status, stdout, stderr } = deskjob(&[word], "");
         assert_eq!((status.code(), stderr.is_empty()), (Some(0), true));
         let help = String::from_utf8(stdout).unwrap();
-        for said in ["deskjob run", "deskjob check", "deskjob show", "deskjob lines", "status"] {
-            assert!(help.contains(said), "{said} is missing in: {help}");
+        for said in ["run", "xml", "check", "show", "lines", "--help"] {
+            let said = format!("deskjob {said} ");
+            assert!(help.contains(&said), "{said} is missing in: {help}");
         }
+        assert!(help.contains("Exit status"), "{help}");
     }
+}
+
+/// Mistakes name their file.
+#[test]
+fn the_file_is_named() {
+    let said = |words: &[&str], input: &str| {
+        String::from_utf8(deskjob(words, input).stderr).unwrap().trim_end().to_string()
+    };
+    let mistake = "line 1, column 1: XX is neither a record nor a request";
+    assert_eq!(said(&["run", "-"], "XX"), format!("deskjob: -: {mistake}"));
+    assert_eq!(said(&["xml", example!("door.xml"), "-"], "XX"), format!("deskjob: -: {mistake}"));
+    let missing = said(&["show", "55g"], "");
+    let expected = "deskjob: neither bytes in hexadecimal nor a job: 55g: ";
+    assert!(missing.starts_with(expected), "{missing}");
 }
 
 /// As `deskjob run JOB | head -1`, whose reader may be gone before anything is written.

@@ -1,6 +1,7 @@
 //! Sessions at the bench.
 
 use deskjob::commands::{self, End, Shown};
+use deskjob::job::{Job, Unit};
 
 const JOB: &str = r#"UN Y
 SG 1 - I
@@ -10,9 +11,21 @@ SP 1 2 0 2   # behind "A."
 SP 1 2 0 2
 "#;
 
+fn job(text: &str) -> Job {
+    Job::read(text.into()).unwrap()
+}
+
+fn run(text: &str) -> Shown {
+    commands::run(&job(text))
+}
+
+fn check(text: &str) -> Shown {
+    commands::check(&job(text))
+}
+
 #[test]
 fn the_printed_job_runs() {
-    let shown = commands::run(JOB);
+    let shown = run(JOB);
     let expected = r#"check: OK 19: accepted
 
 split part 1 at source item 2 and target item 0, new id 2
@@ -41,25 +54,12 @@ the table:
     assert_eq!(shown.end, End::Refused);
 }
 
-/// README.md shows the example job and what it gives.
-#[test]
-fn the_readme_is_true() {
-    let readme = include_str!("../../../README.md");
-    let job = include_str!("../examples/door.txt");
-    let shown = commands::run(job).text;
-    let (answers, _) = shown.split_once("\nthe table:").unwrap();
-    for text in [job, answers] {
-        let block: Vec<String> =
-            text.lines().map(|line| format!("    {line}").trim_end().to_string()).collect();
-        assert!(readme.contains(&block.join("\n")), "README.md has not:\n{}", block.join("\n"));
-    }
-}
-
 #[test]
 fn a_printed_table_is_shown() {
-    let shown = commands::show("554E59534700012D4954580002412E5545");
+    let shown = commands::show(&Unit::Table(b"UNYSG\0\x01-ITX\0\x02A.UE".to_vec()));
     assert_eq!(shown, Shown::accepted("  UN Y\n  SG 1 - I\n  TX \"A.\"\n  UE\n"));
-    assert_eq!(commands::show("5"), Shown::failed("not bytes in hexadecimal"));
+    // a refused one too, as it is
+    assert_eq!(commands::show(&job("UN Y\nUE\nRT 1").unit), Shown::accepted("  UN Y\n  UE\n"));
 }
 
 #[test]
@@ -67,8 +67,8 @@ fn a_refused_table_is_told() {
     let expected =
         "NO 2 3: unknown mark, cut record, bad field or letter, or a record out of sequence\n    \
          UN Y\n  > UE\n";
-    assert_eq!(commands::check("UN Y\nUE\n"), Shown::refused(expected));
-    assert_eq!(commands::run("UN Y\nUE\nRT 1"), Shown::refused(["check: ", expected].concat()));
+    assert_eq!(check("UN Y\nUE\n"), Shown::refused(expected));
+    assert_eq!(run("UN Y\nUE\nRT 1"), Shown::refused(["check: ", expected].concat()));
 }
 
 /// A missing record is blamed at the table's end.
@@ -76,23 +76,23 @@ fn a_refused_table_is_told() {
 fn the_end_of_a_table_is_marked() {
     let table = "UN Y\nSG 1 - I\n";
     let marked = "    UN Y\n    SG 1 - I\n  > (the table ends here)\n";
-    for shown in [commands::check(table), commands::run(table)] {
+    for shown in [check(table), run(table)] {
         let (answer, lines) = shown.text.split_once('\n').unwrap();
         assert!(answer.contains("NO 2 9: "), "{answer}");
         assert_eq!((lines, &shown.end), (marked, &End::Refused));
     }
-    assert!(commands::check("").text.ends_with("\n  > (the table ends here)\n"));
+    assert!(check("").text.ends_with("\n  > (the table ends here)\n"));
 }
 
 #[test]
 fn an_accepted_table_is_told() {
     let accepted = Shown::accepted("OK 11: accepted\n");
-    assert_eq!(commands::check("UN Y\nSG 1 - I\nUE\n"), accepted);
+    assert_eq!(check("UN Y\nSG 1 - I\nUE\n"), accepted);
 }
 
 #[test]
 fn the_content_of_set_target_stands_below_it() {
-    let shown = commands::run("UN Y\nSG 0 - I\nTX \"a\"\nUE\nST 1 T\n  TX \"\\u{e9}\"\nRT 1\n");
+    let shown = run("UN Y\nSG 0 - I\nTX \"a\"\nUE\nST 1 T\n  TX \"\\u{e9}\"\nRT 1\n");
     let text = shown.text;
     assert!(text.contains("  + TG 1\n  + TX \"é\"\n"), "{text}");
     assert!(text.contains("remove the target of part 1\nOK 16: accepted\n"), "{text}");
@@ -101,7 +101,21 @@ fn the_content_of_set_target_stands_below_it() {
 
 #[test]
 fn mistakes_in_the_notation_are_told() {
-    let mistake = Shown::failed("line 2, column 1: XX is neither a record nor a request");
-    assert_eq!(commands::run("UN Y\nXX 1\n"), mistake);
-    assert_eq!(commands::check("UN Y\nXX 1\n"), mistake);
+    let mistake = Job::read(b"UN Y\nXX 1\n".to_vec()).unwrap_err();
+    assert_eq!(mistake, "line 2, column 1: XX is neither a record nor a request");
+    assert_eq!(Job::read(b"UN \xFF\n".to_vec()).unwrap_err(), "not a text in UTF-8");
+}
+
+/// Requests of a second file come behind those of the job.
+#[test]
+fn requests_stand_in_a_file_of_their_own() {
+    let (table, requests) = JOB.split_once("SP").unwrap();
+    let requests = ["SP", requests].concat();
+    let mut given = job(table);
+    given.add_requests(requests.clone().into()).unwrap();
+    assert_eq!(given, job(JOB));
+    given.add_requests(requests.into()).unwrap();
+    assert_eq!(given.requests.len(), 4);
+    let mistake = given.add_requests(table.into()).unwrap_err();
+    assert_eq!(mistake, "line 1, column 1: UN stands behind the table");
 }

@@ -1,7 +1,8 @@
 //! The proved operations of the XLIFF unit desk, called from Rust. The rules are those of
-//! document 01; nothing here repeats one.
+//! documents 01 and 02; nothing here repeats one.
 //!
-//! Each operation takes a table's bytes and writes its result at the head of `out`. Accepted:
+//! Each operation takes a table's bytes and writes its result at the head of `out`; [`read_xml`]
+//! takes a unit in XML and gives its table, [`write_xml`] a table and gives its unit in XML. Accepted:
 //! the result's length, and the bytes of `out` behind it are as they were. Refused: a
 //! [`Refusal`], and all of `out` is as it was. Any bytes of any length get an answer.
 //!
@@ -172,6 +173,52 @@ pub fn rewrite(
     })
 }
 
+/// Reads a unit in XML: the result is its table, which the check accepts. A text outside the XML
+/// that the desk reads is [`Reason::OutsideXml`] with the place in the text; a table read that a
+/// rule refuses has its place in that table.
+///
+/// ```
+/// use xliff_desk::Reason;
+///
+/// let xml = br#"<unit id="1"><segment id="1"><source>up</source></segment></unit>"#;
+/// let mut out = [0; 8192];
+/// let length = xliff_desk::read_xml(xml, &mut out)?;
+/// assert_eq!(&out[..length], b"UNYSG\0\x01-ITX\0\x02upUE");
+///
+/// // notes are not read: the tag is blamed
+/// let xml = br#"<unit id="1"><notes><note>up</note></notes></unit>"#;
+/// let refusal = xliff_desk::read_xml(xml, &mut out).unwrap_err();
+/// assert_eq!((refusal.reason, refusal.place), (Reason::OutsideXml, 13));
+/// # Ok::<(), xliff_desk::Refusal>(())
+/// ```
+pub fn read_xml(xml: &[u8], out: &mut [u8]) -> Answer {
+    answer(|number, value| unsafe {
+        let (to, room) = (out.as_mut_ptr(), out.len());
+        raw::xliff_desk_read_xml(xml.as_ptr(), xml.len(), to, room, number, value)
+    })
+}
+
+/// Writes a table's unit as XML; [`read_xml`] gives the table again, byte for byte. An output of 16
+/// times the table's length is enough. A table whose pc and mrk are deeper than 32 is
+/// [`Reason::OutsideXml`] with place 0.
+///
+/// ```
+/// let mut out = [0; 200];
+/// let length = xliff_desk::write_xml(b"UNYSG\0\x01-ITX\0\x02upUE", &mut out)?;
+/// let xml = concat!(
+///     r#"<unit id="1" canResegment="yes"><segment id="1" state="initial">"#,
+///     "<source>up</source></segment></unit>",
+/// );
+/// assert_eq!(&out[..length], xml.as_bytes());
+/// # Ok::<(), xliff_desk::Refusal>(())
+/// ```
+pub fn write_xml(table: &[u8], out: &mut [u8]) -> Answer {
+    answer(|number, value| unsafe {
+        let (to, room) = (out.as_mut_ptr(), out.len());
+        raw::xliff_desk_write_xml(table.as_ptr(), table.len(), to, room, number, value)
+    })
+}
+
 /// What the desk program prints for a job (a table, then requests): a line for each request, and
 /// last the table in hexadecimal.
 ///
@@ -194,6 +241,6 @@ fn answer(call: impl FnOnce(*mut u8, *mut usize) -> bool) -> Answer {
     if call(&mut number, &mut value) {
         return Ok(value);
     }
-    let reason = Reason::of_number(number).expect("the proved desk refuses by 1 to 21");
+    let reason = Reason::of_number(number).expect("the proved desk refuses by 1 to 22");
     Err(Refusal { reason, place: value })
 }

@@ -1,9 +1,9 @@
-//! The numbers of document 01, each with its words. They stand here once.
+//! The numbers of documents 01 and 02, each with its words. They stand here once.
 
 use std::fmt;
 
-/// Why a table or a request is refused, by its number in document 01; [`Reason::text`] has each in
-/// words. Later orders add reasons.
+/// Why a table, a text or a request is refused, by its number in document 01 or 02;
+/// [`Reason::text`] has each in words. Later orders add reasons.
 #[derive(Clone, Copy, Debug, PartialEq, Eq, Hash)]
 #[non_exhaustive]
 #[repr(u8)]
@@ -30,6 +30,7 @@ pub enum Reason {
     FixedCodesChanged = 19,
     NothingToChange = 20,
     NotOnePair = 21,
+    OutsideXml = 22,
 }
 
 /// Each with its words, in the sequence of their numbers.
@@ -74,6 +75,7 @@ const REASONS: &[(Reason, &str)] = &[
         Reason::NotOnePair,
         "not in one content, not balanced between, or the end's canReorder does not fit pc",
     ),
+    (Reason::OutsideXml, "outside the XML that the desk reads, or pc and mrk deeper than 32"),
 ];
 
 // The build fails if their numbers do not rise.
@@ -91,12 +93,12 @@ impl Reason {
         REASONS.iter().map(|(reason, _)| *reason)
     }
 
-    /// The reason that has a number of document 01, if there is one.
+    /// The reason that has this number, if there is one.
     pub fn of_number(number: u8) -> Option<Reason> {
         Reason::all().find(|reason| reason.number() == number)
     }
 
-    /// Its number in document 01.
+    /// Its number in document 01 or 02.
     pub fn number(self) -> u8 {
         self as u8
     }
@@ -113,8 +115,9 @@ impl Reason {
 pub struct Refusal {
     /// Why.
     pub reason: Reason,
-    /// In a refused table, the offset of the blamed record; in set target's content, the offset in
-    /// it; else 0.
+    /// In a refused table, the offset of the blamed record (of read XML, in the table read); in set
+    /// target's content, the offset in it; in a text that is refused by 22, the offset of the tag,
+    /// reference or byte at fault or the end of a cut text; else 0.
     pub place: usize,
 }
 

@@ -1,4 +1,4 @@
-//! Letters and numbers as document 01 has them, and any other byte handed on.
+//! Letters and numbers as documents 01 and 02 have them, and any other byte handed on.
 
 use std::collections::HashSet;
 
@@ -42,12 +42,13 @@ fn other_letters_are_refused_by_the_operation() {
 }
 
 #[test]
-fn reasons_have_the_numbers_of_document_01() {
+fn reasons_have_their_numbers() {
     let all: Vec<Reason> = (0..=255).filter_map(Reason::of_number).collect();
     assert_eq!(all, Reason::all().collect::<Vec<_>>());
     let numbers: Vec<u8> = all.iter().map(|reason| reason.number()).collect();
-    assert_eq!(numbers, (1..=21).collect::<Vec<u8>>());
-    assert_eq!((Reason::Overlap as u8, Reason::OrdersNotInSequence as u8), (9, 16));
+    assert_eq!(numbers, (1..=22).collect::<Vec<u8>>());
+    let some = [Reason::Overlap, Reason::OrdersNotInSequence, Reason::OutsideXml];
+    assert_eq!(some.map(Reason::number), [9, 16, 22]);
     let texts: HashSet<&str> = all.iter().map(|reason| reason.text()).collect();
     assert_eq!(texts.len(), all.len(), "two reasons have the same words");
 }

@@ -1,19 +1,16 @@
 //! Outputs of every kind of length: the answer and each byte of the lent output, compared with
 //! the second implementation. The desk program lends 8,192 bytes only.
 
+mod common;
+
+use common::told;
 use second::desk::read_request;
 use second::generate::{job, Random};
 use second::MOST_BYTES;
-use xliff_desk::{Answer, Reason, Refusal};
+use xliff_desk::Answer;
 
 const SEED: u64 = 7;
 const JOBS: u64 = 4000;
-
-/// The second implementation's refusal as the library tells it.
-fn told(refusal: second::Refusal) -> Refusal {
-    let reason = Reason::of_number(refusal.number as u8).expect("a number of document 01");
-    Refusal { reason, place: refusal.place }
-}
 
 fn number(bytes: &[u8], at: usize) -> u16 {
     u16::from_be_bytes([bytes[at], bytes[at + 1]])
@@ -35,23 +32,11 @@ fn ask(table: &[u8], request: &[u8], out: &mut [u8]) -> Answer {
     }
 }
 
-/// Compares one call with an output of this length, filled with what is no table.
+/// Compares one call with an output of this length.
 fn compare(table: &[u8], request: &[u8], room: usize) {
     let (read, _) = read_request(request, 0).expect("a readable request");
-    let before: Vec<u8> = (0..room).map(|at| at as u8 ^ 0xA5).collect();
-    let mut out = before.clone();
-    let answer = ask(table, request, &mut out);
-    let mut expected = before;
-    let expected_answer = match read.run(table, room) {
-        Ok(result) => {
-            expected[..result.len()].copy_from_slice(&result);
-            Ok(result.len())
-        }
-        Err(refusal) => Err(told(refusal)),
-    };
-    let context = || format!("table {table:02X?}, request {request:02X?}, room {room}");
-    assert_eq!(answer, expected_answer, "{}", context());
-    assert!(out == expected, "the output differs: {}", context());
+    let context = || format!("table {table:02X?}, request {request:02X?}");
+    common::compare(|out| ask(table, request, out), read.run(table, room), room, context);
 }
 
 /// Lengths around the result's, and far from it.

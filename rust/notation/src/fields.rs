@@ -47,3 +47,14 @@ pub fn is_letter(byte: u8) -> bool {
 pub fn fields_of(mark: &str) -> Option<&'static [Field]> {
     RECORDS.iter().find(|(known, _)| *known == mark).map(|(_, fields)| *fields)
 }
+
+/// How many bytes a record with this mark has at least, if it marks a record; only the bytes of a
+/// text are not counted.
+pub fn least_length(mark: &str) -> Option<usize> {
+    let length = |field: &Field| match field {
+        Letter => 1,
+        Number | Text => 2,
+        Point => 4,
+    };
+    Some(mark.len() + fields_of(mark)?.iter().map(length).sum::<usize>())
+}

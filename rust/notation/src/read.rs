@@ -30,8 +30,16 @@ impl fmt::Display for Mistake {
 
 /// The job that a text says.
 pub fn read(text: &str) -> Result<Job, Mistake> {
+    read_from(text, false)
+}
+
+/// The requests that a text says, with no table before them.
+pub fn read_requests(text: &str) -> Result<Vec<Request>, Mistake> {
+    read_from(text, true).map(|job| job.requests)
+}
+
+fn read_from(text: &str, mut table_ended: bool) -> Result<Job, Mistake> {
     let mut job = Job::default();
-    let mut table_ended = false;
     for (index, line) in text.lines().enumerate() {
         let mistake = |(column, what): Fault| Mistake { line: index + 1, column, what };
         let words = words(line).map_err(mistake)?;

@@ -1,6 +1,8 @@
 //! Lines to bytes and bytes to lines.
 
-use notation::{from_hexadecimal, job, read, records, Job, Line, Request};
+use notation::{
+    from_hexadecimal, job, least_length, read, read_requests, records, Job, Line, Request,
+};
 
 /// The printed job of document 01, and a request of each other operation.
 const LINES: &str = r#"UN Y
@@ -48,6 +50,23 @@ fn each_request_is_read_and_shown() {
     assert_eq!(requests(behind), expected);
     assert_eq!(read(LINES), Ok(Job { table: table.to_vec(), requests: expected }));
     assert_eq!(texts(job(BYTES)), LINES.lines().collect::<Vec<_>>());
+}
+
+/// A list of requests with no table: they are those of a job.
+#[test]
+fn requests_are_read_alone() {
+    let (_, behind) = LINES.split_once("UE\n").unwrap();
+    assert_eq!(read_requests(behind), Ok(read(LINES).unwrap().requests));
+    assert_eq!(read_requests("# none\n"), Ok(vec![]));
+    let mistake = read_requests("\nUN Y\n").unwrap_err();
+    assert_eq!(mistake.to_string(), "line 2, column 1: UN stands behind the table");
+}
+
+#[test]
+fn lengths_of_records() {
+    let lengths = ["UN", "UE", "SG", "IG", "TX", "CP", "IE", "SM", "EM"].map(least_length);
+    assert_eq!(lengths, [3, 2, 6, 4, 4, 6, 12, 5, 4].map(Some));
+    assert_eq!(least_length("SP"), None);
 }
 
 /// Of a content, offsets count from its own first byte.

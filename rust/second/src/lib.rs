@@ -5,12 +5,14 @@
 
 pub mod desk;
 pub mod generate;
+pub mod lines;
 pub mod operations;
 pub mod record;
 pub mod rejoin;
 pub mod rules;
 pub mod table;
 pub mod tally;
+pub mod xml;
 
 /// "refused with a number and a place".
 #[derive(Clone, Copy, Debug, PartialEq, Eq)]

@@ -28,16 +28,20 @@ impl Tally {
         }
     }
 
-    /// One line for each answer with its count and share of all lines.
-    pub fn report(&self) -> String {
+    /// A line for each answer with its count and share of all lines: tables if there are any,
+    /// accepted, refused by each of these numbers.
+    pub fn report(&self, numbers: impl IntoIterator<Item = u16>) -> String {
         let refused: usize = self.refused.values().sum();
         let all = self.accepted + self.tables + refused;
         let line = |name: String, count: usize| {
             format!("  {name:<16}{count:>8}{:>8.2} %\n", 100.0 * count as f64 / all.max(1) as f64)
         };
-        let mut report = line("table printed".into(), self.tables);
+        let mut report = String::new();
+        if self.tables > 0 {
+            report += &line("table printed".into(), self.tables);
+        }
         report += &line("accepted".into(), self.accepted);
-        for number in 1..=21 {
+        for number in numbers {
             let count = self.refused.get(&number).copied().unwrap_or(0);
             report += &line(format!("refused {number}"), count);
         }

@@ -13,6 +13,7 @@ mod set_target;
 mod source;
 mod target;
 mod unit;
+mod xml;
 
 use crate::rules::check;
 
@@ -20,6 +21,10 @@ pub use cuts::every_cut;
 pub use random::Random;
 pub use rejoin::splits_undone;
 pub use unit::{drafted, valid_table};
+pub use xml::{
+    deep_unit, spelled_unit, valid_unit, xml_job, xml_neighbours, XmlJob, XmlKind, XmlOperation,
+    ENOUGH, SMALL_TEXT,
+};
 
 #[derive(Clone, Copy, Debug, PartialEq, Eq)]
 pub enum Kind {

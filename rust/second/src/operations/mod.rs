@@ -56,7 +56,7 @@ impl Operation {
 }
 
 /// "15 is an output too short for the result, or a result beyond a limit above."
-fn hand_out(unit: &Unit, room: usize) -> Outcome {
+pub fn hand_out(unit: &Unit, room: usize) -> Outcome {
     let result = unit.write();
     let beyond = unit.parts.len() > MOST_PARTS
         || unit.records().len() > MOST_RECORDS

@@ -2,24 +2,30 @@
 
 use std::path::PathBuf;
 
-pub const USAGE: &str = "differential DESK_PROGRAM [--jobs N] [--seed S] [--vectors FILE]..";
+pub const USAGE: &str = "differential DESK_PROGRAM [--jobs N] [--seed S] [--vectors FILE]..\n\
+    differential lines DESKJOB_PROGRAM [--jobs N] [--seed S]";
 
 pub struct Arguments {
     pub program: PathBuf,
+    /// The program answers lines of the line protocol.
+    pub lines: bool,
     pub jobs: usize,
     pub seed: u64,
     pub vectors: Vec<PathBuf>,
 }
 
-pub fn read(mut words: impl Iterator<Item = String>) -> Result<Arguments, String> {
-    let program = PathBuf::from(words.next().ok_or("no desk program named")?);
-    let mut arguments = Arguments { program, jobs: 10_000, seed: 20_260_101, vectors: Vec::new() };
+pub fn read(words: impl Iterator<Item = String>) -> Result<Arguments, String> {
+    let mut words = words.peekable();
+    let lines = words.next_if(|word| word == "lines").is_some();
+    let program = PathBuf::from(words.next().ok_or("no program named")?);
+    let (jobs, seed, vectors) = (10_000, 20_260_101, Vec::new());
+    let mut arguments = Arguments { program, lines, jobs, seed, vectors };
     while let Some(option) = words.next() {
         let value = words.next().ok_or(format!("{option} without a value"))?;
         match option.as_str() {
             "--jobs" => arguments.jobs = number(&value)?,
             "--seed" => arguments.seed = number(&value)?,
-            "--vectors" => arguments.vectors.push(PathBuf::from(value)),
+            "--vectors" if !lines => arguments.vectors.push(PathBuf::from(value)),
             _ => return Err(format!("unknown option {option}")),
         }
     }

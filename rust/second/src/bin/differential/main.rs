@@ -1,8 +1,10 @@
 //! Compares a desk program with the second implementation on seeded jobs, and with the vectors
-//! of a file. Ends with 0 if all agree, 1 at the first difference, 2 if it cannot compare.
+//! of a file; or, as `differential lines`, a program that answers lines. Ends with 0 if all agree,
+//! 1 at the first difference, 2 if it cannot compare.
 
 mod arguments;
 mod compare;
+mod lines;
 mod vectors;
 
 use std::process::ExitCode;
@@ -22,6 +24,9 @@ fn main() -> ExitCode {
             return ExitCode::from(2);
         }
     };
+    if arguments.lines {
+        return lines::compare(&arguments);
+    }
     let vectors = match vectors::read_all(&arguments.vectors) {
         Ok(vectors) => vectors,
         Err(error) => {
@@ -120,7 +125,7 @@ impl Results {
         println!("  {:<34}{cuts:>6}", "small units, cut at every position");
         println!("  {:<34}{undone:>6}", "lists of splits undone in reverse");
         println!("answers, of all printed lines (of a job at most the first 100):");
-        print!("{}", self.tally.lock().unwrap().report());
+        print!("{}", self.tally.lock().unwrap().report(1..=21));
         if !arguments.vectors.is_empty() {
             println!("vectors: {vectors} passed");
         }

@@ -1,0 +1,71 @@
+//! The jobs of `examples/`, and README.md, which shows them and what they give.
+
+use deskjob::commands::{self, End, Shown};
+use deskjob::job::Job;
+
+const README: &str = include_str!("../../../README.md");
+const DOOR: &str = include_str!("../examples/door.txt");
+const DOOR_XML: &str = include_str!("../examples/door.xml");
+const DOOR_REQUESTS: &str = include_str!("../examples/door-requests.txt");
+const DOOR_BROKEN_XML: &str = include_str!("../examples/door-broken.xml");
+
+fn job(text: &str) -> Job {
+    Job::read(text.into()).unwrap()
+}
+
+fn with_requests(text: &str, requests: &str) -> Job {
+    let mut job = job(text);
+    job.add_requests(requests.into()).unwrap();
+    job
+}
+
+/// README.md shows the text, set in.
+fn readme_has(text: &str) {
+    let block: Vec<String> =
+        text.lines().map(|line| format!("    {line}").trim_end().to_string()).collect();
+    assert!(README.contains(&block.join("\n")), "README.md has not:\n{}", block.join("\n"));
+}
+
+#[test]
+fn the_readme_is_true() {
+    readme_has(DOOR);
+    let shown = commands::run(&job(DOOR)).text;
+    let (answers, _) = shown.split_once("\nthe table:").unwrap();
+    readme_has(answers);
+    readme_has(DOOR_XML);
+    let blamed = commands::check(&job(DOOR_BROKEN_XML));
+    assert_eq!(blamed.end, End::Refused);
+    readme_has(&blamed.text);
+    let Shown { text, .. } = commands::xml(&job("UN Y\nSG 1 - I\nTX \"A. B\"\nUE\n"));
+    readme_has(&text);
+}
+
+/// The unit in XML and the list of requests are the job in notation.
+#[test]
+fn the_unit_in_xml_is_the_table() {
+    let (xml, notation) = (with_requests(DOOR_XML, DOOR_REQUESTS), job(DOOR));
+    assert_eq!(xml.unit.table(), notation.unit.table());
+    assert_eq!(xml.requests, notation.requests);
+    assert_eq!(commands::run(&xml), commands::run(&notation));
+    assert_eq!(commands::show(&xml.unit), commands::show(&notation.unit));
+    assert_eq!(commands::check(&xml), Shown::accepted("OK 64: accepted\n"));
+    assert!(DOOR.ends_with(DOOR_REQUESTS));
+}
+
+/// Where a request is refused no XML is written, but the answers.
+#[test]
+fn the_table_is_written_as_xml() {
+    let mut job = with_requests(DOOR_XML, DOOR_REQUESTS);
+    let refused = commands::xml(&job);
+    assert_eq!(refused.end, End::Refused);
+    assert!(refused.text.contains("\nNO 19 0: ") && !refused.text.contains("<unit"));
+    job.requests.remove(0);
+    let Shown { text, end } = commands::xml(&job);
+    assert_eq!(end, End::Accepted);
+    assert!(text.starts_with("<unit id=\"1\"") && text.ends_with("</target></segment></unit>\n"));
+    // and read again it is the table after the requests
+    let shown = commands::run(&job).text;
+    let (_, after) = shown.split_once("the table:\n").unwrap();
+    assert_eq!(commands::show(&self::job(&text).unit), Shown::accepted(after));
+    assert_eq!(commands::xml(&self::job(&text)), Shown::accepted(text));
+}
