@@ -124,7 +124,12 @@ pub extern "C" fn xliff_desk_rewrite(
 
 // A unit in XML to its table.
 #[no_mangle]
-pub extern "C" fn xliff_desk_read_xml(xml: &[u8], out: &mut [u8], number: &mut u8, value: &mut usize) -> bool
+pub extern "C" fn xliff_desk_read_xml(
+    xml: &[u8],
+    out: &mut [u8],
+    number: &mut u8,
+    value: &mut usize,
+) -> bool
     ensures { λ r. ⌜ Tells (read-xml (now (xml .entry)) (length (now (out .entry)))) r (now (number .exit)) (now (value .exit)) (now (out .entry))
         (now (out .exit)) ⌝ }
 {
@@ -134,7 +139,12 @@ pub extern "C" fn xliff_desk_read_xml(xml: &[u8], out: &mut [u8], number: &mut u
 
 // A table to its unit in XML.
 #[no_mangle]
-pub extern "C" fn xliff_desk_write_xml(table: &[u8], out: &mut [u8], number: &mut u8, value: &mut usize) -> bool
+pub extern "C" fn xliff_desk_write_xml(
+    table: &[u8],
+    out: &mut [u8],
+    number: &mut u8,
+    value: &mut usize,
+) -> bool
     ensures { λ r. ⌜ Tells (write-xml (now (table .entry)) (length (now (out .entry)))) r (now (number .exit)) (now (value .exit)) (now (out .entry))
         (now (out .exit)) ⌝ }
 {

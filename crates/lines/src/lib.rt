@@ -16,7 +16,7 @@ fn digit(n: usize) -> u8
 }
 
 // A number in decimal, at the head of `out`; its length.
-fn put_decimal(out: &mut [u8], n: usize) -> usize
+pub fn put_decimal(out: &mut [u8], n: usize) -> usize
     requires { ⌜ 20 ≤ length (now out) ⌝ }
     ensures { λ r. ⌜ (r ≡ length (decimal n)) × (now (out .exit) ≡ lead (decimal n) (now (out .entry))) × (r ≤ 20) ⌝ }
 {
@@ -66,7 +66,7 @@ pub fn put_line(out: &mut [u8], a: Answer) -> usize
     }
 }
 
-fn hex_digit(d: u8) -> u8
+pub fn hex_digit(d: u8) -> u8
     requires { ⌜ d < 16 ⌝ }
     ensures { λ r. ⌜ r ≡ hex-digit d ⌝ }
 {

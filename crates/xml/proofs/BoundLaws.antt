@@ -51,7 +51,7 @@ pub large-hexadecimal : (any : Bool) (v w size : ℕ) (s : List ℕ) → 0x10FFF
 large-hexadecimal any v w size s p q = large 16 (λ v d h. omega arith) any v w size s p q
 
 -- a number of more than five digits is above 65535
-grows : (n : ℕ) (v : List ℕ) → n ≤ decimal-value n v
+pub grows : (n : ℕ) (v : List ℕ) → n ≤ decimal-value n v
 unfolding decimal-value
 grows n [] = omega arith
 grows n (b ∷ v) = let h = grows (n * 10 + (b - 48)) v in omega arith

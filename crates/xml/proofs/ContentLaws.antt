@@ -12,7 +12,7 @@ use Rattle.xliff.specs.Item.{Item, Content, start, end, form-P, form-S, text, c
 use Rattle.xliff.specs.Encode.{Record, text-run, inline, field-bytes}
 use Rattle.xliff.proofs.lists.Tests.{or-left, or-right, equal-refl}
 use Rattle.xliff.specs.Good.{Each, each-nil, each-cons, GoodIn, GoodContent}
-use Rattle.xliff.proofs.records.Fits.{FitIn, FitContent, bytes-left}
+use Rattle.xliff.proofs.records.Fits.{FitContent, FitIn, bytes-left, two-fits}
 use Rattle.xml.specs.Words.{'pc', 'mrk', Words·all}
 use Rattle.xml.specs.Tokens.{Token, tokens, outside-tags, start-tag, end-tag}
 use Rattle.xml.specs.Elements.{most-depth, end-of-pc, Where, in-content, in-empty, Side, Open, on, or-blame, inline-opened, inline-closed, turn, Read, read, bad, behind, elements}
@@ -20,7 +20,7 @@ use Rattle.xml.specs.Write.{closing-tag, escaped, behind-first, pending,
 use Rattle.xml.proofs.TagLaws.{good-name, opening-read, short-read, closing-read}
 use Rattle.xml.proofs.LetterLaws.{is-letter, letters}
 use Rattle.xml.proofs.TextLaws.{Safe, safe-tag, safe-text, text-read, text-turn}
-use Rattle.xml.proofs.FieldLaws.{two-fits, ref-fits, some-id, numbers, code-letters, Single, Opening}
+use Rattle.xml.proofs.FieldLaws.{ref-fits, some-id, numbers, code-letters, Single, Opening}
 use Rattle.xml.proofs.AnnotationLaws.{mrk-opening}
 use Rattle.xml.proofs.CodeLaws.{pc-opening}
 use Rattle.xml.proofs.ItemLaws.{a-single}
@@ -30,7 +30,7 @@ pub record Reads (w : Where) (t : List ℕ) (rs : List Record) (w′ : Where) (s
   pub reads : (at : ℕ)
       → (at′ : ℕ) × (elements w (tokens outside-tags 0 at t) ≡ behind rs (elements w′ (tokens outside-tags 0 at′ s)))
 
-behind-append : (rs qs : List Record) (r : Read) → behind rs (behind qs r) ≡ behind (rs ++ qs) r
+pub behind-append : (rs qs : List Record) (r : Read) → behind rs (behind qs r) ≡ behind (rs ++ qs) r
 unfolding behind
 behind-append rs qs (read ps) = ap read (sym (append-assoc rs qs ps))
 behind-append rs qs (bad p) = refl

@@ -1,19 +1,19 @@
 -- The numbers and letters of a code, written as attributes, are read back; what an element must be to be read as an
 -- item.
-use Prim.Native.Nat.{ℕ, _/_, _≤_, _<_}
+use Prim.Native.Nat.{ℕ, _≤_, _<_}
 use mathlib.Core.Path.{_≡_, refl}
 use mathlib.Core.Bool.{Bool, true, false}
 use mathlib.Core.List.{List, [], _∷_, _++_}
 use mathlib.Core.Option.{Option, some}
 use native.Mathlib.Omega.{arith}
 use borrow.Author.Tests.{eqb-false, not-true}
-use Rattle.xliff.specs.Bytes.{'F', 'N', 'Y', two, among, Bytes, one-byte}
+use Rattle.xliff.specs.Bytes.{'F', 'N', 'Y', two, among, Bytes}
 use Rattle.xliff.specs.Text.{between}
 use Rattle.xliff.specs.Item.{Item, Fields}
 use Rattle.xliff.specs.Encode.{code-bytes}
 use Rattle.xliff.specs.Parse.{good-id, good-code}
 use Rattle.xliff.proofs.lists.Tests.{and-left, and-right}
-use Rattle.xliff.proofs.records.Fits.{bytes-left, bytes-right}
+use Rattle.xliff.proofs.records.Fits.{bytes-left, bytes-right, two-fits}
 use Rattle.xml.specs.Words.{'copyOf', 'canCopy', 'canDelete', 'canOverlap', 'canReorder', Words·all}
 use Rattle.xml.specs.Tokens.{Attribute, doubled}
 use Rattle.xml.specs.Attributes.{with, yes-no, yes-first-no, code-fields}
@@ -29,13 +29,6 @@ pub record Numbers (f : Fields) : Type 0 where
   pub id : f .id < 65536
   pub copyOf : f .copyOf < 65536
   pub dataRef : f .dataRef < 65536
-
-first-byte : {b : ℕ} {s : List ℕ} → Bytes (b ∷ s) → b < 256
-first-byte (one-byte p h) = p
-
-pub two-fits : (n : ℕ) → Bytes (two n) → n < 65536
-unfolding two
-two-fits n h = let a : n / 256 < 256 = first-byte h in omega arith
 
 pub ref-fits : (f : Fields) → Bytes (code-bytes f) → f .dataRef < 65536
 unfolding code-bytes

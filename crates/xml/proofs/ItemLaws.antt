@@ -4,9 +4,9 @@ use Rattle.xliff.specs.Bytes.{'-', 'N', 'Y', two}
 use Rattle.xliff.specs.Item.{Item, Content, start, end, form-P, form-S, text, character, standalone, isolated, pair, annotation-start, annotation-end}
 use Rattle.xliff.specs.Encode.{field-bytes}
 use Rattle.xliff.specs.Good.{GoodIn}
-use Rattle.xliff.proofs.records.Fits.{FitIn, bytes-left}
+use Rattle.xliff.proofs.records.Fits.{FitIn, bytes-left, two-fits}
 use Rattle.xml.specs.Write.{item-text}
-use Rattle.xml.proofs.FieldLaws.{two-fits, some-id, numbers, code-letters, Single}
+use Rattle.xml.proofs.FieldLaws.{some-id, numbers, code-letters, Single}
 use Rattle.xml.proofs.CodeLaws.{cp-single, ph-single, is-single, ie-single, sc-single, ec-single}
 use Rattle.xml.proofs.AnnotationLaws.{sm-single, em-single}
 

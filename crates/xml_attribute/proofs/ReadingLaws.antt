@@ -18,7 +18,12 @@ use Rattle.xml_attribute.specs.Attribute.{short-form, tag-tokens, whole-
 pub carry : (s : List ℕ) (st st′ : Tag → State) (i j : ℕ) (r : Next) → i ≤ j
     → ((t : Tag) → tokens-at s (st t) i ≡ tokens-at s (st′ t) j) → Reading s st′ j r → Reading s st i r
 carry s st st′ i j (One a) l e r =
-    record { ahead = let h = r .ahead in omega arith; inside = r .inside; same = λ t. e t ∙ r .same t }
+    record {
+      place = r .place;
+      ahead = let h = r .ahead in omega arith;
+      inside = r .inside;
+      same = λ t. e t ∙ r .same t;
+    }
 carry s st st′ i j (End k short) l e r =
     record { ahead = let h = r .ahead in omega arith; inside = r .inside; same = λ t. e t ∙ r .same t }
 carry s st st′ i j Short l e r = λ t. e t ∙ r t

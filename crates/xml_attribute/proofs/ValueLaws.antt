@@ -16,17 +16,22 @@ use Rattle.xml_values.specs.Blanks.{BlanksEnd}
 use Rattle.xml_values.specs.Values.{ValueEnds, value-codes}
 use Rattle.xml_attribute.specs.declared.AttributeAt.{AttributeAt}
 use Rattle.xml_attribute.specs.declared.Next.the-variants.{One}
-use Rattle.xml_attribute.specs.Attribute.{tag-with, OneRead}
+use Rattle.xml_attribute.specs.Attribute.{attribute-of, tag-with, AttributeIn, OneRead}
 use Rattle.xml_attribute.proofs.ReadingLaws.{carry}
 
 -- the value, and its second quote
-value-read : (s : List ℕ) (a : AttributeAt) (q j : ℕ) → a .mark ≡ q → a .next ≡ j + 1 → ValueEnds s (a .value) q j
-    → OneRead s (λ t. in-value t (bytes-between s (a .from) (a .upto)) q []) (a .value) a
-unfolding tag-with
-value-read s a q j m e r =
+value-read : (s : List ℕ) (a : AttributeAt) (q j : ℕ) → AttributeIn s a → a .mark ≡ q → a .next ≡ j + 1
+    → ValueEnds s (a .value) q j → OneRead s (λ t. in-value t (bytes-between s (a .from) (a .upto)) q []) (a .value) a
+unfolding tag-with attribute-of
+value-read s a q j place m e r =
     let low = r .low in
     let inside = r .inside in
-    record { ahead = omega arith; inside = omega arith; same = λ t. r .same t name [] ∙ closed t ∙ renamed t }
+    record {
+      place = place;
+      ahead = omega arith;
+      inside = omega arith;
+      same = λ t. r .same t name [] ∙ closed t ∙ renamed t;
+    }
   where
     name : List ℕ
     name = bytes-between s (a .from) (a .upto)
@@ -73,12 +78,13 @@ module _ (s : List ℕ) (i v : ℕ) (b : BlanksEnd s i v) where
           → (n : List ℕ) (t : Tag) → tokens-at s (value-due t n) i ≡ ill t
       value-ill ill r n t = value-quoted n t ∙ r t n []
 
-      pub one-read : (from upto j : ℕ) → ValueEnds s (v + 1) (getD s v 0) j
+      pub one-read : (from upto j : ℕ) → from ≤ upto → upto ≤ length s → ValueEnds s (v + 1) (getD s v 0) j
           → OneRead s (λ t. value-due t (bytes-between s from upto)) i
           (record { from = from; upto = upto; value = v + 1; mark = getD s v 0; next = j + 1 })
-      one-read from upto j r =
+      one-read from upto j l k r =
           let low = b .read .low in
           let name : List ℕ = bytes-between s from upto in
           let a : AttributeAt = record { from = from; upto = upto; value = v + 1; mark = getD s v 0; next = j + 1 } in
           carry s (λ t. value-due t name) (λ t. in-value t name (getD s v 0) []) i (v + 1) (One a) (omega arith)
-          (value-quoted name) (value-read s a (getD s v 0) j refl refl r)
+          (value-quoted name)
+          (value-read s a (getD s v 0) j (record { name-low = l; name-high = k; value-high = omega arith }) refl refl r)

@@ -48,7 +48,7 @@ fn short_end(text: &[u8], at: usize) -> Next
 
 // Behind the = of the attribute whose name stands from `from` to `upto`.
 fn value_at(text: &[u8], from: usize, upto: usize, at: usize) -> Next
-    requires { ⌜ at ≤ length (now text) ⌝ }
+    requires { ⌜ (from ≤ upto) × (upto ≤ length (now text)) × (at ≤ length (now text)) ⌝ }
     ensures { λ r. ⌜ Reading (now (text .entry)) (λ t. value-due t (bytes-between (now (text .entry)) from upto)) at r ⌝ }
 {
     let quoted = blanks_end(text, at);

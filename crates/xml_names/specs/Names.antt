@@ -12,6 +12,11 @@ use Rattle.xml.specs.Places.{tokens-at}
 abbrev pub bytes-between : List ℕ → ℕ → ℕ → List ℕ
 bytes-between s from upto = take (upto - from) (drop from s)
 
+-- a name stands from one place of a text to another
+pub record NameIn (s : List ℕ) (from upto : ℕ) : Type 0 where
+  pub ordered : from ≤ upto
+  pub inside : upto ≤ length s
+
 -- a name of a tag or an attribute that has begun with the bytes a ∷ n goes on from one place to another
 pub record NameRead (s : List ℕ) (from upto : ℕ) : Type 0 where
   pub low : from ≤ upto

@@ -54,7 +54,12 @@ pub start-read : (s : List ℕ) (p i n : ℕ) → i < length s → starts-name (
     → StartRead s (in-name p false []) p i i n
 start-read s p i n h e r =
     let low = r .read .low in
-    record { ahead = omega arith; inside = r .read .high; same = name-read s p i n false h e r }
+    record {
+      name = record { ordered = omega arith; inside = r .read .high };
+      ahead = omega arith;
+      inside = r .read .high;
+      same = name-read s p i n false h e r;
+    }
 
 module _ (s : List ℕ) (p i : ℕ) (h : i < length s) (no-name : starts-name (getD s i 0) ≡ false) where
   pub slash-read : getD s i 0 ≡ '/' → (r : Markup) → Marked s (in-name p true []) p (i + 1) r
@@ -99,6 +104,7 @@ module _ (s : List ℕ) (p i n e : ℕ) (h : i < length s) (is-name : starts-nam
       let lower = b .read .low in
       let name : List ℕ = bytes-between s i n in
       record {
+        name = record { ordered = omega arith; inside = r .read .high };
         ahead = omega arith;
         inside = omega arith;
         same = to-end

@@ -7,7 +7,7 @@ use lib.ListN.{length}
 use Rattle.xml.specs.Characters.{hyphen}
 use Rattle.xml.specs.Tokens.{end-tag, fault, cut-tag, Tag, State, outside-tags, comment, in-tag}
 use Rattle.xml.specs.Places.{tokens-at}
-use Rattle.xml_names.specs.Names.{bytes-between}
+use Rattle.xml_names.specs.Names.{bytes-between, NameIn}
 use Rattle.xml_tag.specs.declared.Markup.{Markup}
 use Rattle.xml_tag.specs.declared.Markup.the-variants.{Start, Close, Comment, Short, Fault}
 
@@ -20,12 +20,14 @@ bare p n = record { place = p; name = n; attributes = [] }
 
 -- the tokens from i on, in a state: a start tag up to its attributes
 pub record StartRead (s : List ℕ) (st : State) (p i from upto : ℕ) : Type 0 where
+  pub name : NameIn s from upto
   pub ahead : i < upto
   pub inside : upto ≤ length s
   pub same : tokens-at s st i ≡ tokens-at s (in-tag (bare p (bytes-between s from upto)) false) upto
 
 -- an end tag
 pub record CloseRead (s : List ℕ) (st : State) (p i from upto next : ℕ) : Type 0 where
+  pub name : NameIn s from upto
   pub ahead : i < next
   pub inside : next ≤ length s
   pub same : tokens-at s st i ≡ end-tag p (bytes-between s from upto) ∷ tokens-at s outside-tags next

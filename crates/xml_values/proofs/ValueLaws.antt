@@ -68,7 +68,7 @@ codes-on s q i c w h e f =
     (codes-skip q w (drop (suc i) s) ∙ ap (value-codes q 0) (drop-drop w (suc i) s)
     ∙ ap (λ (k : ℕ). value-codes q 0 (drop k s)) (let z : suc i + w ≡ i + 1 + w = omega arith in z))
 
-codes-end : (s : List ℕ) (q i : ℕ) → i < length s → getD s i 0 ≡ q → value-codes q 0 (drop i s) ≡ []
+pub codes-end : (s : List ℕ) (q i : ℕ) → i < length s → getD s i 0 ≡ q → value-codes q 0 (drop i s) ≡ []
 unfolding value-codes
 codes-end s q i h e = ap (value-codes q 0) (drop-cons s i 0 h) ∙ rw (eq-eqb (getD s i 0) q e)
 

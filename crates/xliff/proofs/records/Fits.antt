@@ -49,7 +49,7 @@ letters : (s : List ℕ) → small s ≡ true → Bytes s
 letters [] e = no-bytes
 letters (b ∷ s) e = one-byte (ltb-true b 256 (and-left _ _ e)) (letters s (and-right (ltb b 256) _ e))
 
-two-fits : (n : ℕ) → Bytes (two n) → n < 65536
+pub two-fits : (n : ℕ) → Bytes (two n) → n < 65536
 unfolding two
 two-fits n h = let a : n / 256 < 256 = first-byte h in omega arith
 

@@ -168,7 +168,7 @@ unit-runs u p ps e o g =
     by (r ∷ rs) q run = first-part (r .head) _ run
 
 -- the parts of a unit are counted by their heads
-heads-append : (rs qs : List Record) → part-heads (rs ++ qs) ≡ part-heads rs + part-heads qs
+pub heads-append : (rs qs : List Record) → part-heads (rs ++ qs) ≡ part-heads rs + part-heads qs
 unfolding part-heads
 heads-append [] qs = omega arith
 heads-append (r ∷ rs) qs = omega (arith, heads-append rs qs)

@@ -30,13 +30,14 @@ add-next c =
 returns-3 : tie.Need-returns-3
 returns-3 c =
     let after-if1 = c .before .before .before .before .before .before in
-    let args = after-if1 .before .before .before .args in
+    let start = after-if1 .before .before .before in
+    let args = start .args in
     let blanks-end = after-if1 .before .blanks-end in
     let if1 = after-if1 .if1 in
     let if2 = c .before .before .before .before .if2 in
     let value-end = c .before .before .before .value-end in
     one-read (args .text .now) (args .at) (blanks-end .result) (blanks-end .ensures) (if1 .left)
-    (not-false _ (if2 .left)) _ _ _ (rw (c .before .close .given .1) at (value-end .ensures))
+    (not-false _ (if2 .left)) _ _ _ (start .pre .0) (start .pre .1) (rw (c .before .close .given .1) at (value-end .ensures))
 
 -- Ended::Short => Next::Short
 returns-4 : tie.Need-returns-4

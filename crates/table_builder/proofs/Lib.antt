@@ -1,0 +1,3 @@
+pub mod LimitLaws
+pub mod RecordLaws
+pub mod TextLaws

@@ -1,0 +1,4 @@
+pub mod RunLaws
+pub mod StepLaws
+pub mod DepthLaws
+pub mod EndLaws

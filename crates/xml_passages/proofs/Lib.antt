@@ -1,0 +1,3 @@
+pub mod PassageLaws
+pub mod EmptyLaws
+pub mod OuterLaws

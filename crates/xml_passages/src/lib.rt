@@ -1,0 +1,1 @@
+// What is read between two places of a text. No code.

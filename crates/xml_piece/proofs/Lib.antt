@@ -1,0 +1,2 @@
+pub mod CodePointLaws
+pub mod PieceLaws

@@ -1,0 +1,3 @@
+pub mod WordLaws
+pub mod NameLaws
+pub mod ValueLaws

@@ -1,0 +1,4 @@
+pub mod CodeLaws
+pub mod NumberLaws
+pub mod HexadecimalLaws
+pub mod WordLaws

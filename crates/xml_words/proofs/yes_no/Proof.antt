@@ -1,0 +1,44 @@
+use Rattle.xml.specs.Words.{Words·all}
+use Rattle.xml.specs.Attributes.{yes-no, letter-of}
+use Rattle.xml_slots.specs.Slots.{or-bad}
+use mathlib.Core.Path.{sym, _∙_}
+use borrow.Author.Needs.{needs}
+use Rattle.xml_words.proofs.yes_no.Statement.{statement}
+use Rattle.xml_words.proofs.yes_no.Tie as tie
+
+-- return b'Y' as u32
+returns : tie.Need-returns
+unfolding or-bad letter-of yes-no Words·all
+returns c = rw (sym (c .before .value-is .ensures) ∙ c .if1 .taken)
+
+-- return b'N' as u32
+returns-2 : tie.Need-returns-2
+unfolding or-bad letter-of yes-no Words·all
+returns-2 c =
+    let first = c .before .before .before in
+    rw (
+      sym (first .before .value-is .ensures) ∙ first .if1 .left,
+      sym (c .before .value-is2 .ensures) ∙ c .if2 .taken,
+    )
+
+-- BAD
+returns-3 : tie.Need-returns-3
+unfolding or-bad letter-of yes-no Words·all
+returns-3 c =
+    let first = c .before .before .before in
+    rw (
+      sym (first .before .value-is .ensures) ∙ first .if1 .left,
+      sym (c .before .value-is2 .ensures) ∙ c .if2 .left,
+    )
+
+pub yes-no-spec : {M : Type 1} → statement M
+yes-no-spec =
+    tie.close
+    (tie.spec
+    -- by search: slice-aggregate-value-is, value-is-requires, cast-result
+    (λ c. search needs) (λ c κs. search needs) (λ c. search needs)
+    returns
+    -- by search: slice-aggregate-value-is-2, value-is-requires-2, cast-result-2
+    (λ c. search needs) (λ c κs. search needs) (λ c. search needs)
+    returns-2
+    returns-3)
