@@ -1,9 +1,8 @@
 -- An element with content, by its start tag, its content and its end tag.
-use Prim.Native.Nat.{ℕ, _-_, _≤_, _<_}
-use mathlib.Core.Path.{_≡_, refl, sym, ap, subst, _∙_}
+use Prim.Native.Nat.{ℕ, _-_}
+use mathlib.Core.Path.{_≡_, refl, sym, ap, subst}
 use mathlib.Core.Bool.{Bool, true, false}
 use mathlib.Core.List.{List, [], _∷_, _++_}
-use mathlib.Core.Option.{some}
 use native.Mathlib.Omega.{arith}
 use Rattle.xliff.specs.Bytes.{equal}
 use Rattle.xliff.specs.Encode.{Record, inline}
@@ -13,7 +12,6 @@ use Rattle.xliff.proofs.lists.Tests.{equal-refl}
 use Rattle.xliff.proofs.unit.Valid.{heads-append}
 use Rattle.xml.specs.Tokens.{Attribute, Token, start-tag, end-tag}
 use Rattle.table.specs.Meaning.{item}
-use Rattle.table.specs.declared.Item.{Item}
 use Rattle.table_builder.specs.declared.Built.{Built}
 use Rattle.xml_names.specs.Names.{bytes-between}
 use Rattle.xml_attribute.specs.Attribute.{short-form}
@@ -24,10 +22,11 @@ use Rattle.xml_records.specs.Collecting.{Collects}
 use Rattle.xml_records.proofs.CollectLaws.{collects-both}
 use Rattle.xml_element.specs.declared.EndTag.{EndTag}
 use Rattle.xml_element.specs.declared.NestedTag.{NestedTag}
-use Rattle.xml_element.specs.Opens.{end-tokens, EndTagIn, after-tag, NestedRead}
+use Rattle.xml_element.specs.Opens.{end-tokens, after-tag, NestedRead}
 use Rattle.xml_content.specs.Contents.{ElementOn, ContentClosed}
 
-module _ (text : List ℕ) (place : ℕ) (name : List ℕ) (upto depth : ℕ) (tag : NestedTag) (r : NestedRead text place name upto tag) where
+module _ (text : List ℕ) (place : ℕ) (name : List ℕ) (upto depth : ℕ) (tag : NestedTag)
+    (r : NestedRead text place name upto tag) where
   abbrev ats : List Attribute
   ats = r .attributes
 
@@ -79,7 +78,8 @@ module _ (text : List ℕ) (place : ℕ) (name : List ℕ) (upto depth : ℕ) (t
       behind-is = ap (λ (s : Bool). after-tag text s place name ats (tag .next)) long
 
       -- its content is at fault
-      pub content-blames : (p : ℕ) → Blames (depth - 1) (rest-at text (tag .next)) p → Blames depth (tag-at text place name upto) p
+      pub content-blames : (p : ℕ) → Blames (depth - 1) (rest-at text (tag .next)) p
+          → Blames depth (tag-at text place name upto) p
       content-blames p k =
           blames-as depth (tag-at text place name upto) opens p (r .same)
           (nested-blames depth place name ats behind (item (tag .start)) (item (tag .end)) (r .is) deep p
@@ -92,7 +92,8 @@ module _ (text : List ℕ) (place : ℕ) (name : List ℕ) (upto depth : ℕ) (t
         end-name = bytes-between text (end .from) (end .upto)
 
         within : Passage (depth - 1) behind (k .records) (end-tokens text end)
-        within = passage-as (depth - 1) behind (rest-at text (tag .next)) (end-tokens text end) (k .records) behind-is (k .passage)
+        within =
+            passage-as (depth - 1) behind (rest-at text (tag .next)) (end-tokens text end) (k .records) behind-is (k .passage)
 
         pub closed-element : (t₃ : List ℕ) (b₃ : Built) → equal end-name name ≡ true → Collects (last ∷ []) t₂ b₂ t₃ b₃
             → ElementOn text place name upto depth t b (end .next) t₃ b₃

@@ -1,6 +1,6 @@
 -- A content read piece by piece and element by element.
-use Prim.Native.Nat.{ℕ, _-_, _≤_, _<_}
-use mathlib.Core.Path.{_≡_, refl, sym, ap, subst, _∙_}
+use Prim.Native.Nat.{ℕ, _-_, _≤_}
+use mathlib.Core.Path.{_≡_, refl, sym, subst, _∙_}
 use mathlib.Core.Bool.{false}
 use mathlib.Core.List.{List, [], _∷_, _++_}
 use native.Mathlib.Omega.{arith}
@@ -24,7 +24,8 @@ use Rattle.xml_content.specs.Contents.{PieceOn, CloseRead, ElementOn, El
 use Rattle.xml_content.proofs.ElementLaws.{closed-element, other-end}
 
 -- what is read of a content from `start` up to a place
-pub record SoFar (text : List ℕ) (start depth : ℕ) (table₀ : List ℕ) (built₀ : Built) (at : ℕ) (table : List ℕ) (built : Built) : Type 0 where
+pub record SoFar (text : List ℕ) (start depth : ℕ) (table₀ : List ℕ) (built₀ : Built) (at : ℕ) (table : List ℕ)
+    (built : Built) : Type 0 where
   pub records : List Record
   pub no-part : part-heads records ≡ 0
   pub low : start ≤ at
@@ -69,12 +70,14 @@ module _ (text : List ℕ) (start depth : ℕ) (table₀ : List ℕ) (built₀ :
   element-on name upto next table′ built′ goes e k =
       on next table′ built′ (k .records) (k .no-part)
       (record { ahead = omega (arith, goes .ahead, k .goes .ahead); inside = k .goes .inside })
-      (passage-as depth (rest-at text at) (tag-at text at name upto) (rest-at text next) (k .records) e (k .passage)) (k .collects)
+      (passage-as depth (rest-at text at) (tag-at text at name upto) (rest-at text next) (k .records) e (k .passage))
+      (k .collects)
 
   pub at-fault : (p : ℕ) → Blames depth (rest-at text at) p → Blames depth (rest-at text start) p
   at-fault p k = passage-blames depth (rest-at text start) (rest-at text at) (s .records) p (s .passage) k
 
-  pub element-at-fault : (name : List ℕ) (upto p : ℕ) → rest-at text at ≡ tag-at text at name upto → Blames depth (tag-at text at name upto) p
+  pub element-at-fault : (name : List ℕ) (upto p : ℕ) → rest-at text at ≡ tag-at text at name upto
+      → Blames depth (tag-at text at name upto) p
       → Blames depth (rest-at text start) p
   element-at-fault name upto p e k = at-fault p (blames-as depth (rest-at text at) (tag-at text at name upto) p e k)
 
@@ -93,7 +96,8 @@ module _ (text : List ℕ) (start depth : ℕ) (table₀ : List ℕ) (built₀ :
       }
 
 -- the array keeps its length
-pub same-room : (records : List Record) (t t′ : List ℕ) (b b′ : Built) → Collecting t b → Collects records t b t′ b′ → length t′ ≡ length t
+pub same-room : (records : List Record) (t t′ : List ℕ) (b b′ : Built) → Collecting t b → Collects records t b t′ b′
+    → length t′ ≡ length t
 same-room records t t′ b b′ held k =
     k .on (held .read) (held .collected) .holds .room ∙ sym (held .collected .holds .room)
 

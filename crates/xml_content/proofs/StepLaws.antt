@@ -14,9 +14,8 @@ use Rattle.xml_piece.specs.Pieces.{rest-at, PieceRead}
 use Rattle.xml_passages.proofs.PassageLaws.{no-passage, passage-as, blames-as, char-passage, reference-passage, fault-blames, finish-blames, cut-blames, text-fault-blames}
 use Rattle.xml_records.specs.Collecting.{Collects}
 use Rattle.xml_records.proofs.CollectLaws.{collects-none}
-use Rattle.xml_content.specs.declared.Stepped.{Stepped}
 use Rattle.xml_content.specs.declared.Stepped.the-variants.{On, Tag, End as StepEnd, Bad}
-use Rattle.xml_content.specs.Contents.{PieceOn, StepRead}
+use Rattle.xml_content.specs.Contents.{StepRead}
 
 module _ (text : List ℕ) (at : ℕ) (table : List ℕ) (built : Built) (m : Piece) (r : PieceRead text at m) where
   known : {n : Piece} → m ≡ n → PieceRead text at n
@@ -36,11 +35,14 @@ module _ (text : List ℕ) (at : ℕ) (table : List ℕ) (built : Built) (m : Pi
         records = [];
         no-part = unfold part-heads in refl;
         goes = k .0;
-        passage = λ depth. passage-as depth (rest-at text at) (rest-at text next) (rest-at text next) [] (k .1) (no-passage depth (rest-at text next));
+        passage =
+            λ depth. passage-as depth (rest-at text at) (rest-at text next) (rest-at text next) [] (k .1)
+            (no-passage depth (rest-at text next));
         collects = collects-none;
       }
 
-  module _ (table′ : List ℕ) (built′ : Built) (c next : ℕ) (put : Collects (text-run (c ∷ []) ∷ []) table built table′ built′) where
+  module _ (table′ : List ℕ) (built′ : Built) (c next : ℕ)
+      (put : Collects (text-run (c ∷ []) ∷ []) table built table′ built′) where
     pub character-step : m ≡ Character c next → StepRead text at table built table′ (On next built′)
     character-step e =
         let k = known e in

@@ -7,13 +7,13 @@ use native.Mathlib.Omega.{arith}
 use lib.ListN.{length}
 use Rattle.xliff.specs.Bytes.{equal}
 use Rattle.xliff.proofs.lists.Tests.{equal-refl}
-use Rattle.xml.specs.Tokens.{Attribute, Token, end-tag, char, reference, finish, fault, cut-tag, text-fault}
+use Rattle.xml.specs.Tokens.{Token, end-tag, char, reference, finish, fault, cut-tag, text-fault}
 use Rattle.xml.specs.Elements.{in-empty, turn, elements}
 use Rattle.xml_names.specs.Names.{bytes-between}
 use Rattle.xml_attribute.specs.Attribute.{short-form}
 use Rattle.xml_piece.specs.declared.Piece.{Piece}
 use Rattle.xml_piece.specs.declared.Piece.the-variants.{Start, Close, Comment, Character, Reference, CutTag, Fault, TextFault, End}
-use Rattle.xml_piece.specs.Pieces.{rest-at, tag-at, PieceRead}
+use Rattle.xml_piece.specs.Pieces.{rest-at, PieceRead}
 use Rattle.xml_passages.specs.Passages.{Empties, EmptyBlames}
 use Rattle.xml_passages.proofs.EmptyLaws.{empties-as, empty-blames-as, end-empties, other-end-empty, char-empty, reference-empty, finish-empty, fault-empty, cut-empty, text-fault-empty}
 use Rattle.xml_element.specs.declared.Emptied.{Emptied}
@@ -30,13 +30,15 @@ module _ (text name : List ℕ) (start at : ℕ) (s : Passed text start at) (m :
   known : (n : Piece) → m ≡ n → PieceRead text at n
   known n e = subst (PieceRead text at) e r
 
-  blamed : (ts : List Token) (p : ℕ) → rest-at text at ≡ ts → EmptyBlames name ts p → EmptyRead text name start (rest-at text start) (Bad p)
+  blamed : (ts : List Token) (p : ℕ) → rest-at text at ≡ ts → EmptyBlames name ts p
+      → EmptyRead text name start (rest-at text start) (Bad p)
   blamed ts p e k = empty-blames-as name (rest-at text start) ts p (s .same ∙ e) k
 
   pub inner-tag : (from upto : ℕ) → m ≡ Start from upto → upto ≤ length text
   inner-tag from upto e = known (Start from upto) e .1 .inside
 
-  pub tag-blamed : (from upto p : ℕ) → m ≡ Start from upto → TagBlamed text at upto p → EmptyRead text name start (rest-at text start) (Bad p)
+  pub tag-blamed : (from upto p : ℕ) → m ≡ Start from upto → TagBlamed text at upto p
+      → EmptyRead text name start (rest-at text start) (Bad p)
   unfolding EmptyBlames TagBlamed turn
   tag-blamed from upto p e k side opens =
       ap (elements (in-empty side opens name)) (s .same ∙ known (Start from upto) e .2)
@@ -68,7 +70,8 @@ module _ (text name : List ℕ) (start at : ℕ) (s : Passed text start at) (m :
 
   pub reference-blamed : (c next : ℕ) → m ≡ Reference c next → EmptyRead text name start (rest-at text start) (Bad at)
   reference-blamed c next e =
-      blamed (reference at c ∷ rest-at text next) at (known (Reference c next) e .1 .same) (reference-empty name at (rest-at text next) c)
+      blamed (reference at c ∷ rest-at text next) at (known (Reference c next) e .1 .same)
+      (reference-empty name at (rest-at text next) c)
 
   pub cut-at-end : m ≡ CutTag → EmptyRead text name start (rest-at text start) (Bad (length text))
   cut-at-end e = blamed (cut-tag at (length text) ∷ []) (length text) (known CutTag e) (cut-empty name at [] (length text))
@@ -83,7 +86,8 @@ module _ (text name : List ℕ) (start at : ℕ) (s : Passed text start at) (m :
   text-ends e = blamed (finish at ∷ []) at (known End e) (finish-empty name at [])
 
 -- the end of an empty element, in the short form and in the long
-pub short-end : (text name : List ℕ) (next : ℕ) (short : Bool) → next ≤ length text → short ≡ true → SingleRead text name next short (On next)
+pub short-end : (text name : List ℕ) (next : ℕ) (short : Bool) → next ≤ length text → short ≡ true
+    → SingleRead text name next short (On next)
 unfolding SingleRead short-form
 short-end text name next short h e place ats = (
   omega arith,

@@ -3,24 +3,21 @@ use Prim.Native.Nat.{ℕ}
 use mathlib.Core.Path.{_≡_, refl, sym, ap, subst, _∙_}
 use mathlib.Core.Bool.{Bool}
 use mathlib.Core.List.{List, [], _∷_}
-use mathlib.Core.Option.{Option, none, some}
 use native.Mathlib.Omega.{arith}
 use lib.ListN.{length}
-use Rattle.xliff.specs.Encode.{Record, inline}
+use Rattle.xliff.specs.Encode.{inline}
 use Rattle.xliff.specs.Good.{part-heads}
 use Rattle.xliff.specs.Parse.{is-part}
 use Rattle.xml.specs.Tokens.{Attribute, Token, start-tag, cut-tag}
-use Rattle.xml.specs.Elements as xml
-use Rattle.xml.specs.Elements.{single, nested, inline-of-name, in-content, elements}
+use Rattle.xml.specs.Elements.{inline-of-name, in-content}
 use Rattle.table.specs.Meaning.{item}
 use Rattle.table.specs.declared.Item.{Item}
 use Rattle.table_builder.specs.declared.Built.{Built}
-use Rattle.xml_slots.specs.Slots.{Slotted, SomeSlots, ByAttributes}
+use Rattle.xml_slots.specs.Slots.{ByAttributes}
 use Rattle.xml_elements.specs.declared.Inline.{Inline}
 use Rattle.xml_elements.specs.declared.Inline.the-variants.{Single, Nested, Bad}
 use Rattle.xml_elements.specs.Meanings.{inline-meaning}
-use Rattle.xml_attributes.specs.declared.Tagged.{Tagged}
-use Rattle.xml_attributes.specs.declared.Tagged.the-variants.{Whole, Cut, Fault}
+use Rattle.xml_attributes.specs.declared.Tagged.the-variants.{Cut, Fault}
 use Rattle.xml_attributes.specs.Tags.{WholeTag, TagRead}
 use Rattle.xml_piece.specs.Pieces.{rest-at, tag-at}
 use Rattle.xml_passages.specs.Passages.{Blames}
@@ -28,9 +25,8 @@ use Rattle.xml_passages.proofs.PassageLaws.{passage-as, blames-as, bad-element,
 use Rattle.xml_records.specs.Collecting.{Collects}
 use Rattle.xml_element.specs.declared.Emptied.{Emptied}
 use Rattle.xml_element.specs.declared.Emptied.the-variants.{On as EmptyOn, Bad as EmptyBad}
-use Rattle.xml_element.specs.declared.NestedTag.{NestedTag}
 use Rattle.xml_element.specs.declared.Opened.the-variants.{Single as OneOpened, Nested as NestedOpened, Bad as OpenBad}
-use Rattle.xml_element.specs.Opens.{after-tag, EmptyRead, SingleRead, SingleOn, NestedRead, OpenRead}
+use Rattle.xml_element.specs.Opens.{after-tag, EmptyRead, SingleRead, OpenRead}
 use Rattle.xml_element.proofs.TagLaws.{whole-is}
 
 module _ (text : List ℕ) (place : ℕ) (name : List ℕ) (upto : ℕ) (slots table : List ℕ) (built : Built) where
@@ -64,9 +60,17 @@ module _ (text : List ℕ) (place : ℕ) (name : List ℕ) (upto : ℕ) (slots t
         (bad-element depth place name ats (after-tag text short place name ats next) (is Bad e))
 
     pub nested-open : (x y : Item) → m ≡ Nested x y
-        → OpenRead text place name upto table built table (NestedOpened (record { start = x; end = y; next = next; short = short }))
-    nested-open x y e =
-        (refl, record { attributes = ats; goes = record { ahead = w .ahead; inside = w .inside }; is = is (Nested x y) e; same = same })
+        → OpenRead text place name upto table built table
+        (NestedOpened (record { start = x; end = y; next = next; short = short }))
+    nested-open x y e = (
+      refl,
+      record {
+        attributes = ats;
+        goes = record { ahead = w .ahead; inside = w .inside };
+        is = is (Nested x y) e;
+        same = same;
+      },
+    )
 
     module _ (x : Item) (e : m ≡ Single x) (n : Emptied) (k : SingleRead text name next short n) where
       read-end : (n′ : Emptied) → n ≡ n′ → EmptyRead text name next (after-tag text short place name ats next) n′
@@ -92,4 +96,5 @@ module _ (text : List ℕ) (place : ℕ) (name : List ℕ) (upto : ℕ) (slots t
       pub single-bad : (p : ℕ) → n ≡ EmptyBad p → OpenRead text place name upto table built table (OpenBad p)
       single-bad p f = λ depth.
           blames-as depth (tag-at text place name upto) opens p same
-          (single-blames depth place name ats (after-tag text short place name ats next) (item x) p (is (Single x) e) (read-end (EmptyBad p) f))
+          (single-blames depth place name ats (after-tag text short place name ats next) (item x) p (is (Single x) e)
+          (read-end (EmptyBad p) f))

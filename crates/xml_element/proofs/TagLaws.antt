@@ -1,23 +1,16 @@
 -- A start tag by its attributes: whole, cut or at fault.
 use Prim.Native.Nat.{ℕ}
-use mathlib.Core.Path.{_≡_, refl, ap, _∙_}
+use mathlib.Core.Path.{_≡_, ap, _∙_}
 use mathlib.Core.Bool.{Bool}
 use mathlib.Core.List.{List, [], _∷_}
-use lib.ListN.{length, replicate}
-use Rattle.xml.specs.Tokens.{Attribute, start-tag, cut-tag}
-use Rattle.xml.specs.Attributes.{value-of}
+use lib.ListN.{length}
+use Rattle.xml.specs.Tokens.{start-tag, cut-tag}
 use Rattle.xml.specs.Elements.{elements}
-use Rattle.xml_slots.specs.Slots.{absent, in-slot, slots-of}
 use Rattle.xml_attributes.specs.declared.Tagged.the-variants.{Whole, Cut, Fault}
 use Rattle.xml_attributes.specs.Tags.{WholeTag, TagRead}
 use Rattle.xml_piece.specs.Pieces.{tag-at}
 use Rattle.xml_passages.proofs.PassageLaws.{turns-bad}
 use Rattle.xml_element.specs.Opens.{after-tag, TagBlamed}
-
--- no attribute as yet
-pub empty-slots : replicate 16 absent ≡ slots-of []
-unfolding slots-of in-slot value-of
-empty-slots = refl
 
 module _ (text : List ℕ) (place upto : ℕ) (slots : List ℕ) where
   pub whole-is : (next : ℕ) (short : Bool) (count : ℕ) (w : WholeTag text upto slots next short count) (name : List ℕ)
@@ -25,11 +18,13 @@ module _ (text : List ℕ) (place upto : ℕ) (slots : List ℕ) where
   whole-is next short count w name = w .same place name
 
   -- blamed where no start tag may stand
-  pub whole-blamed : (next : ℕ) (short : Bool) (count : ℕ) → TagRead text upto slots (Whole next short count) → TagBlamed text place upto place
+  pub whole-blamed : (next : ℕ) (short : Bool) (count : ℕ) → TagRead text upto slots (Whole next short count)
+      → TagBlamed text place upto place
   unfolding TagBlamed
   whole-blamed next short count w name v starts cut =
       ap (elements v) (whole-is next short count w name)
-      ∙ turns-bad v (start-tag place name (w .attributes)) (after-tag text short place name (w .attributes) next) place (starts (w .attributes))
+      ∙ turns-bad v (start-tag place name (w .attributes)) (after-tag text short place name (w .attributes) next) place
+      (starts (w .attributes))
 
   pub cut-blamed : TagRead text upto slots Cut → TagBlamed text place upto (length text)
   unfolding TagBlamed

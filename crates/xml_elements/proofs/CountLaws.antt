@@ -17,22 +17,10 @@ use Rattle.xml.specs.Words.{Words·all}
 use Rattle.xml.specs.Tokens.{Attribute, doubled}
 use Rattle.xml.specs.Attributes.{named, only, value-of}
 use Rattle.xml_slots.specs.Slots.{slot-names, absent, in-slot, sound, Slotted, index-of}
+use Rattle.xml_slots.proofs.WordLaws.{suc-eqb}
+use Rattle.xml_slots.proofs.NameLaws.{equal-swap, stands-in, not-there}
 use Rattle.xml_elements.specs.Reading.{name-of, names-of, apart}
 use Rattle.xml_elements.proofs.SlotLaws.{is-there, told-at}
-
-unequal-swap : (s t : List ℕ) → equal s t ≡ false → equal t s ≡ false
-unequal-swap s t h = by (equal t s) refl
-  where
-    by : (b : Bool) → equal t s ≡ b → b ≡ false
-    by true e = sym (equal-refl s) ∙ ap (λ (x : List ℕ). equal s x) (sym (equal-true t s e)) ∙ h
-    by false e = refl
-
-suc-eqb : (m n : ℕ) → eqb (suc m) (suc n) ≡ eqb m n
-suc-eqb m n = by (eqb m n) refl
-  where
-    by : (x : Bool) → eqb m n ≡ x → eqb (suc m) (suc n) ≡ x
-    by true e = eq-eqb (suc m) (suc n) (ap suc (eqb-true m n e))
-    by false e = let apart = eqb-false m n e in ne-eqb (suc m) (suc n) (λ (f : suc m ≡ suc n). apart (omega (arith, f)))
 
 -- how many attributes of these names there are
 abbrev ones : Option (List ℕ) → ℕ
@@ -52,21 +40,13 @@ unfolding value-of
 counted-none [] = refl
 counted-none (n ∷ ns) = let h = counted-none ns in omega arith
 
-abbrev stands-in : List ℕ → List Attribute → Bool
-stands-in m ats = any (λ (b : Attribute). equal m (b .name)) ats
-
-not-there : (m : List ℕ) (ats : List Attribute) → stands-in m ats ≡ false → value-of m ats ≡ none
-unfolding any value-of
-not-there m [] h = refl
-not-there m (b ∷ ats) h = rw (or-left (equal m (b .name)) _ h) (not-there m ats (or-right (equal m (b .name)) _ h))
-
 -- one attribute more: of none of the names, of one of them
 module _ (a : Attribute) (ats : List Attribute) where
   counted-other : (ns : List (List ℕ)) → named ns (a .name) ≡ false → counted ns (a ∷ ats) ≡ counted ns ats
   unfolding named any value-of
   counted-other [] h = refl
   counted-other (n ∷ ns) h =
-      let other : equal n (a .name) ≡ false = unequal-swap (a .name) n (or-left (equal (a .name) n) _ h) in
+      let other : equal n (a .name) ≡ false = equal-swap n (a .name) ∙ or-left (equal (a .name) n) _ h in
       let rest = counted-other ns (or-right (equal (a .name) n) _ h) in
       rw other (omega arith)
 
@@ -86,7 +66,7 @@ module _ (a : Attribute) (ats : List Attribute) where
           let others : any (equal n) ns ≡ false = not-true (any (equal n) ns) (and-left _ _ d) in
           let rest = counted-other ns (rw same others) in
           rw (← same, equal-refl (a .name), fresh) (omega arith)
-      by false e k more = let rest = more k in rw (unequal-swap (a .name) n e) (omega arith)
+      by false e k more = let rest = more k in rw (equal-swap n (a .name) ∙ e) (omega arith)
 
 -- So the attributes of the names are as many as all only where there are no others
 module _ (ns : List (List ℕ)) (d : none-twice ns ≡ true) where

@@ -1,99 +1,28 @@
 -- What the slots tell of a tag's attributes: numbers, letters, and what is absent.
-use Prim.Native.Nat.{ℕ, zero, suc, _+_, _-_, _≤_, _<_}
+use Prim.Native.Nat.{ℕ, zero, suc, _+_, _≤_, _<_}
 use mathlib.Core.Path.{_≡_, refl, sym, ap, _∙_}
-use mathlib.Core.Bool.{Bool, true, false, not, _&&_, cond}
+use mathlib.Core.Bool.{Bool, true, false, cond}
 use mathlib.Core.List.{List, [], _∷_}
 use mathlib.Core.Option.{Option, none, some}
 use native.Mathlib.Omega.{arith}
 use lib.ListN.{length, getD}
-use lib.Dec.{eqb, ltb, leb}
-use borrow.Author.Tests.{eq-eqb, ne-eqb, lt-ltb, le-ltb, leb-true}
-use Rattle.xliff.specs.Bytes.{'F', 'I', 'N', 'R', 'T', 'Y', equal}
-use Rattle.xliff.specs.Text.{between}
-use Rattle.xliff.proofs.lists.Tests.{and-left, and-right}
+use lib.Dec.{eqb}
+use borrow.Author.Tests.{eq-eqb, ne-eqb, lt-ltb, le-ltb}
 use Rattle.xml.specs.Tokens.{Attribute}
-use Rattle.xml.specs.Attributes.{Word, word, with, value-of, all-digits, decimal-value, number, required, optional, upper-hex, hexadecimal, yes-no, yes-first-no, states, letter-of, choice}
+use Rattle.xml.specs.Attributes.{with, value-of, number, required, optional, hexadecimal, yes-no, yes-first-no, states, letter-of, choice}
 use Rattle.xml_slots.specs.Slots.{value-read, bad, absent, or-bad, good, in-slot, slot, slots-of}
+use Rattle.xml_slots.proofs.ValueLaws.{Within, nothing, value, number-within, states-within, yes-first-no-within, yes-no-within, value-within, slot-absent}
 use Rattle.xml_elements.specs.Reading.{name-of, words-of, not-zero}
 
--- a value from `low` on and below `high`, or none
-data Within (low high : ℕ) : Option ℕ → Type 0 where
-  nothing : Within low high none
-  value : {x : ℕ} → low ≤ x → x < high → Within low high (some x)
-
-within-with : (m low high : ℕ) (o : Option ℕ) (f : ℕ → Option ℕ) → Within 0 m o
-    → ((x : ℕ) → x < m → Within low high (f x)) → Within low high (with o f)
-unfolding with
-within-with m low high none f h k = nothing
-within-with m low high (some x) f (value l g) k = k x g
-
-within-cond : (low high : ℕ) (b : Bool) (o p : Option ℕ) → (b ≡ true → Within low high o) → Within low high p
-    → Within low high (cond b o p)
-within-cond low high true o p h k = h refl
-within-cond low high false o p h k = k
-
-within-wider : (low high : ℕ) (o : Option ℕ) → high ≤ bad → Within low high o → Within 0 bad o
-within-wider low high none h nothing = nothing
-within-wider low high (some x) h (value l g) = value {x = x} (omega arith) (omega arith)
-
-range : (low c high : ℕ) → between low c high ≡ true → (low ≤ c) × (c ≤ high)
-unfolding between
-range low c high e = (leb-true low c (and-left _ _ e), leb-true c high (and-right (leb low c) _ e))
-
--- numbers are 1 to 65535, hexadecimal digits four, letters those of the table
-number-within : (v : List ℕ) → Within 1 bad (number v)
-unfolding number
-number-within v =
-    let n : ℕ = decimal-value 0 v in
-    let no-zero : Bool = not (eqb (getD v 0 48) 48) in
-    within-cond 1 bad (all-digits v && (no-zero && between 1 n 65535)) (some n) none
-    (λ e. let (l, h) = range 1 n 65535 (and-right no-zero _ (and-right (all-digits v) _ e)) in value l (omega arith)) nothing
-
-digit-within : (b : ℕ) → Within 0 16 (upper-hex b)
-unfolding upper-hex
-digit-within b =
-    within-cond 0 16 (between 48 b 57) (some (b - 48)) _ (λ e. let (l, h) = range 48 b 57 e in value (omega arith) (omega arith))
-    (within-cond 0 16 (between 65 b 70) (some (b - 55)) none
-    (λ e. let (l, h) = range 65 b 70 e in value (omega arith) (omega arith)) nothing)
-
-hexadecimal-within : (v : List ℕ) → Within 0 bad (hexadecimal v)
-unfolding hexadecimal
-hexadecimal-within [] = nothing
-hexadecimal-within (a ∷ []) = nothing
-hexadecimal-within (a ∷ b ∷ []) = nothing
-hexadecimal-within (a ∷ b ∷ c ∷ []) = nothing
-hexadecimal-within (a ∷ b ∷ c ∷ d ∷ []) =
-    within-with 16 0 bad (upper-hex a) _ (digit-within a) (λ i p.
-    within-with 16 0 bad (upper-hex b) _ (digit-within b) (λ j q.
-    within-with 16 0 bad (upper-hex c) _ (digit-within c) (λ k r.
-    within-with 16 0 bad (upper-hex d) _ (digit-within d) (λ l s. value (omega arith) (omega arith)))))
-hexadecimal-within (a ∷ b ∷ c ∷ d ∷ e ∷ v) = nothing
-
-one-more : (w : Word) (ws : List Word) (v : List ℕ) → 1 ≤ w .letter → w .letter < 256 → Within 1 256 (letter-of ws v)
-    → Within 1 256 (letter-of (w ∷ ws) v)
-unfolding letter-of
-one-more w ws v l h rest = within-cond 1 256 (equal v (w .spelling)) (some (w .letter)) (letter-of ws v) (λ e. value l h) rest
-
-no-more : (v : List ℕ) → Within 1 256 (letter-of [] v)
-unfolding letter-of
-no-more v = nothing
-
+-- the letters of the table
 letter-within : (k : ℕ) (v : List ℕ) → Within 1 256 (letter-of (words-of k) v)
-unfolding words-of states yes-first-no yes-no
+unfolding words-of
 letter-within k v = by (eqb k 8) (eqb k 9)
   where
-    more : (l : ℕ) (w : List ℕ) (ws : List Word) → 1 ≤ l → l < 256 → Within 1 256 (letter-of ws v)
-        → Within 1 256 (letter-of (word w l ∷ ws) v)
-    more l w ws p q rest = one-more (word w l) ws v p q rest
-
     by : (a b : Bool) → Within 1 256 (letter-of (cond a states (cond b yes-first-no yes-no)) v)
-    by true b =
-        more 'I' _ _ (omega arith) (omega arith) (more 'T' _ _ (omega arith) (omega arith)
-        (more 'R' _ _ (omega arith) (omega arith) (more 'F' _ _ (omega arith) (omega arith) (no-more v))))
-    by false true =
-        more 'Y' _ _ (omega arith) (omega arith) (more 'F' _ _ (omega arith) (omega arith)
-        (more 'N' _ _ (omega arith) (omega arith) (no-more v)))
-    by false false = more 'Y' _ _ (omega arith) (omega arith) (more 'N' _ _ (omega arith) (omega arith) (no-more v))
+    by true b = states-within v
+    by false true = yes-first-no-within v
+    by false false = yes-no-within v
 
 -- which kind of value a slot has
 number-slot : (k : ℕ) (v : List ℕ) → k < 7 → value-read k v ≡ number v
@@ -111,27 +40,11 @@ letter-slot k v h =
     by false true = refl
     by false false = refl
 
-value-within : (k : ℕ) (v : List ℕ) → Within 0 bad (value-read k v)
-unfolding value-read words-of
-value-within k v =
-    within-cond 0 bad (ltb k 7) _ _ (λ e. within-wider 1 bad _ (omega arith) (number-within v))
-    (within-cond 0 bad (eqb k 7) _ _ (λ e. hexadecimal-within v)
-    (within-cond 0 bad (eqb k 8) _ _ (λ e. letter-small 8)
-    (within-cond 0 bad (eqb k 9) _ _ (λ e. letter-small 9) (letter-small 10))))
-  where
-    letter-small : (j : ℕ) → Within 0 bad (letter-of (words-of j) v)
-    letter-small j = within-wider 1 256 _ (omega arith) (letter-within j v)
-
 -- a value, as its slot tells it
 good-back : (o : Option ℕ) → Within 0 bad o → good (or-bad o) ≡ o
 unfolding good or-bad
 good-back none nothing = refl
 good-back (some x) (value l h) = rw (lt-ltb x bad h) refl
-
-or-bad-most : (o : Option ℕ) → Within 0 bad o → or-bad o ≤ bad
-unfolding or-bad
-or-bad-most none nothing = omega arith
-or-bad-most (some x) (value l h) = omega arith
 
 pub good-some : (v : ℕ) → v < bad → good v ≡ some v
 unfolding good
@@ -167,10 +80,9 @@ module _ (k : ℕ) where
   told-with (some v) = sym (good-back (value-read k v) (value-within k v))
 
   pub is-there : (v : List ℕ) → eqb (in-slot k (some v)) absent ≡ false
-  unfolding in-slot
   is-there v =
-      let h = or-bad-most (value-read k v) (value-within k v) in
-      ne-eqb _ _ (λ (e : or-bad (value-read k v) ≡ absent). let z : ⊥ = omega (arith, e, h) in z)
+      ne-eqb _ _ (λ (e : in-slot k (some v) ≡ absent).
+      let f : some v ≡ none = slot-absent k (some v) e in let z : _≡_ {A = ℕ} 0 1 = cc in omega arith)
 
   -- a number's slot holds 1 at least; a letter's, and one below 256 where it is good
   some-number : (o : Option (List ℕ)) → k < 7 → 1 ≤ in-slot k o

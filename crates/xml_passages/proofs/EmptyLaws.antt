@@ -5,7 +5,7 @@ use mathlib.Core.Bool.{true, false}
 use mathlib.Core.List.{List, [], _∷_}
 use Rattle.xliff.specs.Bytes.{equal}
 use Rattle.xml.specs.Tokens.{Attribute, Token, start-tag, end-tag, char, reference, finish, fault, cut-tag, text-fault}
-use Rattle.xml.specs.Elements.{Side, Open, in-content, in-empty, turn, bad, elements}
+use Rattle.xml.specs.Elements.{in-content, in-empty, turn, elements}
 use Rattle.xml.proofs.ContentLaws.{behind-nil, turns}
 use Rattle.xml_passages.specs.Passages.{Empties, EmptyBlames}
 use Rattle.xml_passages.proofs.PassageLaws.{turns-bad}
@@ -23,7 +23,8 @@ module _ (name : List ℕ) where
     pub end-empties : (n : List ℕ) → equal n name ≡ true → Empties name (end-tag at n ∷ ts) ts
     unfolding Empties turn
     end-empties n e side opens =
-        turns (in-empty side opens name) (in-content side opens) (end-tag at n) [] ts (rw e refl) ∙ behind-nil (elements (in-content side opens) ts)
+        turns (in-empty side opens name) (in-content side opens) (end-tag at n) [] ts (rw e refl)
+        ∙ behind-nil (elements (in-content side opens) ts)
 
     pub other-end-empty : (n : List ℕ) → equal n name ≡ false → EmptyBlames name (end-tag at n ∷ ts) at
     unfolding EmptyBlames turn

@@ -1,9 +1,9 @@
 -- Tokens outside of contents: blanks, faults, and what each element makes of what is due.
 use Prim.Native.Nat.{ℕ, suc}
-use mathlib.Core.Path.{_≡_, refl, sym, ap, _∙_}
-use mathlib.Core.Bool.{Bool, true, false, _&&_, cond}
+use mathlib.Core.Path.{_≡_, refl, ap, _∙_}
+use mathlib.Core.Bool.{true, false, _&&_}
 use mathlib.Core.List.{List, [], _∷_, _++_}
-use mathlib.Core.Option.{Option, none, some}
+use mathlib.Core.Option.{none, some}
 use Rattle.xliff.specs.Bytes.{equal}
 use Rattle.xliff.specs.Unit.{Opening, Head}
 use Rattle.xliff.specs.Encode.{Record, opening, closing, part-head, target-head}
@@ -11,9 +11,9 @@ use Rattle.xml.specs.Words.{'unit', 'source', 'target'}
 use Rattle.xml.specs.Characters.{is-blank}
 use Rattle.xml.specs.Tokens.{Attribute, Token, start-tag, end-tag, char, reference, finish, fault, cut-tag, text-fault}
 use Rattle.xml.specs.Attributes.{only}
-use Rattle.xml.specs.Elements.{unit-opening, part-of-name, target-order, Due, unit-due, part-due, source-due, target-due, part-end-due, nothing-due, Side, outside, in-content, Turn, on, blame, over, or-blame, opened, closed, finished, cut-short, inline-closed, turn, Read, read, bad, behind, elements}
+use Rattle.xml.specs.Elements.{unit-opening, part-of-name, target-order, Due, unit-due, part-due, source-due, target-due, part-end-due, nothing-due, Side, outside, in-content, blame, or-blame, opened, closed, finished, cut-short, inline-closed, turn, read, bad, behind, elements}
 use Rattle.xml.proofs.ContentLaws.{behind-append, behind-nil, turns}
-use Rattle.xml_passages.specs.Passages.{Passage, Blames, Alike, OuterBlames, Leads}
+use Rattle.xml_passages.specs.Passages.{Alike, OuterBlames, Leads}
 use Rattle.xml_passages.proofs.PassageLaws.{turns-bad}
 
 pub alike-then : (a b c : List Token) → Alike a b → Alike b c → Alike a c
@@ -51,7 +51,8 @@ module _ (at : ℕ) (ts : List Token) where
   outer-text-fault p d = turns-bad (outside d) (text-fault at p) ts at refl
 
 -- steps follow each other
-pub leads-then : (d d′ d″ : Due) (a b c : List Token) (rs qs : List Record) → Leads d a rs d′ b → Leads d′ b qs d″ c → Leads d a (rs ++ qs) d″ c
+pub leads-then : (d d′ d″ : Due) (a b c : List Token) (rs qs : List Record) → Leads d a rs d′ b → Leads d′ b qs d″ c
+    → Leads d a (rs ++ qs) d″ c
 unfolding Leads
 leads-then d d′ d″ a b c rs qs p q = p ∙ ap (behind rs) q ∙ behind-append rs qs (elements (outside d″) c)
 
@@ -65,11 +66,13 @@ pub finish-before : (p : ℕ) (ts : List Token) (d : Due) → finished d p ≡ b
 unfolding turn
 finish-before p ts d e = turns-bad (outside d) (finish p) ts p e
 
-pub cut-before : (at p : ℕ) (ts : List Token) (d : Due) → cut-short d at p ≡ blame p → elements (outside d) (cut-tag at p ∷ ts) ≡ bad p
+pub cut-before : (at p : ℕ) (ts : List Token) (d : Due) → cut-short d at p ≡ blame p
+    → elements (outside d) (cut-tag at p ∷ ts) ≡ bad p
 unfolding turn
 cut-before at p ts d e = turns-bad (outside d) (cut-tag at p) ts p e
 
-pub closed-bad : (at : ℕ) (n : List ℕ) (ts : List Token) (d : Due) → closed d at n ≡ blame at → elements (outside d) (end-tag at n ∷ ts) ≡ bad at
+pub closed-bad : (at : ℕ) (n : List ℕ) (ts : List Token) (d : Due) → closed d at n ≡ blame at
+    → elements (outside d) (end-tag at n ∷ ts) ≡ bad at
 unfolding turn
 closed-bad at n ts d e = turns-bad (outside d) (end-tag at n) ts at e
 
@@ -97,7 +100,8 @@ module _ (at : ℕ) (n : List ℕ) (ats : List Attribute) (ts : List Token) wher
   pub part-opens : (k : ℕ) (h : Head) → part-of-name n ats ≡ some h
       → Leads (part-due k) (start-tag at n ats ∷ ts) (part-head h ∷ []) (source-due (suc k) n) ts
   unfolding Leads turn opened or-blame
-  part-opens k h e = turns (outside (part-due k)) (outside (source-due (suc k) n)) (start-tag at n ats) (part-head h ∷ []) ts (rw e refl)
+  part-opens k h e =
+      turns (outside (part-due k)) (outside (source-due (suc k) n)) (start-tag at n ats) (part-head h ∷ []) ts (rw e refl)
 
   pub bad-part : (k : ℕ) → part-of-name n ats ≡ none → elements (outside (part-due k)) (start-tag at n ats ∷ ts) ≡ bad at
   unfolding opened or-blame
@@ -127,9 +131,11 @@ module _ (at : ℕ) (n : List ℕ) (ats : List Attribute) (ts : List Token) wher
       ≡ behind (target-head q ∷ []) (elements (in-content (target-side k p) []) ts)
   unfolding turn opened or-blame
   target-opens k q p e f =
-      turns (outside (target-due k p)) (in-content (target-side k p) []) (start-tag at n ats) (target-head q ∷ []) ts (rw (e, f) refl)
+      turns (outside (target-due k p)) (in-content (target-side k p) []) (start-tag at n ats) (target-head q ∷ []) ts
+      (rw (e, f) refl)
 
-  pub no-target : (k : ℕ) (p : List ℕ) → equal n 'target' ≡ false → elements (outside (target-due k p)) (start-tag at n ats ∷ ts) ≡ bad at
+  pub no-target : (k : ℕ) (p : List ℕ) → equal n 'target' ≡ false
+      → elements (outside (target-due k p)) (start-tag at n ats ∷ ts) ≡ bad at
   unfolding opened
   no-target k p e = opened-bad at n ats ts (target-due k p) (rw e refl)
 
@@ -143,7 +149,8 @@ pub side-closed : (side : Side) (at : ℕ) (n : List ℕ) (ts : List Token) → 
     → elements (in-content side []) (end-tag at n ∷ ts) ≡ elements (outside (side .behind)) ts
 unfolding turn inline-closed
 side-closed side at n ts e =
-    turns (in-content side []) (outside (side .behind)) (end-tag at n) [] ts (rw e refl) ∙ behind-nil (elements (outside (side .behind)) ts)
+    turns (in-content side []) (outside (side .behind)) (end-tag at n) [] ts (rw e refl)
+    ∙ behind-nil (elements (outside (side .behind)) ts)
 
 pub side-bad : (side : Side) (at : ℕ) (n : List ℕ) (ts : List Token) → equal n (side .name) ≡ false
     → elements (in-content side []) (end-tag at n ∷ ts) ≡ bad at

@@ -1,18 +1,17 @@
 -- Laws of passages: they follow each other, and each token of a content makes one or is at fault.
-use Prim.Native.Nat.{ℕ, suc, _+_, _-_, _≤_, _<_}
+use Prim.Native.Nat.{ℕ, _+_, _-_}
 use mathlib.Core.Path.{_≡_, refl, sym, ap, _∙_}
-use mathlib.Core.Bool.{Bool, true, false, cond}
-use mathlib.Core.List.{List, [], _∷_, _++_, append-assoc}
+use mathlib.Core.Bool.{true, false}
+use mathlib.Core.List.{List, [], _∷_, _++_}
 use mathlib.Core.Option.{Option, none, some}
 use native.Mathlib.Omega.{arith}
 use lib.ListN.{length}
-use lib.Dec.{ltb}
 use borrow.Author.Tests.{lt-ltb, le-ltb}
 use Rattle.xliff.specs.Bytes.{equal}
 use Rattle.xliff.specs.Item.{Item}
 use Rattle.xliff.specs.Encode.{Record, text-run, inline}
 use Rattle.xml.specs.Tokens.{Attribute, Token, start-tag, end-tag, char, reference, finish, fault, cut-tag, text-fault}
-use Rattle.xml.specs.Elements.{most-depth, Inline, single, nested, inline-of-name, Side, Open, Where, in-content, in-empty, on, blame, or-blame, inline-opened, inline-closed, turn, Read, read, bad, behind, elements}
+use Rattle.xml.specs.Elements.{most-depth, Inline, single, nested, inline-of-name, Side, Open, Where, in-content, in-empty, blame, or-blame, inline-opened, inline-closed, turn, bad, behind, elements}
 use Rattle.xml.proofs.ContentLaws.{behind-append, behind-nil, turns}
 use Rattle.xml_passages.specs.Passages.{Passage, Blames, Empties, EmptyBlames}
 
@@ -27,7 +26,8 @@ module _ (depth : ℕ) where
   unfolding Passage
   no-passage a side opens e = sym (behind-nil (elements (in-content side opens) a))
 
-  pub passage-then : (a b c : List Token) (rs qs : List Record) → Passage depth a rs b → Passage depth b qs c → Passage depth a (rs ++ qs) c
+  pub passage-then : (a b c : List Token) (rs qs : List Record) → Passage depth a rs b → Passage depth b qs c
+      → Passage depth a (rs ++ qs) c
   unfolding Passage
   passage-then a b c rs qs p q side opens e =
       p side opens e ∙ ap (behind rs) (q side opens e) ∙ behind-append rs qs (elements (in-content side opens) c)
@@ -48,7 +48,8 @@ module _ (depth : ℕ) where
   module _ (at : ℕ) (ts : List Token) where
     pub char-passage : (c : ℕ) → Passage depth (char at c ∷ ts) (text-run (c ∷ []) ∷ []) ts
     unfolding Passage turn
-    char-passage c side opens e = turns (in-content side opens) (in-content side opens) (char at c) (text-run (c ∷ []) ∷ []) ts refl
+    char-passage c side opens e =
+        turns (in-content side opens) (in-content side opens) (char at c) (text-run (c ∷ []) ∷ []) ts refl
 
     pub reference-passage : (c : ℕ) → Passage depth (reference at c ∷ ts) (text-run (c ∷ []) ∷ []) ts
     unfolding Passage turn
@@ -80,7 +81,8 @@ module _ (depth place : ℕ) (name : List ℕ) (ats : List Attribute) (ts : List
 
   pub bad-element : inline-of-name name ats ≡ none → Blames depth (start-tag place name ats ∷ ts) place
   unfolding Blames or-blame
-  bad-element e side opens h = turns-bad (in-content side opens) (start-tag place name ats) ts place (start-turn side opens none e)
+  bad-element e side opens h =
+      turns-bad (in-content side opens) (start-tag place name ats) ts place (start-turn side opens none e)
 
   -- an empty element, up to its end
   pub single-passage : (x : Item) (b : List Token) → inline-of-name name ats ≡ some (single x) → Empties name ts b
@@ -100,7 +102,8 @@ module _ (depth place : ℕ) (name : List ℕ) (ats : List Attribute) (ts : List
       ∙ ap (behind (inline x ∷ [])) (k side opens)
 
 -- an element with content
-module _ (depth place : ℕ) (name : List ℕ) (ats : List Attribute) (ts : List Token) (x y : Item) (is : inline-of-name name ats ≡ some (nested x y)) where
+module _ (depth place : ℕ) (name : List ℕ) (ats : List Attribute) (ts : List Token) (x y : Item)
+    (is : inline-of-name name ats ≡ some (nested x y)) where
   -- within it
   abbrev inner : List Open → List Open
   inner opens = record { name = name; end-item = y } ∷ opens
@@ -129,7 +132,8 @@ module _ (depth place : ℕ) (name : List ℕ) (ats : List Attribute) (ts : List
         opened-turn side opens h
         ∙ ap (behind (inline x ∷ [])) (k side (inner opens) (omega (arith, h, deep)))
 
-    module _ (rs : List Record) (end : ℕ) (end-name : List ℕ) (b : List Token) (within : Passage (depth - 1) ts rs (end-tag end end-name ∷ b)) where
+    module _ (rs : List Record) (end : ℕ) (end-name : List ℕ) (b : List Token)
+        (within : Passage (depth - 1) ts rs (end-tag end end-name ∷ b)) where
       to-end : (side : Side) (opens : List Open) → length opens + depth ≡ most-depth
           → elements (in-content side opens) (start-tag place name ats ∷ ts)
           ≡ behind (inline x ∷ rs) (elements (in-content side (inner opens)) (end-tag end end-name ∷ b))
@@ -144,7 +148,8 @@ module _ (depth place : ℕ) (name : List ℕ) (ats : List Attribute) (ts : List
       unfolding Passage turn inline-closed
       nested-passage e side opens h =
           to-end side opens h
-          ∙ ap (behind (inline x ∷ rs)) (turns (in-content side (inner opens)) (in-content side opens) (end-tag end end-name) (inline y ∷ []) b (rw e refl))
+          ∙ ap (behind (inline x ∷ rs))
+          (turns (in-content side (inner opens)) (in-content side opens) (end-tag end end-name) (inline y ∷ []) b (rw e refl))
           ∙ behind-append (inline x ∷ rs) (inline y ∷ []) (elements (in-content side opens) b)
 
       pub other-end-blames : equal end-name name ≡ false → Blames depth (start-tag place name ats ∷ ts) end

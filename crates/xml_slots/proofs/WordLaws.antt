@@ -18,7 +18,7 @@ eqb-swap a b = by (eqb b a) refl
     by true e = eq-eqb a b (sym (eqb-true b a e))
     by false e = ne-eqb a b (λ f. eqb-false b a e (sym f))
 
-suc-eqb : (m n : ℕ) → eqb (suc m) (suc n) ≡ eqb m n
+pub suc-eqb : (m n : ℕ) → eqb (suc m) (suc n) ≡ eqb m n
 suc-eqb m n = by (eqb m n) refl
   where
     by : (x : Bool) → eqb m n ≡ x → eqb (suc m) (suc n) ≡ x

@@ -5,7 +5,9 @@ use Rattle.xml_content.proofs.close_element.Tie as tie
 
 -- return Went::On(end.next, put_item(table, built, last))
 returns : tie.Need-returns
-returns c = (refl, sym (c .before .before .before .before .before .ends-name .ensures) ∙ c .before .before .before .before .if1 .taken, c .before .before .put-item .ensures)
+returns c =
+    let at-if = c .before .before .before .before in
+    (refl, sym (at-if .before .ends-name .ensures) ∙ at-if .if1 .taken, c .before .before .put-item .ensures)
 
 -- Went::Bad(end.place)
 returns-2 : tie.Need-returns-2

@@ -9,7 +9,8 @@ put-code-point-requires c κs =
     let start = c .before .before .before .before .before .before .before in
     let args = start .args in
     let piece-at = c .before .before .before .before .piece-at in (
-      character-bound (args .text .now) (args .at) (args .table .now) (args .built) (piece-at .result) (piece-at .ensures) (c .before .before .c .given .1),
+      character-bound (args .text .now) (args .at) (args .table .now) (args .built) (piece-at .result) (piece-at .ensures)
+          (c .before .before .c .given .1),
       start .pre .1,
     )
 
@@ -19,7 +20,8 @@ put-code-point-requires-2 c κs =
     let start = c .before .before .before .before .before .before .before in
     let args = start .args in
     let piece-at = c .before .before .before .before .piece-at in (
-      reference-bound (args .text .now) (args .at) (args .table .now) (args .built) (piece-at .result) (piece-at .ensures) (c .before .before .c2 .given .1),
+      reference-bound (args .text .now) (args .at) (args .table .now) (args .built) (piece-at .result) (piece-at .ensures)
+          (c .before .before .c2 .given .1),
       start .pre .1,
     )
 
@@ -28,21 +30,24 @@ returns : tie.Need-returns
 returns c =
     let args = c .before .before .before .before .before .before .args in
     let piece-at = c .before .before .before .piece-at in
-    start-step (args .text .now) (args .at) (args .table .now) (args .built) (piece-at .result) (piece-at .ensures) (c .before .from .given .1)
+    start-step (args .text .now) (args .at) (args .table .now) (args .built) (piece-at .result) (piece-at .ensures)
+    (c .before .from .given .1)
 
 -- Piece::Close(from, upto, next) => Stepped::End(EndTag ..)
 returns-2 : tie.Need-returns-2
 returns-2 c =
     let args = c .before .before .before .before .before .before .args in
     let piece-at = c .before .before .before .piece-at in
-    close-step (args .text .now) (args .at) (args .table .now) (args .built) (piece-at .result) (piece-at .ensures) (c .before .from2 .given .1)
+    close-step (args .text .now) (args .at) (args .table .now) (args .built) (piece-at .result) (piece-at .ensures)
+    (c .before .from2 .given .1)
 
 -- Piece::Comment(next) => Stepped::On(next, built)
 returns-3 : tie.Need-returns-3
 returns-3 c =
     let args = c .before .before .before .before .before .before .args in
     let piece-at = c .before .before .before .piece-at in
-    comment-step (args .text .now) (args .at) (args .table .now) (args .built) (piece-at .result) (piece-at .ensures) (c .before .next .given .1)
+    comment-step (args .text .now) (args .at) (args .table .now) (args .built) (piece-at .result) (piece-at .ensures)
+    (c .before .next .given .1)
 
 -- Piece::Character(c, next) => Stepped::On(next, put_code_point(table, built, c))
 returns-4 : tie.Need-returns-4
@@ -67,28 +72,32 @@ returns-6 : tie.Need-returns-6
 returns-6 c =
     let args = c .before .before .before .before .before .args in
     let piece-at = c .before .before .piece-at in
-    cut-step (args .text .now) (args .at) (args .table .now) (args .built) (piece-at .result) (piece-at .ensures) (c .enum-told .given .1)
+    cut-step (args .text .now) (args .at) (args .table .now) (args .built) (piece-at .result) (piece-at .ensures)
+    (c .enum-told .given .1)
 
 -- Piece::Fault(place) => Stepped::Bad(place)
 returns-7 : tie.Need-returns-7
 returns-7 c =
     let args = c .before .before .before .before .before .before .args in
     let piece-at = c .before .before .before .piece-at in
-    fault-step (args .text .now) (args .at) (args .table .now) (args .built) (piece-at .result) (piece-at .ensures) (c .before .place .given .1)
+    fault-step (args .text .now) (args .at) (args .table .now) (args .built) (piece-at .result) (piece-at .ensures)
+    (c .before .place .given .1)
 
 -- Piece::TextFault(place) => Stepped::Bad(place)
 returns-8 : tie.Need-returns-8
 returns-8 c =
     let args = c .before .before .before .before .before .before .args in
     let piece-at = c .before .before .before .piece-at in
-    text-fault-step (args .text .now) (args .at) (args .table .now) (args .built) (piece-at .result) (piece-at .ensures) (c .before .place2 .given .1)
+    text-fault-step (args .text .now) (args .at) (args .table .now) (args .built) (piece-at .result) (piece-at .ensures)
+    (c .before .place2 .given .1)
 
 -- Piece::End => Stepped::Bad(at)
 returns-9 : tie.Need-returns-9
 returns-9 c =
     let args = c .before .before .before .before .before .args in
     let piece-at = c .before .before .piece-at in
-    end-step (args .text .now) (args .at) (args .table .now) (args .built) (piece-at .result) (piece-at .ensures) (c .enum-told2 .given .1)
+    end-step (args .text .now) (args .at) (args .table .now) (args .built) (piece-at .result) (piece-at .ensures)
+    (c .enum-told2 .given .1)
 
 pub plain-piece-spec : {M : Type 1} → statement M
 plain-piece-spec =

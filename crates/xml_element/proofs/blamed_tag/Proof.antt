@@ -1,5 +1,6 @@
-use Rattle.xml_element.proofs.TagLaws.{empty-slots, whole-blamed, cut-blamed, fault-blamed}
+use Rattle.xml_element.proofs.TagLaws.{whole-blamed, cut-blamed, fault-blamed}
 use Rattle.xml_attributes.specs.Tags.{TagRead}
+use Rattle.xml_attributes.proofs.SlotLaws.{all-absent}
 use mathlib.Core.Path.{subst}
 use borrow.Author.Needs.{needs}
 use Rattle.xml_element.proofs.blamed_tag.Statement.{statement}
@@ -7,7 +8,7 @@ use Rattle.xml_element.proofs.blamed_tag.Tie as tie
 
 -- read_attributes(text, upto, &mut slots)
 read-attributes-requires : tie.Need-read-attributes-requires
-read-attributes-requires c κs = (c .before .before .pre, empty-slots)
+read-attributes-requires c κs = (c .before .before .pre, all-absent)
 
 -- Tagged::Whole(next, short, count) => place
 returns : tie.Need-returns

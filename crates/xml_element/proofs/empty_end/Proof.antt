@@ -31,7 +31,8 @@ blamed-tag-requires c κs =
     let name = bytes-between text (args .from) (args .upto) in
     let loop = c .before .before .before .before .loop in
     let piece-at = c .before .before .before .piece-at in
-    inner-tag text name (args .start) (loop .at) (loop .inv) (piece-at .result) (piece-at .ensures) _ _ (c .before .name-from .given .1)
+    inner-tag text name (args .start) (loop .at) (loop .inv) (piece-at .result) (piece-at .ensures) _ _
+    (c .before .name-from .given .1)
 
 -- return Emptied::Bad(blamed_tag(text, at, name_upto))
 returns : tie.Need-returns Inv-loop μ-loop
@@ -41,34 +42,47 @@ returns c =
     let name = bytes-between text (args .from) (args .upto) in
     let loop = c .before .before .before .before .before .loop in
     let piece-at = c .before .before .before .before .piece-at in
-    tag-blamed text name (args .start) (loop .at) (loop .inv) (piece-at .result) (piece-at .ensures) _ _ _ (c .before .before .name-from .given .1) (c .blamed-tag .ensures)
+    tag-blamed text name (args .start) (loop .at) (loop .inv) (piece-at .result) (piece-at .ensures) _ _ _
+    (c .before .before .name-from .given .1) (c .blamed-tag .ensures)
 
 -- ends_name(text, from, upto, end)
 ends-name-requires : tie.Need-ends-name-requires Inv-loop μ-loop
 ends-name-requires c κs =
     let start = c .before .before .before .before .before .before in
-    let close = subst (PieceRead (start .args .text .now) (c .before .before .before .before .loop .at)) (c .before .name-from2 .given .1) (c .before .before .before .piece-at .ensures) in
+    let close =
+    subst (PieceRead (start .args .text .now) (c .before .before .before .before .loop .at)) (c .before .name-from2 .given .1)
+    (c .before .before .before .piece-at .ensures) in
     (start .pre .0, close .0)
 
 -- return Emptied::On(next)
 returns-2 : tie.Need-returns-2 Inv-loop μ-loop
 returns-2 c =
-    let args = c .before .before .before .before .before .before .before .before .args in
+    let at-name-from = c .before .before .before in
+    let at-piece-at = at-name-from .before .before in
+    let at-loop = at-piece-at .before in
+    let start = at-loop .before .before in
+    let args = start .args in
     let text = args .text .now in
     let name = bytes-between text (args .from) (args .upto) in
-    let loop = c .before .before .before .before .before .before .loop in
-    let piece-at = c .before .before .before .before .before .piece-at in
-    end-closes text name (args .start) (loop .at) (loop .inv) (piece-at .result) (piece-at .ensures) _ _ _ (c .before .before .before .name-from2 .given .1) (sym (c .before .ends-name .ensures) ∙ c .if1 .taken)
+    let loop = at-loop .loop in
+    let piece-at = at-piece-at .piece-at in
+    end-closes text name (args .start) (loop .at) (loop .inv) (piece-at .result) (piece-at .ensures) _ _ _
+    (at-name-from .name-from2 .given .1) (sym (c .before .ends-name .ensures) ∙ c .if1 .taken)
 
 -- return Emptied::Bad(at): another end tag
 returns-3 : tie.Need-returns-3 Inv-loop μ-loop
 returns-3 c =
-    let args = c .before .before .before .before .before .before .before .before .args in
+    let at-name-from = c .before .before .before in
+    let at-piece-at = at-name-from .before .before in
+    let at-loop = at-piece-at .before in
+    let start = at-loop .before .before in
+    let args = start .args in
     let text = args .text .now in
     let name = bytes-between text (args .from) (args .upto) in
-    let loop = c .before .before .before .before .before .before .loop in
-    let piece-at = c .before .before .before .before .before .piece-at in
-    other-closes text name (args .start) (loop .at) (loop .inv) (piece-at .result) (piece-at .ensures) _ _ _ (c .before .before .before .name-from2 .given .1) (sym (c .before .ends-name .ensures) ∙ c .if1 .left)
+    let loop = at-loop .loop in
+    let piece-at = at-piece-at .piece-at in
+    other-closes text name (args .start) (loop .at) (loop .inv) (piece-at .result) (piece-at .ensures) _ _ _
+    (at-name-from .name-from2 .given .1) (sym (c .before .ends-name .ensures) ∙ c .if1 .left)
 
 -- Piece::Comment(next): a place ahead
 loop-less : tie.Need-loop-less Inv-loop μ-loop
@@ -99,7 +113,8 @@ returns-4 c =
     let name = bytes-between text (args .from) (args .upto) in
     let loop = c .before .before .before .before .loop in
     let piece-at = c .before .before .before .piece-at in
-    character-blamed text name (args .start) (loop .at) (loop .inv) (piece-at .result) (piece-at .ensures) _ _ (c .before .c .given .1)
+    character-blamed text name (args .start) (loop .at) (loop .inv) (piece-at .result) (piece-at .ensures) _ _
+    (c .before .c .given .1)
 
 -- Piece::Reference(c, next) => return Emptied::Bad(at)
 returns-5 : tie.Need-returns-5 Inv-loop μ-loop
@@ -109,7 +124,8 @@ returns-5 c =
     let name = bytes-between text (args .from) (args .upto) in
     let loop = c .before .before .before .before .loop in
     let piece-at = c .before .before .before .piece-at in
-    reference-blamed text name (args .start) (loop .at) (loop .inv) (piece-at .result) (piece-at .ensures) _ _ (c .before .c2 .given .1)
+    reference-blamed text name (args .start) (loop .at) (loop .inv) (piece-at .result) (piece-at .ensures) _ _
+    (c .before .c2 .given .1)
 
 -- Piece::CutTag => return Emptied::Bad(text.len())
 returns-6 : tie.Need-returns-6 Inv-loop μ-loop
@@ -139,7 +155,8 @@ returns-8 c =
     let name = bytes-between text (args .from) (args .upto) in
     let loop = c .before .before .before .before .loop in
     let piece-at = c .before .before .before .piece-at in
-    text-at-fault text name (args .start) (loop .at) (loop .inv) (piece-at .result) (piece-at .ensures) _ (c .before .place2 .given .1)
+    text-at-fault text name (args .start) (loop .at) (loop .inv) (piece-at .result) (piece-at .ensures) _
+    (c .before .place2 .given .1)
 
 -- Piece::End => return Emptied::Bad(at)
 returns-9 : tie.Need-returns-9 Inv-loop μ-loop

@@ -1,7 +1,7 @@
-use Rattle.xml_element.proofs.TagLaws.{empty-slots}
 use Rattle.xml_element.proofs.OpenLaws.{cut-open, fault-open, bad-open, nested-open, single-open, single-bad}
 use Rattle.xml_names.specs.Names.{bytes-between}
 use Rattle.xml_attributes.specs.Tags.{TagRead}
+use Rattle.xml_attributes.proofs.SlotLaws.{all-absent}
 use mathlib.Core.Path.{subst}
 use borrow.Author.Needs.{needs}
 use Rattle.xml_element.proofs.open_element.Statement.{statement}
@@ -9,7 +9,7 @@ use Rattle.xml_element.proofs.open_element.Tie as tie
 
 -- read_attributes(text, upto, &mut slots)
 read-attributes-requires : tie.Need-read-attributes-requires
-read-attributes-requires c κs = (c .before .before .before .pre .0 .inside, empty-slots)
+read-attributes-requires c κs = (c .before .before .before .pre .0 .inside, all-absent)
 
 -- inline_element(&text[from..upto], &slots, count)
 inline-element-requires : tie.Need-inline-element-requires
@@ -26,71 +26,91 @@ inline-element-requires c κs =
 -- single_end(text, from, upto, next, short)
 single-end-requires : tie.Need-single-end-requires
 single-end-requires c κs =
-    let start = c .before .before .before .before .before .before .before .before .before .before .before .before .before .before in
+    let at-next = c .before .before .before .before .before .before .before in
+    let at-read-attributes = at-next .before .before .before in
+    let start = at-read-attributes .before .before .before .before in
     let args = start .args in
     let text = args .text .now in
     let name = bytes-between text (args .from) (args .upto) in
-    let read = c .before .before .before .before .before .before .before .before .before .before .read-attributes in
+    let read = at-read-attributes .read-attributes in
     let slots = read .last .1 .1 .0 in
-    let tagged = subst (TagRead text (args .upto) slots) (c .before .before .before .before .before .before .before .next .given .1) (read .ensures) in
+    let tagged = subst (TagRead text (args .upto) slots) (at-next .next .given .1) (read .ensures) in
     (start .pre .0, tagged .inside)
 
 -- Opened::Single(behind, put_item(table, built, x))
 returns : tie.Need-returns
 returns c =
-    let start = c .before .before .before .before .before .before .before .before .before .before .before .before .before .before .before .before .before .before .before .before .before .before in
+    let at-behind = c .before .before .before .before .before in
+    let at-single-end = at-behind .before .before in
+    let at-x = at-single-end .before .before in
+    let at-inline-element = at-x .before .before in
+    let at-next = at-inline-element .before .before .before .before in
+    let at-read-attributes = at-next .before .before .before in
+    let start = at-read-attributes .before .before .before .before in
     let args = start .args in
     let text = args .text .now in
     let name = bytes-between text (args .from) (args .upto) in
-    let read = c .before .before .before .before .before .before .before .before .before .before .before .before .before .before .before .before .before .before .read-attributes in
+    let read = at-read-attributes .read-attributes in
     let slots = read .last .1 .1 .0 in
-    let tagged = subst (TagRead text (args .upto) slots) (c .before .before .before .before .before .before .before .before .before .before .before .before .before .before .before .next .given .1) (read .ensures) in
-    let inline-element = c .before .before .before .before .before .before .before .before .before .before .before .inline-element in
-    single-open text (args .place) name (args .upto) slots (args .table .now) (args .built) _ _ _ tagged (inline-element .result) (inline-element .ensures)
-    _ (c .before .before .before .before .before .before .before .before .before .x .given .1) (c .before .before .before .before .before .before .before .single-end .result) (c .before .before .before .before .before .before .before .single-end .ensures) _ (c .before .before .put-item .last .0) (c .before .before .put-item .result)
-    (c .before .before .before .before .before .behind .given .1) (c .before .before .put-item .ensures)
+    let tagged = subst (TagRead text (args .upto) slots) (at-next .next .given .1) (read .ensures) in
+    let inline-element = at-inline-element .inline-element in
+    single-open text (args .place) name (args .upto) slots (args .table .now) (args .built) _ _ _ tagged (inline-element .result)
+    (inline-element .ensures) _ (at-x .x .given .1) (at-single-end .single-end .result) (at-single-end .single-end .ensures) _
+    (c .before .before .put-item .last .0) (c .before .before .put-item .result)
+    (at-behind .behind .given .1) (c .before .before .put-item .ensures)
 
 -- Emptied::Bad(blamed) => Opened::Bad(blamed)
 returns-2 : tie.Need-returns-2
 returns-2 c =
-    let start = c .before .before .before .before .before .before .before .before .before .before .before .before .before .before .before .before .before .before in
+    let at-single-end = c .before .before .before in
+    let at-x = at-single-end .before .before in
+    let at-inline-element = at-x .before .before in
+    let at-next = at-inline-element .before .before .before .before in
+    let at-read-attributes = at-next .before .before .before in
+    let start = at-read-attributes .before .before .before .before in
     let args = start .args in
     let text = args .text .now in
     let name = bytes-between text (args .from) (args .upto) in
-    let read = c .before .before .before .before .before .before .before .before .before .before .before .before .before .before .read-attributes in
+    let read = at-read-attributes .read-attributes in
     let slots = read .last .1 .1 .0 in
-    let tagged = subst (TagRead text (args .upto) slots) (c .before .before .before .before .before .before .before .before .before .before .before .next .given .1) (read .ensures) in
-    let inline-element = c .before .before .before .before .before .before .before .inline-element in
-    single-bad text (args .place) name (args .upto) slots (args .table .now) (args .built) _ _ _ tagged (inline-element .result) (inline-element .ensures)
-    _ (c .before .before .before .before .before .x .given .1) (c .before .before .before .single-end .result) (c .before .before .before .single-end .ensures) _ (c .before .blamed .given .1)
+    let tagged = subst (TagRead text (args .upto) slots) (at-next .next .given .1) (read .ensures) in
+    let inline-element = at-inline-element .inline-element in
+    single-bad text (args .place) name (args .upto) slots (args .table .now) (args .built) _ _ _ tagged (inline-element .result)
+    (inline-element .ensures)
+    _ (at-x .x .given .1) (at-single-end .single-end .result) (at-single-end .single-end .ensures) _ (c .before .blamed .given .1)
 
 -- Inline::Nested(x, y) => Opened::Nested(NestedTag ..)
 returns-3 : tie.Need-returns-3
 returns-3 c =
-    let start = c .before .before .before .before .before .before .before .before .before .before .before .before .before .before in
+    let at-inline-element = c .before .before .before in
+    let at-next = at-inline-element .before .before .before .before in
+    let at-read-attributes = at-next .before .before .before in
+    let start = at-read-attributes .before .before .before .before in
     let args = start .args in
     let text = args .text .now in
     let name = bytes-between text (args .from) (args .upto) in
-    let read = c .before .before .before .before .before .before .before .before .before .before .read-attributes in
+    let read = at-read-attributes .read-attributes in
     let slots = read .last .1 .1 .0 in
-    let tagged = subst (TagRead text (args .upto) slots) (c .before .before .before .before .before .before .before .next .given .1) (read .ensures) in
-    let inline-element = c .before .before .before .inline-element in
-    nested-open text (args .place) name (args .upto) slots (args .table .now) (args .built) _ _ _ tagged (inline-element .result) (inline-element .ensures)
-    _ _ (c .before .x2 .given .1)
+    let tagged = subst (TagRead text (args .upto) slots) (at-next .next .given .1) (read .ensures) in
+    let inline-element = at-inline-element .inline-element in
+    nested-open text (args .place) name (args .upto) slots (args .table .now) (args .built) _ _ _ tagged (inline-element .result)
+    (inline-element .ensures) _ _ (c .before .x2 .given .1)
 
 -- Inline::Bad => Opened::Bad(place)
 returns-4 : tie.Need-returns-4
 returns-4 c =
-    let start = c .before .before .before .before .before .before .before .before .before .before .before .before .before in
+    let at-next = c .before .before .before .before .before .before in
+    let at-read-attributes = at-next .before .before .before in
+    let start = at-read-attributes .before .before .before .before in
     let args = start .args in
     let text = args .text .now in
     let name = bytes-between text (args .from) (args .upto) in
-    let read = c .before .before .before .before .before .before .before .before .before .read-attributes in
+    let read = at-read-attributes .read-attributes in
     let slots = read .last .1 .1 .0 in
-    let tagged = subst (TagRead text (args .upto) slots) (c .before .before .before .before .before .before .next .given .1) (read .ensures) in
+    let tagged = subst (TagRead text (args .upto) slots) (at-next .next .given .1) (read .ensures) in
     let inline-element = c .before .before .inline-element in
-    bad-open text (args .place) name (args .upto) slots (args .table .now) (args .built) _ _ _ tagged (inline-element .result) (inline-element .ensures)
-    (c .enum-told .given .1)
+    bad-open text (args .place) name (args .upto) slots (args .table .now) (args .built) _ _ _ tagged (inline-element .result)
+    (inline-element .ensures) (c .enum-told .given .1)
 
 -- Tagged::Cut => Opened::Bad(text.len())
 returns-5 : tie.Need-returns-5

@@ -9,14 +9,15 @@ returns : tie.Need-returns
 returns c =
     let start = c .before .before in
     let args = start .args in
-    short-end (args .text .now) (bytes-between (args .text .now) (args .from) (args .upto)) (args .next) (args .short) (start .pre .1) (c .if1 .taken)
+    short-end (args .text .now) (bytes-between (args .text .now) (args .from) (args .upto)) (args .next) (args .short)
+    (start .pre .1) (c .if1 .taken)
 
 -- empty_end(text, from, upto, next)
 returns-2 : tie.Need-returns-2
 returns-2 c =
     let args = c .before .before .before .args in
-    long-end (args .text .now) (bytes-between (args .text .now) (args .from) (args .upto)) (args .next) (args .short) (c .empty-end .result)
-    (c .before .if1 .left) (c .empty-end .ensures)
+    long-end (args .text .now) (bytes-between (args .text .now) (args .from) (args .upto)) (args .next) (args .short)
+    (c .empty-end .result) (c .before .if1 .left) (c .empty-end .ensures)
 
 pub single-end-spec : {M : Type 1} → statement M
 single-end-spec =
