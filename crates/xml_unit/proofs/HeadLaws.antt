@@ -79,18 +79,17 @@ module _ (text : List ℕ) (place : ℕ) (name : List ℕ) (upto : ℕ) (slots :
         → Collects (part-head x ∷ []) t built t′ built′
         → HeadSteps text upto name (tag-at text place name upto) t built t′ (On next built′)
     unfolding HeadSteps short-form
-    headed x t t′ built built′ f put k =
-        (
-          tag-goes text place name upto slots m r e,
-          record {
-            records = part-head x ∷ [];
-            heads-are = unfold part-heads is-part in refl;
-            leads =
-                leads-as (part-due k) (source-due (suc k) name) (tag-at text place name upto) (opens false) (rest-at text next)
-                (part-head x ∷ []) (whole false long) (part-opens place name ats (rest-at text next) k x f);
-            collects = put;
-          },
-        )
+    headed x t t′ built built′ f put k = (
+      tag-goes text place name upto slots m r e,
+      record {
+        records = part-head x ∷ [];
+        heads-are = unfold part-heads is-part in refl;
+        leads =
+            leads-as (part-due k) (source-due (suc k) name) (tag-at text place name upto) (opens false) (rest-at text next)
+            (part-head x ∷ []) (whole false long) (part-opens place name ats (rest-at text next) k x f);
+        collects = put;
+      },
+    )
 
     pub segment-headed : {f : Segment} (t t′ : List ℕ) (built built′ : Built) → h ≡ ASegment f
         → Collects (part-head (segment (segment-meaning f)) ∷ []) t built t′ built′

@@ -48,19 +48,18 @@ use Rattle.xml_unit.specs.Units.{SideOn, SideSteps, SideRead, Passed, St
 module _ (text : List ℕ) (next : ℕ) (word table : List ℕ) (built : Built) (inside : next ≤ length text) where
   short-form-side : SideRead text next true word table built table (On next built)
   unfolding SideRead short-form
-  short-form-side side place name ats w e =
-      (
-        omega arith,
-        inside,
-        record {
-          records = [];
-          no-part = unfold part-heads in refl;
-          passage =
-              side-closed side place name (rest-at text next) (subst (λ (n : List ℕ). equal name n ≡ true) (sym w) e)
-              ∙ sym (behind-nil (elements (outside (side .behind)) (rest-at text next)));
-          collects = collects-none;
-        },
-      )
+  short-form-side side place name ats w e = (
+    omega arith,
+    inside,
+    record {
+      records = [];
+      no-part = unfold part-heads in refl;
+      passage =
+          side-closed side place name (rest-at text next) (subst (λ (n : List ℕ). equal name n ≡ true) (sym w) e)
+          ∙ sym (behind-nil (elements (outside (side .behind)) (rest-at text next)));
+      collects = collects-none;
+    },
+  )
 
   pub short-side : {short : Bool} → short ≡ true → SideRead text next short word table built table (On next built)
   short-side is = subst (λ (s : Bool). SideRead text next s word table built table (On next built)) (sym is) short-form-side
@@ -94,9 +93,8 @@ module _ (text : List ℕ) (next : ℕ) (word table : List ℕ) (built : Built) 
       let k = known-content e in
       let goes = k .ends .goes in
       let closed =
-          side-closed side (end .place) (bytes-between text (end .from) (end .upto)) (rest-at text (end .next))
-          (subst (λ (n : List ℕ). equal (bytes-between text (end .from) (end .upto)) n ≡ true) (sym w) same) in
-      (
+      side-closed side (end .place) (bytes-between text (end .from) (end .upto)) (rest-at text (end .next))
+      (subst (λ (n : List ℕ). equal (bytes-between text (end .from) (end .upto)) n ≡ true) (sym w) same) in (
         omega (arith, goes .ahead),
         goes .inside,
         record {
@@ -114,8 +112,8 @@ module _ (text : List ℕ) (next : ℕ) (word table : List ℕ) (built : Built) 
   side-other {end} e other side place name ats w f =
       let k = known-content e in
       let bad-end =
-          side-bad side (end .place) (bytes-between text (end .from) (end .upto)) (rest-at text (end .next))
-          (subst (λ (n : List ℕ). equal (bytes-between text (end .from) (end .upto)) n ≡ false) (sym w) other) in
+      side-bad side (end .place) (bytes-between text (end .from) (end .upto)) (rest-at text (end .next))
+      (subst (λ (n : List ℕ). equal (bytes-between text (end .from) (end .upto)) n ≡ false) (sym w) other) in
       to-end k side place name ats ∙ ap (behind (k .records)) bad-end
 
   pub side-at-fault : {p : ℕ} → m ≡ ClosedBad p → SideRead text next short word table built table′ (Bad p)
@@ -130,18 +128,17 @@ module _ (text : List ℕ) (upto next : ℕ) (d : Due) (a b : List Token) (side 
     (put : Collects rs t built t₁ built₁) where
   side-steps : (w : Went) → SideSteps text next side b t₁ built₁ t₂ w → Steps text upto d a 0 (side .behind) t built t₂ w
   unfolding Leads
-  side-steps (On further built₂) (low, high, k) =
-      (
-        record { ahead = omega (arith, goes .ahead, low); inside = high },
-        record {
-          records = rs ++ k .records;
-          heads-are = omega (arith, heads-append rs (k .records), none, k .no-part);
-          leads =
-              opens ∙ ap (behind rs) (k .passage)
-              ∙ behind-append rs (k .records) (elements (outside (side .behind)) (rest-at text further));
-          collects = collects-both put (k .collects);
-        },
-      )
+  side-steps (On further built₂) (low, high, k) = (
+    record { ahead = omega (arith, goes .ahead, low); inside = high },
+    record {
+      records = rs ++ k .records;
+      heads-are = omega (arith, heads-append rs (k .records), none, k .no-part);
+      leads =
+          opens ∙ ap (behind rs) (k .passage)
+          ∙ behind-append rs (k .records) (elements (outside (side .behind)) (rest-at text further));
+      collects = collects-both put (k .collects);
+    },
+  )
   side-steps (Bad p) e = opens ∙ ap (behind rs) e ∙ (unfold behind in refl)
 
 only-none : (ats : List Attribute) → only [] ats ≡ eqb (length ats) 0

@@ -96,16 +96,15 @@ module _ (text : List ℕ) (start : ℕ) (m : Outer) (r : OuterRead text start m
 pub steps-from : (text : List ℕ) (start upto heads : ℕ) (d d′ : Due) (a b : List Token) (t : List ℕ) (built : Built) (t′ : List ℕ)
     → Ahead text start upto → Alike a b → (m : Went) → Steps text upto d b heads d′ t built t′ m
     → Steps text start d a heads d′ t built t′ m
-steps-from text start upto heads d d′ a b t built t′ h k (On next built′) (goes, p) =
-    (
-      record { ahead = omega (arith, h .ahead, goes .ahead); inside = goes .inside },
-      record {
-        records = p .records;
-        heads-are = p .heads-are;
-        leads = alike-leads d d′ a b (rest-at text next) (p .records) k (p .leads);
-        collects = p .collects;
-      },
-    )
+steps-from text start upto heads d d′ a b t built t′ h k (On next built′) (goes, p) = (
+  record { ahead = omega (arith, h .ahead, goes .ahead); inside = goes .inside },
+  record {
+    records = p .records;
+    heads-are = p .heads-are;
+    leads = alike-leads d d′ a b (rest-at text next) (p .records) k (p .leads);
+    collects = p .collects;
+  },
+)
 steps-from text start upto heads d d′ a b t built t′ h k (Bad q) e = alike-bad d a b q k e
 
 -- a step behind another
@@ -113,16 +112,15 @@ module _ (text : List ℕ) (from next heads : ℕ) (d d′ : Due) (a : List Toke
     (goes : Ahead text from next) (p : Passed d a heads t b d′ (rest-at text next) t₁ b₁) where
   pub steps-then : (more : ℕ) (d″ : Due) (t₂ : List ℕ) (m : Went) → Steps text next d′ (rest-at text next) more d″ t₁ b₁ t₂ m
       → Steps text from d a (heads + more) d″ t b t₂ m
-  steps-then more d″ t₂ (On next₂ b₂) (goes₂, p₂) =
-      (
-        record { ahead = omega (arith, goes .ahead, goes₂ .ahead); inside = goes₂ .inside },
-        record {
-          records = p .records ++ p₂ .records;
-          heads-are = omega (arith, heads-append (p .records) (p₂ .records), p .heads-are, p₂ .heads-are);
-          leads = leads-then d d′ d″ a (rest-at text next) (rest-at text next₂) (p .records) (p₂ .records) (p .leads) (p₂ .leads);
-          collects = collects-both (p .collects) (p₂ .collects);
-        },
-      )
+  steps-then more d″ t₂ (On next₂ b₂) (goes₂, p₂) = (
+    record { ahead = omega (arith, goes .ahead, goes₂ .ahead); inside = goes₂ .inside },
+    record {
+      records = p .records ++ p₂ .records;
+      heads-are = omega (arith, heads-append (p .records) (p₂ .records), p .heads-are, p₂ .heads-are);
+      leads = leads-then d d′ d″ a (rest-at text next) (rest-at text next₂) (p .records) (p₂ .records) (p .leads) (p₂ .leads);
+      collects = collects-both (p .collects) (p₂ .collects);
+    },
+  )
   steps-then more d″ t₂ (Bad q) e = leads-bad d d′ a (rest-at text next) (p .records) q (p .leads) e
 
   -- an end tag behind a step

@@ -124,8 +124,8 @@ module _ (text : List ℕ) (start : ℕ) (t₀ : List ℕ) (built₀ : Built) (a
       → PartsRead text start t₀ built₀ next t′ built′ (suc count)
   one-more upto next tag t′ built′ goes k step =
       let here =
-          steps-from text at upto 1 (part-due count) (part-due (suc count)) (rest-at text at) tag t built t′ goes k (On next built′)
-          step in
+      steps-from text at upto 1 (part-due count) (part-due (suc count)) (rest-at text at) tag t built t′ goes k (On next built′)
+      step in
       let p = s .passed in
       let q = here .1 in
       record {

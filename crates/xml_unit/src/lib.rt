@@ -133,7 +133,14 @@ fn side(text: &[u8], next: usize, short: bool, name: &[u8], table: &mut [u8], bu
 }
 
 // The source whose start tag stands at `place`.
-fn source_at(text: &[u8], place: usize, from: usize, upto: usize, table: &mut [u8], built: Built) -> Went
+fn source_at(
+    text: &[u8],
+    place: usize,
+    from: usize,
+    upto: usize,
+    table: &mut [u8],
+    built: Built,
+) -> Went
     requires { ⌜ NameIn (now text) from upto × Collecting (now table) built ⌝ }
     ensures { λ r. ⌜ SourceSteps (now (text .entry)) upto (tag-at (now (text .entry)) place (bytes-between (now (text .entry)) from upto) upto) (now (table .entry)) built (now (table .exit)) r ⌝ }
 {
@@ -162,7 +169,15 @@ fn put_position(table: &mut [u8], built: Built, position: usize) -> Built
 }
 
 // The target whose start tag stands at `place`, of the part at this position.
-fn target_at(text: &[u8], place: usize, from: usize, upto: usize, table: &mut [u8], built: Built, position: usize) -> Went
+fn target_at(
+    text: &[u8],
+    place: usize,
+    from: usize,
+    upto: usize,
+    table: &mut [u8],
+    built: Built,
+    position: usize,
+) -> Went
     requires { ⌜ NameIn (now text) from upto × CollectingAt position (now table) built ⌝ }
     ensures { λ r. ⌜ TargetSteps (now (text .entry)) upto position (tag-at (now (text .entry)) place (bytes-between (now (text .entry)) from upto) upto) (now (table .entry)) built (now (table .exit)) r ⌝ }
 {
@@ -195,7 +210,11 @@ fn part_end(text: &[u8], start: usize, from: usize, upto: usize) -> Emptied
     ensures { λ r. ⌜ PartEnds (now (text .entry)) start (bytes-between (now (text .entry)) from upto) r ⌝ }
 {
     match outer_at(text, start) {
-        Outer::Start(place, name_from, name_upto) => Emptied::Bad(blamed_tag(text, place, name_upto)),
+        Outer::Start(place, name_from, name_upto) => Emptied::Bad(blamed_tag(
+            text,
+            place,
+            name_upto,
+        )),
         Outer::Close(end) => {
             if ends_name(text, from, upto, end) {
                 return Emptied::On(end.next);
@@ -209,7 +228,15 @@ fn part_end(text: &[u8], start: usize, from: usize, upto: usize) -> Emptied
 }
 
 // Behind the source of a part whose name stands from one place to the other: its target, if there is one, and its end.
-fn behind_source(text: &[u8], start: usize, from: usize, upto: usize, table: &mut [u8], built: Built, position: usize) -> Went
+fn behind_source(
+    text: &[u8],
+    start: usize,
+    from: usize,
+    upto: usize,
+    table: &mut [u8],
+    built: Built,
+    position: usize,
+) -> Went
     requires { ⌜ (start ≤ length (now text)) × NameIn (now text) from upto × CollectingAt position (now table) built ⌝ }
     ensures { λ r. ⌜ Steps (now (text .entry)) start (target-due position (bytes-between (now (text .entry)) from upto)) (rest-at (now (text .entry)) start) 0 (part-due position) (now (table .entry)) built (now (table .exit)) r ⌝ }
 {
@@ -272,13 +299,29 @@ fn head(text: &[u8], place: usize, from: usize, upto: usize, table: &mut [u8], b
 }
 
 // The part whose start tag stands at `place`, with so many parts before it.
-fn part(text: &[u8], place: usize, from: usize, upto: usize, table: &mut [u8], built: Built, before: usize) -> Went
+fn part(
+    text: &[u8],
+    place: usize,
+    from: usize,
+    upto: usize,
+    table: &mut [u8],
+    built: Built,
+    before: usize,
+) -> Went
     requires { ⌜ NameIn (now text) from upto × (before < upto) × CollectingAt before (now table) built ⌝ }
     ensures { λ r. ⌜ Steps (now (text .entry)) upto (part-due before) (tag-at (now (text .entry)) place (bytes-between (now (text .entry)) from upto) upto) 1 (part-due (suc before)) (now (table .entry)) built (now (table .exit)) r ⌝ }
 {
     match head(text, place, from, upto, table, built) {
         Went::On(next, headed) => match source_of(text, next, table, headed) {
-            Went::On(behind, sourced) => behind_source(text, behind, from, upto, table, sourced, before + 1),
+            Went::On(behind, sourced) => behind_source(
+                text,
+                behind,
+                from,
+                upto,
+                table,
+                sourced,
+                before + 1,
+            ),
             Went::Bad(at) => Went::Bad(at),
         },
         Went::Bad(at) => Went::Bad(at),
@@ -352,7 +395,14 @@ fn parts(text: &[u8], start: usize, table: &mut [u8], built: Built) -> ReadText
 }
 
 // The unit whose start tag stands at `place`.
-fn unit(text: &[u8], place: usize, from: usize, upto: usize, table: &mut [u8], built: Built) -> ReadText
+fn unit(
+    text: &[u8],
+    place: usize,
+    from: usize,
+    upto: usize,
+    table: &mut [u8],
+    built: Built,
+) -> ReadText
     requires { ⌜ NameIn (now text) from upto × CollectingAt 0 (now table) built ⌝ }
     ensures { λ r. ⌜ Finishes unit-due (tag-at (now (text .entry)) place (bytes-between (now (text .entry)) from upto) upto) (now (table .entry)) built (now (table .exit)) r ⌝ }
 {

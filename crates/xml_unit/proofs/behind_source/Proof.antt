@@ -30,10 +30,10 @@ part-end-requires c κs =
     let tag = tag-at text (c .before .before .before .before .before .before .before .before .place .given .0 .0) (bytes-between text (c .before .before .before .before .before .before .before .before .place .given .0 .1 .0) upto) upto in
     let target = c .before .before .before .before .before .target-at in
     let read =
-        subst
-        (Steps text upto (target-due (args .position) name) tag 0 (part-end-due (args .position) name) (args .table .now) (args .built)
-        (target .last .1 .1 .1 .1 .0))
-        (c .before .next .given .1) (target .ensures name) in
+    subst
+    (Steps text upto (target-due (args .position) name) tag 0 (part-end-due (args .position) name) (args .table .now) (args .built)
+    (target .last .1 .1 .1 .1 .0))
+    (c .before .next .given .1) (target .ensures name) in
     (read .0 .inside, c .before .before .before .before .before .before .before .before .before .before .before .before .before .pre .1)
 
 -- ends_name(text, from, upto, end)
@@ -50,8 +50,7 @@ returns c =
     let name = bytes-between text (args .from) (args .upto) in
     let position = args .position in
     let outer = c .before .before .before .before .before .outer-at in
-    let end = c .before .before .before .end .given .0 .0 in
-    (
+    let end = c .before .before .before .end .given .0 .0 in (
       end-tag-in text (args .start) (outer .result) (outer .ensures) (c .before .before .before .end .given .1) .goes,
       record {
         records = [];
@@ -80,9 +79,9 @@ returns-2 c =
     let target = c .before .before .before .before .before .before .before .before .before .target-at in
     let table = target .last .1 .1 .1 .1 .0 in
     let read =
-        subst
-        (Steps text upto (target-due position name) tag 0 (part-end-due position name) (args .table .now) (args .built) table)
-        (c .before .before .before .before .before .next .given .1) (target .ensures name) in
+    subst
+    (Steps text upto (target-due position name) tag 0 (part-end-due position name) (args .table .now) (args .built) table)
+    (c .before .before .before .before .before .next .given .1) (target .ensures name) in
     let end = c .before .before .before .part-end in
     let next = c .before .before .before .before .before .next .given .0 .0 in
     let more = c .before .before .before .before .before .next .given .0 .1 .0 in
@@ -109,9 +108,9 @@ returns-3 c =
     let target = c .before .before .before .before .before .before .before .before .before .target-at in
     let table = target .last .1 .1 .1 .1 .0 in
     let read =
-        subst
-        (Steps text upto (target-due position name) tag 0 (part-end-due position name) (args .table .now) (args .built) table)
-        (c .before .before .before .before .before .next .given .1) (target .ensures name) in
+    subst
+    (Steps text upto (target-due position name) tag 0 (part-end-due position name) (args .table .now) (args .built) table)
+    (c .before .before .before .before .before .next .given .1) (target .ensures name) in
     let end = c .before .before .before .part-end in
     let next = c .before .before .before .before .before .next .given .0 .0 in
     let more = c .before .before .before .before .before .next .given .0 .1 .0 in

@@ -50,11 +50,10 @@ returns-5 : tie.Need-returns-5
 returns-5 c =
     let args = c .before .before .before .before .before .args in
     let text = args .text .now in
-    let outer = c .before .before .before .outer-at in
-    (
+    let outer = c .before .before .before .outer-at in (
       refl,
       nothing-behind (rest-at text (args .start)) (c .before .place4 .given .0 .0)
-      (over-alike text (args .start) (outer .result) (outer .ensures) (c .before .place4 .given .1)),
+          (over-alike text (args .start) (outer .result) (outer .ensures) (c .before .place4 .given .1)),
     )
 
 pub behind-unit-spec : {M : Type 1} → statement M

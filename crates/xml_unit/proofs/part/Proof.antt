@@ -27,10 +27,10 @@ source-of-requires c κs =
     let tag = tag-at text (args .place) name (args .upto) in
     let head = c .before .before .before .before .before .before .head in
     let headed =
-        subst
-        (Steps text (args .upto) (part-due (args .before)) tag 1 (source-due (suc (args .before)) name) (args .table .now)
-        (args .built) (head .last .1 .1 .1 .1 .0))
-        (c .before .before .next .given .1) (head .ensures (args .before)) in
+    subst
+    (Steps text (args .upto) (part-due (args .before)) tag 1 (source-due (suc (args .before)) name) (args .table .now)
+    (args .built) (head .last .1 .1 .1 .1 .0))
+    (c .before .before .next .given .1) (head .ensures (args .before)) in
     (headed .0 .inside, collecting-on (headed .1 .collects) (some-collected (c .before .before .before .before .before .before .before .before .before .before .pre .2)))
 
 -- behind_source(text, behind, from, upto, table, sourced, before + 1)
@@ -45,23 +45,22 @@ behind-source-requires c κs =
     let head = c .before .before .before .before .before .before .before .before .before .before .before .before .before .head in
     let table = head .last .1 .1 .1 .1 .0 in
     let headed =
-        subst
-        (Steps text (args .upto) (part-due (args .before)) tag 1 (source-due position name) (args .table .now) (args .built) table)
-        (c .before .before .before .before .before .before .before .before .before .next .given .1) (head .ensures (args .before)) in
+    subst
+    (Steps text (args .upto) (part-due (args .before)) tag 1 (source-due position name) (args .table .now) (args .built) table)
+    (c .before .before .before .before .before .before .before .before .before .next .given .1) (head .ensures (args .before)) in
     let next = c .before .before .before .before .before .before .before .before .before .next .given .0 .0 in
     let built = c .before .before .before .before .before .before .before .before .before .next .given .0 .1 .0 in
     let source = c .before .before .before .before .before .before .source-of in
     let sourced =
-        subst
-        (Steps text next (source-due position name) (rest-at text next) 0 (target-due position name) table built
-        (source .last .1 .1 .0))
-        (c .before .before .behind .given .1) (source .ensures position name) in
-    (
+    subst
+    (Steps text next (source-due position name) (rest-at text next) 0 (target-due position name) table built
+    (source .last .1 .1 .0))
+    (c .before .before .behind .given .1) (source .ensures position name) in (
       sourced .0 .inside,
       c .before .before .before .before .before .before .before .before .before .before .before .before .before .before .before .before .before .pre .0,
       more-collected (sourced .1 .records)
-      (more-collected (headed .1 .records) (c .before .before .before .before .before .before .before .before .before .before .before .before .before .before .before .before .before .pre .2) (headed .1 .collects) (headed .1 .heads-are) refl)
-      (sourced .1 .collects) (sourced .1 .heads-are) (omega arith),
+          (more-collected (headed .1 .records) (c .before .before .before .before .before .before .before .before .before .before .before .before .before .before .before .before .before .pre .2) (headed .1 .collects) (headed .1 .heads-are) refl)
+          (sourced .1 .collects) (sourced .1 .heads-are) (omega arith),
     )
 
 -- Went::On(behind, sourced) => behind_source(..)
@@ -76,16 +75,16 @@ returns c =
     let head = c .before .before .before .before .before .before .before .before .before .before .before .before .before .before .before .before .head in
     let table = head .last .1 .1 .1 .1 .0 in
     let headed =
-        subst
-        (Steps text (args .upto) (part-due (args .before)) tag 1 (source-due position name) (args .table .now) (args .built) table)
-        (c .before .before .before .before .before .before .before .before .before .before .before .before .next .given .1) (head .ensures (args .before)) in
+    subst
+    (Steps text (args .upto) (part-due (args .before)) tag 1 (source-due position name) (args .table .now) (args .built) table)
+    (c .before .before .before .before .before .before .before .before .before .before .before .before .next .given .1) (head .ensures (args .before)) in
     let next = c .before .before .before .before .before .before .before .before .before .before .before .before .next .given .0 .0 in
     let built = c .before .before .before .before .before .before .before .before .before .before .before .before .next .given .0 .1 .0 in
     let source = c .before .before .before .before .before .before .before .before .before .source-of in
     let table₂ = source .last .1 .1 .0 in
     let sourced =
-        subst (Steps text next (source-due position name) (rest-at text next) 0 (target-due position name) table built table₂)
-        (c .before .before .before .before .before .behind .given .1) (source .ensures position name) in
+    subst (Steps text next (source-due position name) (rest-at text next) 0 (target-due position name) table built table₂)
+    (c .before .before .before .before .before .behind .given .1) (source .ensures position name) in
     let further = c .before .before .before .before .before .behind .given .0 .0 in
     let built₂ = c .before .before .before .before .before .behind .given .0 .1 .0 in
     let last = c .before .before .behind-source in
@@ -110,9 +109,9 @@ returns-2 c =
     let head = c .before .before .before .before .before .before .before .before .before .before .before .before .head in
     let table = head .last .1 .1 .1 .1 .0 in
     let headed =
-        subst
-        (Steps text (args .upto) (part-due (args .before)) tag 1 (source-due position name) (args .table .now) (args .built) table)
-        (c .before .before .before .before .before .before .before .before .next .given .1) (head .ensures (args .before)) in
+    subst
+    (Steps text (args .upto) (part-due (args .before)) tag 1 (source-due position name) (args .table .now) (args .built) table)
+    (c .before .before .before .before .before .before .before .before .next .given .1) (head .ensures (args .before)) in
     let next = c .before .before .before .before .before .before .before .before .next .given .0 .0 in
     let built = c .before .before .before .before .before .before .before .before .next .given .0 .1 .0 in
     let source = c .before .before .before .before .before .source-of in

@@ -30,12 +30,11 @@ returns c k =
     let text = args .text .now in
     let name = bytes-between text (args .from) (args .upto) in
     let outer = c .before .before .before .before .before .outer-at in
-    let end = c .before .before .before .end .given .0 .0 in
-    (
+    let end = c .before .before .before .end .given .0 .0 in (
       end-tag-in text (args .start) (outer .result) (outer .ensures) (c .before .before .before .end .given .1) .goes,
       end-leads text (args .start) (outer .result) (outer .ensures) (c .before .before .before .end .given .1) [] (part-end-due k name) (part-due k)
-      (targeted-part-closes k name (bytes-between text (end .from) (end .upto)) (end .place) _
-      (sym (c .before .ends-name .ensures) ∙ c .if1 .taken)),
+          (targeted-part-closes k name (bytes-between text (end .from) (end .upto)) (end .place) _
+          (sym (c .before .ends-name .ensures) ∙ c .if1 .taken)),
     )
 
 -- Outer::Start(..) => Emptied::Bad(blamed_tag(text, place, name_upto))

@@ -34,8 +34,7 @@ part-requires c κs =
     let outer = c .before .before .before .before .outer-at in
     let found = c .before .before .place .given .1 in
     let goes = start-ahead text (loop .at) (outer .result) (outer .ensures) found in
-    let passed = loop .inv .passed in
-    (
+    let passed = loop .inv .passed in (
       start-name text (loop .at) (outer .result) (outer .ensures) found,
       omega (arith, loop .inv .few, goes .ahead),
       more-collected (passed .records) (c .before .before .before .before .before .before .before .before .pre .1) (passed .collects) (passed .heads-are) (omega arith),
@@ -61,10 +60,10 @@ loop-less c =
     let tag = tag-at text (c .before .before .before .before .before .before .before .before .place .given .0 .0) (bytes-between text (c .before .before .before .before .before .before .before .before .place .given .0 .1 .0) upto) upto in
     let part = c .before .before .before .before .before .part in
     let read =
-        subst
-        (Steps text upto (part-due (loop .count)) tag 1 (part-due (suc (loop .count))) (loop .table) (loop .so-far)
-        (part .last .1 .1 .1 .1 .0))
-        (c .before .next .given .1) (part .ensures) in
+    subst
+    (Steps text upto (part-due (loop .count)) tag 1 (part-due (suc (loop .count))) (loop .table) (loop .so-far)
+    (part .last .1 .1 .1 .1 .0))
+    (c .before .next .given .1) (part .ensures) in
     omega (arith, goes .ahead, read .0 .ahead, read .0 .inside)
 
 -- at = next; so_far = more; count += 1
@@ -114,8 +113,7 @@ unit-end-requires c κs =
     let text = c .before .before .before .before .before .before .before .before .args .text .now in
     let loop = c .before .before .before .before .before .loop in
     let outer = c .before .before .before .before .outer-at in
-    let passed = loop .inv .passed in
-    (
+    let passed = loop .inv .passed in (
       end-tag-in text (loop .at) (outer .result) (outer .ensures) (c .before .before .end .given .1),
       some-collected (more-collected (passed .records) (c .before .before .before .before .before .before .before .before .pre .1) (passed .collects) (passed .heads-are) refl),
     )

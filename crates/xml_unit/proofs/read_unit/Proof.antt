@@ -10,8 +10,7 @@ use Rattle.xml_unit.proofs.read_unit.Tie as tie
 -- unit(text, place, from, upto, table, nothing())
 unit-requires : tie.Need-unit-requires
 unit-requires c κs =
-    let outer = c .before .before .before .before .before .outer-at in
-    (
+    let outer = c .before .before .before .before .before .outer-at in (
       start-name (c .before .before .before .before .before .before .before .before .args .text .now) 0 (outer .result) (outer .ensures) (c .before .before .before .place .given .1),
       none-collected (c .nothing .ensures) (c .before .before .before .before .before .before .before .before .pre),
     )

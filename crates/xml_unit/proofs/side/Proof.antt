@@ -20,8 +20,8 @@ sub-is-word c =
     let args = c .before .before .before .before .before .before .before .before .before .before .before .args in
     let content = c .before .before .before .before .before .content in
     let ends =
-        content-end (args .text .now) (args .next) (args .name .now) (args .table .now) (args .built) (content .last .1 .1 .0)
-        (content .result) (content .ensures) (c .before .before .before .before .before .before .before .if1 .left) (c .before .end .given .1) in
+    content-end (args .text .now) (args .next) (args .name .now) (args .table .now) (args .built) (content .last .1 .1 .0)
+    (content .result) (content .ensures) (c .before .before .before .before .before .before .before .if1 .left) (c .before .end .given .1) in
     omega (arith, ends .name .ordered, ends .name .inside)
 
 part-is-word-start : tie.Need-part-is-word-start
@@ -29,8 +29,8 @@ part-is-word-start c =
     let args = c .before .before .before .before .before .before .before .before .before .before .before .args in
     let content = c .before .before .before .before .before .content in
     let ends =
-        content-end (args .text .now) (args .next) (args .name .now) (args .table .now) (args .built) (content .last .1 .1 .0)
-        (content .result) (content .ensures) (c .before .before .before .before .before .before .before .if1 .left) (c .before .end .given .1) in
+    content-end (args .text .now) (args .next) (args .name .now) (args .table .now) (args .built) (content .last .1 .1 .0)
+    (content .result) (content .ensures) (c .before .before .before .before .before .before .before .if1 .left) (c .before .end .given .1) in
     omega (arith, ends .name .ordered, ends .name .inside)
 
 part-is-word-end : tie.Need-part-is-word-end
@@ -38,8 +38,8 @@ part-is-word-end c =
     let args = c .before .before .before .before .before .before .before .before .before .before .before .args in
     let content = c .before .before .before .before .before .content in
     let ends =
-        content-end (args .text .now) (args .next) (args .name .now) (args .table .now) (args .built) (content .last .1 .1 .0)
-        (content .result) (content .ensures) (c .before .before .before .before .before .before .before .if1 .left) (c .before .end .given .1) in
+    content-end (args .text .now) (args .next) (args .name .now) (args .table .now) (args .built) (content .last .1 .1 .0)
+    (content .result) (content .ensures) (c .before .before .before .before .before .before .before .if1 .left) (c .before .end .given .1) in
     omega (arith, ends .name .ordered, ends .name .inside)
 
 -- return Went::On(end.next, within)

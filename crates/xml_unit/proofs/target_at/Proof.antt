@@ -47,8 +47,7 @@ side-requires c κs =
     let args = c .before .before .before .before .before .before .before .before .before .before .before .before .before .before .before .before .before .before .before .before .before .before .before .args in
     let text = args .text .now in
     let name = bytes-between text (args .from) (args .upto) in
-    let tag = c .before .before .before .before .before .before .before .before .before .before .before .before .before .before .before .before .before .before .before .read-attributes in
-    (
+    let tag = c .before .before .before .before .before .before .before .before .before .before .before .before .before .before .before .before .before .before .before .read-attributes in (
       tag-goes text (args .place) name (args .upto) _ (tag .result) (tag .ensures) (c .before .before .before .before .before .before .before .before .before .before .before .before .before .before .before .before .next .given .1) .inside,
       collecting-on (c .before .before .before .before .put-target-head .ensures) (some-collected (c .before .before .before .before .before .before .before .before .before .before .before .before .before .before .before .before .before .before .before .before .before .before .before .pre .1)),
     )
@@ -59,8 +58,7 @@ side-requires-2 c κs =
     let args = c .before .before .before .before .before .before .before .before .before .before .before .before .before .before .before .before .before .before .before .before .before .before .args in
     let text = args .text .now in
     let name = bytes-between text (args .from) (args .upto) in
-    let tag = c .before .before .before .before .before .before .before .before .before .before .before .before .before .before .before .before .before .before .read-attributes in
-    (
+    let tag = c .before .before .before .before .before .before .before .before .before .before .before .before .before .before .before .before .before .before .read-attributes in (
       tag-goes text (args .place) name (args .upto) _ (tag .result) (tag .ensures) (c .before .before .before .before .before .before .before .before .before .before .before .before .before .before .before .next .given .1) .inside,
       collecting-on (c .before .before .before .before .put-position .ensures) (some-collected (c .before .before .before .before .before .before .before .before .before .before .before .before .before .before .before .before .before .before .before .before .before .before .pre .1)),
     )

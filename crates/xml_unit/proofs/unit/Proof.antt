@@ -59,8 +59,7 @@ parts-requires c κs =
     let args = c .before .before .before .before .before .before .before .before .before .before .before .before .before .before .before .before .before .before .before .before .before .before .before .args in
     let text = args .text .now in
     let name = bytes-between text (args .from) (args .upto) in
-    let tag = c .before .before .before .before .before .before .before .before .before .before .before .before .before .before .before .before .before .before .before .read-attributes in
-    (
+    let tag = c .before .before .before .before .before .before .before .before .before .before .before .before .before .before .before .before .before .before .before .read-attributes in (
       tag-goes text (args .place) name (args .upto) (tag .last .1 .1 .0) (tag .result) (tag .ensures) (c .before .before .before .before .before .before .before .before .before .before .before .before .before .before .before .before .next .given .1) .inside,
       opening-collected (c .before .before .before .before .before .before .before .letter .given .0 .0) (c .before .before .before .before .before .before .before .before .before .before .before .before .before .before .before .before .before .before .before .before .before .before .before .pre .1) (c .before .before .before .before .put-opening .ensures),
     )
