@@ -16,7 +16,8 @@ use table::Item;
 // The record of a code with this mark.
 fn put_code(out: &mut [u8], mark: &[u8; 2], f: Fields) -> usize
     requires { ⌜ code-size ≤ length (now out) ⌝ }
-    ensures { λ r. ⌜ Written (markBytes (now (mark .entry)) ++ code-bytes (fields f)) (now (out .entry)) r (now (out .exit)) ⌝ }
+    ensures { λ r. ⌜ Written (markBytes (now (mark .entry)) ++ code-bytes (fields f)) (now (out .entry)) r (now (out
+        .exit)) ⌝ }
 {
     let letters = f.letters;
     let id_at = writer::put_mark(out, 0, mark);
@@ -31,7 +32,8 @@ fn put_code(out: &mut [u8], mark: &[u8; 2], f: Fields) -> usize
 
 fn put_isolated(out: &mut [u8], h: Half, f: Fields) -> usize
     requires { ⌜ code-size ≤ length (now out) ⌝ }
-    ensures { λ r. ⌜ Written (record-bytes (inline (isolated (half h) (fields f)))) (now (out .entry)) r (now (out .exit)) ⌝ }
+    ensures { λ r. ⌜ Written (record-bytes (inline (isolated (half h) (fields f)))) (now (out .entry)) r (now (out
+        .exit)) ⌝ }
 {
     match h {
         Half::Start => put_code(out, b"IS", f),
@@ -41,7 +43,8 @@ fn put_isolated(out: &mut [u8], h: Half, f: Fields) -> usize
 
 fn put_pair(out: &mut [u8], w: Form, h: Half, f: Fields) -> usize
     requires { ⌜ code-size ≤ length (now out) ⌝ }
-    ensures { λ r. ⌜ Written (record-bytes (inline (pair (half h) (form w) (fields f)))) (now (out .entry)) r (now (out .exit)) ⌝ }
+    ensures { λ r. ⌜ Written (record-bytes (inline (pair (half h) (form w) (fields f)))) (now (out .entry)) r (now (out
+        .exit)) ⌝ }
 {
     match w {
         Form::P => match h {
@@ -75,7 +78,8 @@ fn put_id(out: &mut [u8], mark: &[u8; 2], id: u16) -> usize
 
 fn put_translate(out: &mut [u8], mark: &[u8; 2], id: u16, translate: u8) -> usize
     requires { ⌜ code-size ≤ length (now out) ⌝ }
-    ensures { λ r. ⌜ Written (markBytes (now (mark .entry)) ++ two id ++ (translate ∷ [])) (now (out .entry)) r (now (out .exit)) ⌝ }
+    ensures { λ r. ⌜ Written (markBytes (now (mark .entry)) ++ two id ++ (translate ∷ [])) (now (out .entry)) r (now
+        (out .exit)) ⌝ }
 {
     let translate_at = put_id(out, mark, id);
     writer::put_byte(out, translate_at, translate)
@@ -83,7 +87,8 @@ fn put_translate(out: &mut [u8], mark: &[u8; 2], id: u16, translate: u8) -> usiz
 
 fn put_annotation_start(out: &mut [u8], w: Form, id: u16, translate: u8) -> usize
     requires { ⌜ code-size ≤ length (now out) ⌝ }
-    ensures { λ r. ⌜ Written (record-bytes (inline (annotation-start (form w) id translate))) (now (out .entry)) r (now (out .exit)) ⌝ }
+    ensures { λ r. ⌜ Written (record-bytes (inline (annotation-start (form w) id translate))) (now (out .entry)) r (now
+        (out .exit)) ⌝ }
 {
     match w {
         Form::P => put_translate(out, b"MO", id, translate),

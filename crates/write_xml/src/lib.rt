@@ -11,7 +11,8 @@ ghost use Rattle.xml.specs.Xml.{write-xml};
 // 22, 15, then the text. It is measured before a byte of it is written.
 fn write_passed(table: &[u8], out: &mut [u8]) -> Answer
     requires { ⌜ table-refusal (now table) ≡ none ⌝ }
-    ensures { λ r. ⌜ Answers (write-xml (now (table .entry)) (length (now (out .entry)))) r (now (out .entry)) (now (out .exit)) ⌝ }
+    ensures { λ r. ⌜ Answers (write-xml (now (table .entry)) (length (now (out .entry)))) r (now (out .entry)) (now (out
+        .exit)) ⌝ }
 {
     if xml_nesting::too_deep(table) {
         return Answer::Refused(22, 0);
@@ -26,7 +27,8 @@ fn write_passed(table: &[u8], out: &mut [u8]) -> Answer
 
 fn write_checked(table: &[u8], a: Answer, out: &mut [u8]) -> Answer
     requires { ⌜ answer-meaning a ≡ check (now table) ⌝ }
-    ensures { λ r. ⌜ Answers (write-xml (now (table .entry)) (length (now (out .entry)))) r (now (out .entry)) (now (out .exit)) ⌝ }
+    ensures { λ r. ⌜ Answers (write-xml (now (table .entry)) (length (now (out .entry)))) r (now (out .entry)) (now (out
+        .exit)) ⌝ }
 {
     match a {
         Answer::Accepted(_) => write_passed(table, out),
@@ -36,7 +38,8 @@ fn write_checked(table: &[u8], a: Answer, out: &mut [u8]) -> Answer
 
 // Accepted: the output's first bytes are the unit as XML, the rest is unchanged. Refused: the whole output is unchanged.
 pub fn write_xml(table: &[u8], out: &mut [u8]) -> Answer
-    ensures { λ r. ⌜ Answers (write-xml (now (table .entry)) (length (now (out .entry)))) r (now (out .entry)) (now (out .exit)) ⌝ }
+    ensures { λ r. ⌜ Answers (write-xml (now (table .entry)) (length (now (out .entry)))) r (now (out .entry)) (now (out
+        .exit)) ⌝ }
 {
     write_checked(table, table_check::check(table), out)
 }

@@ -23,7 +23,8 @@ use Rattle.xml_content.specs.declared.Closed.{Closed}
 use Rattle.xml_content.specs.declared.Closed.the-variants.{By, Bad as ClosedBad}
 
 -- one piece of a content
-pub record PieceOn (text : List ℕ) (at : ℕ) (table : List ℕ) (built : Built) (next : ℕ) (table′ : List ℕ) (built′ : Built) : Type 0 where
+pub record PieceOn (text : List ℕ) (at : ℕ) (table : List ℕ) (built : Built) (next : ℕ) (table′ : List ℕ)
+    (built′ : Built) : Type 0 where
   pub records : List Record
   pub no-part : part-heads records ≡ 0
   pub goes : Ahead text at next
@@ -33,7 +34,8 @@ pub record PieceOn (text : List ℕ) (at : ℕ) (table : List ℕ) (built : Buil
 abbrev pub StepRead : List ℕ → ℕ → List ℕ → Built → List ℕ → Stepped → Type 0
 StepRead text at table built table′ (StepOn next built′) = PieceOn text at table built next table′ built′
 StepRead text at table built table′ (StepTag from upto) =
-    (table′ ≡ table) × Ahead text at upto × NameIn text from upto × (rest-at text at ≡ tag-at text at (bytes-between text from upto) upto)
+    (table′ ≡ table) × Ahead text at upto × NameIn text from upto
+    × (rest-at text at ≡ tag-at text at (bytes-between text from upto) upto)
 StepRead text at table built table′ (StepEnd end) =
     (table′ ≡ table) × EndTagIn text at end × (rest-at text at ≡ end-tokens text end)
 StepRead text at table built table′ (StepBad p) = (depth : ℕ) → Blames depth (rest-at text at) p
@@ -41,11 +43,14 @@ StepRead text at table built table′ (StepBad p) = (depth : ℕ) → Blames dep
 -- behind the content of an element of this name
 abbrev pub CloseRead : List ℕ → List ℕ → EndTag → Item → List ℕ → Built → List ℕ → Went → Type 0
 CloseRead text name end last table built table′ (On next built′) =
-    (next ≡ end .next) × (equal (bytes-between text (end .from) (end .upto)) name ≡ true) × Collects (inline (item last) ∷ []) table built table′ built′
-CloseRead text name end last table built table′ (Bad p) = (p ≡ end .place) × (equal (bytes-between text (end .from) (end .upto)) name ≡ false)
+    (next ≡ end .next) × (equal (bytes-between text (end .from) (end .upto)) name ≡ true)
+    × Collects (inline (item last) ∷ []) table built table′ built′
+CloseRead text name end last table built table′ (Bad p) =
+    (p ≡ end .place) × (equal (bytes-between text (end .from) (end .upto)) name ≡ false)
 
 -- an element, from behind its name on
-pub record ElementOn (text : List ℕ) (place : ℕ) (name : List ℕ) (upto depth : ℕ) (table : List ℕ) (built : Built) (next : ℕ) (table′ : List ℕ) (built′ : Built) : Type 0 where
+pub record ElementOn (text : List ℕ) (place : ℕ) (name : List ℕ) (upto depth : ℕ) (table : List ℕ) (built : Built)
+    (next : ℕ) (table′ : List ℕ) (built′ : Built) : Type 0 where
   pub records : List Record
   pub no-part : part-heads records ≡ 0
   pub goes : Ahead text upto next
@@ -53,11 +58,13 @@ pub record ElementOn (text : List ℕ) (place : ℕ) (name : List ℕ) (upto dep
   pub collects : Collects records table built table′ built′
 
 abbrev pub ElementRead : List ℕ → ℕ → List ℕ → ℕ → ℕ → List ℕ → Built → List ℕ → Went → Type 0
-ElementRead text place name upto depth table built table′ (On next built′) = ElementOn text place name upto depth table built next table′ built′
+ElementRead text place name upto depth table built table′ (On next built′) =
+    ElementOn text place name upto depth table built next table′ built′
 ElementRead text place name upto depth table built table′ (Bad p) = Blames depth (tag-at text place name upto) p
 
 -- a content, up to the end tag behind it
-pub record ContentClosed (text : List ℕ) (start depth : ℕ) (table : List ℕ) (built : Built) (end : EndTag) (table′ : List ℕ) (built′ : Built) : Type 0 where
+pub record ContentClosed (text : List ℕ) (start depth : ℕ) (table : List ℕ) (built : Built) (end : EndTag)
+    (table′ : List ℕ) (built′ : Built) : Type 0 where
   pub records : List Record
   pub no-part : part-heads records ≡ 0
   pub ends : EndTagIn text start end
@@ -65,5 +72,6 @@ pub record ContentClosed (text : List ℕ) (start depth : ℕ) (table : List ℕ
   pub collects : Collects records table built table′ built′
 
 abbrev pub ContentRead : List ℕ → ℕ → ℕ → List ℕ → Built → List ℕ → Closed → Type 0
-ContentRead text start depth table built table′ (By end built′) = ContentClosed text start depth table built end table′ built′
+ContentRead text start depth table built table′ (By end built′) =
+    ContentClosed text start depth table built end table′ built′
 ContentRead text start depth table built table′ (ClosedBad p) = Blames depth (rest-at text start) p

@@ -70,7 +70,8 @@ fn close_element(
     last: Item,
 ) -> Went
     requires { ⌜ NameIn (now text) from upto × NameIn (now text) (end .from) (end .upto) × Collecting (now table) built ⌝ }
-    ensures { λ r. ⌜ CloseRead (now (text .entry)) (bytes-between (now (text .entry)) from upto) end last (now (table .entry)) built (now (table .exit)) r ⌝ }
+    ensures { λ r. ⌜ CloseRead (now (text .entry)) (bytes-between (now (text .entry)) from upto) end last (now (table
+        .entry)) built (now (table .exit)) r ⌝ }
 {
     if ends_name(text, from, upto, end) {
         return Went::On(end.next, put_item(table, built, last));
@@ -89,7 +90,8 @@ fn element(
     depth: usize,
 ) -> Went
     requires { ⌜ NameIn (now text) from upto × Collecting (now table) built ⌝ }
-    ensures { λ r. ⌜ ElementRead (now (text .entry)) place (bytes-between (now (text .entry)) from upto) upto depth (now (table .entry)) built (now (table .exit)) r ⌝ }
+    ensures { λ r. ⌜ ElementRead (now (text .entry)) place (bytes-between (now (text .entry)) from upto) upto depth (now
+        (table .entry)) built (now (table .exit)) r ⌝ }
 {
     match open_element(text, place, from, upto, table, built) {
         Opened::Single(next, put) => Went::On(next, put),

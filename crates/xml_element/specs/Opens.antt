@@ -49,7 +49,8 @@ EmptyRead text name at a (EmptyBad p) = EmptyBlames name a p
 
 -- whatever its start tag's place and attributes are
 unfoldable pub SingleRead : List ℕ → List ℕ → ℕ → Bool → Emptied → Type 0
-SingleRead text name next short r = (place : ℕ) (ats : List Attribute) → EmptyRead text name next (after-tag text short place name ats next) r
+SingleRead text name next short r =
+    (place : ℕ) (ats : List Attribute) → EmptyRead text name next (after-tag text short place name ats next) r
 
 -- an empty element, from behind its name on
 pub record SingleOn (text : List ℕ) (place : ℕ) (name : List ℕ) (upto : ℕ) (table : List ℕ) (built : Built) (next : ℕ)
@@ -65,9 +66,11 @@ pub record NestedRead (text : List ℕ) (place : ℕ) (name : List ℕ) (upto : 
   pub attributes : List Attribute
   pub goes : Ahead text upto (tag .next)
   pub is : inline-of-name name attributes ≡ some (nested (item (tag .start)) (item (tag .end)))
-  pub same : tag-at text place name upto ≡ start-tag place name attributes ∷ after-tag text (tag .short) place name attributes (tag .next)
+  pub same : tag-at text place name upto
+      ≡ start-tag place name attributes ∷ after-tag text (tag .short) place name attributes (tag .next)
 
 abbrev pub OpenRead : List ℕ → ℕ → List ℕ → ℕ → List ℕ → Built → List ℕ → Opened → Type 0
-OpenRead text place name upto table built table′ (Single next built′) = SingleOn text place name upto table built next table′ built′
+OpenRead text place name upto table built table′ (Single next built′) =
+    SingleOn text place name upto table built next table′ built′
 OpenRead text place name upto table built table′ (Nested tag) = (table′ ≡ table) × NestedRead text place name upto tag
 OpenRead text place name upto table built table′ (Bad p) = (depth : ℕ) → Blames depth (tag-at text place name upto) p

@@ -52,7 +52,8 @@ pub enum Opened {
 // Whether the end tag has the name that stands from one place to the other.
 pub fn ends_name(text: &[u8], from: usize, upto: usize, end: EndTag) -> bool
     requires { ⌜ NameIn (now text) from upto × NameIn (now text) (end .from) (end .upto) ⌝ }
-    ensures { λ r. ⌜ r ≡ equal (bytes-between (now (text .entry)) (end .from) (end .upto)) (bytes-between (now (text .entry)) from upto) ⌝ }
+    ensures { λ r. ⌜ r ≡ equal (bytes-between (now (text .entry)) (end .from) (end .upto)) (bytes-between (now (text
+        .entry)) from upto) ⌝ }
 {
     let end_from = end.from;
     let end_upto = end.upto;
@@ -75,7 +76,8 @@ pub fn blamed_tag(text: &[u8], place: usize, upto: usize) -> usize
 // Behind the start tag of an empty element whose name stands from one place to the other: comments, and its end tag.
 fn empty_end(text: &[u8], from: usize, upto: usize, start: usize) -> Emptied
     requires { ⌜ NameIn (now text) from upto × (start ≤ length (now text)) ⌝ }
-    ensures { λ r. ⌜ EmptyRead (now (text .entry)) (bytes-between (now (text .entry)) from upto) start (rest-at (now (text .entry)) start) r ⌝ }
+    ensures { λ r. ⌜ EmptyRead (now (text .entry)) (bytes-between (now (text .entry)) from upto) start (rest-at (now
+        (text .entry)) start) r ⌝ }
 {
     let mut at = start;
     loop {
@@ -141,7 +143,8 @@ pub fn open_element(
     built: Built,
 ) -> Opened
     requires { ⌜ NameIn (now text) from upto × Collecting (now table) built ⌝ }
-    ensures { λ r. ⌜ OpenRead (now (text .entry)) place (bytes-between (now (text .entry)) from upto) upto (now (table .entry)) built (now (table .exit)) r ⌝ }
+    ensures { λ r. ⌜ OpenRead (now (text .entry)) place (bytes-between (now (text .entry)) from upto) upto (now (table
+        .entry)) built (now (table .exit)) r ⌝ }
 {
     let mut slots = [ABSENT; 16];
     match read_attributes(text, upto, &mut slots) {

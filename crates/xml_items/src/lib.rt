@@ -18,7 +18,8 @@ ghost use Rattle.xml_items.specs.Items.{code-start, overlap-attribute, h
 
 fn put_overlap(out: &mut [u8], draft: Draft, shown: bool, letter: u8) -> Draft
     requires { ⌜ draft .used ≤ length (now out) ⌝ }
-    ensures { λ r. ⌜ Wrote (attributes-bytes (overlap-attribute shown letter)) (now (out .entry)) draft (now (out .exit)) r ⌝ }
+    ensures { λ r. ⌜ Wrote (attributes-bytes (overlap-attribute shown letter)) (now (out .entry)) draft (now (out
+        .exit)) r ⌝ }
 {
     if !shown {
         return draft;
@@ -41,7 +42,8 @@ fn put_hints(out: &mut [u8], draft: Draft, overlap: bool, f: Fields) -> Draft
 // A tag with the id, by its attribute's name, and the copyOf of a code.
 fn put_code_start(out: &mut [u8], draft: Draft, tag: &[u8], id: &[u8], f: Fields) -> Draft
     requires { ⌜ draft .used ≤ length (now out) ⌝ }
-    ensures { λ r. ⌜ Wrote (code-start (now (tag .entry)) (now (id .entry)) (fields f)) (now (out .entry)) draft (now (out .exit)) r ⌝ }
+    ensures { λ r. ⌜ Wrote (code-start (now (tag .entry)) (now (id .entry)) (fields f)) (now (out .entry)) draft (now
+        (out .exit)) r ⌝ }
 {
     let opened = draft::put(out, draft, tag);
     let named = xml_tags::put_number(out, opened, id, f.id);
@@ -68,7 +70,8 @@ fn put_half(
     f: Fields,
 ) -> Draft
     requires { ⌜ draft .used ≤ length (now out) ⌝ }
-    ensures { λ r. ⌜ Wrote (half-tag (now (tag .entry)) (now (id .entry)) (now (isolated .entry)) (fields f)) (now (out .entry)) draft (now (out .exit)) r ⌝ }
+    ensures { λ r. ⌜ Wrote (half-tag (now (tag .entry)) (now (id .entry)) (now (isolated .entry)) (fields f)) (now (out
+        .entry)) draft (now (out .exit)) r ⌝ }
 {
     let opened = put_code_start(out, draft, tag, id, f);
     let data = xml_tags::put_unless_zero(out, opened, b"dataRef", f.data_ref);
@@ -101,7 +104,8 @@ fn put_pair_s(out: &mut [u8], draft: Draft, h: Half, f: Fields) -> Draft
 // The start of a pc; `end_data` is the dataRef of its end.
 fn put_pc(out: &mut [u8], draft: Draft, f: Fields, end_data: u16) -> Draft
     requires { ⌜ draft .used ≤ length (now out) ⌝ }
-    ensures { λ r. ⌜ Wrote (opening-tag 'pc' (pc-attributes (fields f) end_data)) (now (out .entry)) draft (now (out .exit)) r ⌝ }
+    ensures { λ r. ⌜ Wrote (opening-tag 'pc' (pc-attributes (fields f) end_data)) (now (out .entry)) draft (now (out
+        .exit)) r ⌝ }
 {
     let opened = put_code_start(out, draft, b"<pc", b"id", f);
     let start = xml_tags::put_unless_zero(out, opened, b"dataRefStart", f.data_ref);
@@ -134,7 +138,8 @@ fn put_pair(out: &mut [u8], draft: Draft, w: Form, h: Half, f: Fields, end_data:
 // The start of an annotation: its tag with what closes it.
 fn put_mark(out: &mut [u8], draft: Draft, tag: &[u8], i: u16, translate: u8, end: &[u8]) -> Draft
     requires { ⌜ draft .used ≤ length (now out) ⌝ }
-    ensures { λ r. ⌜ Wrote (mark-tag (now (tag .entry)) i translate (now (end .entry))) (now (out .entry)) draft (now (out .exit)) r ⌝ }
+    ensures { λ r. ⌜ Wrote (mark-tag (now (tag .entry)) i translate (now (end .entry))) (now (out .entry)) draft (now
+        (out .exit)) r ⌝ }
 {
     let opened = draft::put(out, draft, tag);
     let named = xml_tags::put_number(out, opened, b"id", i);
@@ -144,7 +149,8 @@ fn put_mark(out: &mut [u8], draft: Draft, tag: &[u8], i: u16, translate: u8, end
 
 fn put_annotation_start(out: &mut [u8], draft: Draft, w: Form, i: u16, translate: u8) -> Draft
     requires { ⌜ draft .used ≤ length (now out) ⌝ }
-    ensures { λ r. ⌜ Wrote (item-text (annotation-start (form w) i translate) []) (now (out .entry)) draft (now (out .exit)) r ⌝ }
+    ensures { λ r. ⌜ Wrote (item-text (annotation-start (form w) i translate) []) (now (out .entry)) draft (now (out
+        .exit)) r ⌝ }
 {
     match w {
         Form::P => put_mark(out, draft, b"<mrk", i, translate, b">"),

@@ -30,7 +30,8 @@ pub fn put_item(table: &mut [u8], built: Built, x: Item) -> Built
 // UN with this canResegment.
 pub fn put_opening(table: &mut [u8], built: Built, can_resegment: u8) -> Built
     requires { ⌜ Collecting (now table) built ⌝ }
-    ensures { λ r. ⌜ Collects (opening (record { canResegment = «can_resegment» }) ∷ []) (now (table .entry)) built (now (table .exit)) r ⌝ }
+    ensures { λ r. ⌜ Collects (opening (record { canResegment = «can_resegment» }) ∷ []) (now (table .entry)) built (now
+        (table .exit)) r ⌝ }
 {
     let mut bytes = [0u8; 3];
     let letter_at = writer::put_mark(&mut bytes, 0, b"UN");
@@ -49,7 +50,8 @@ pub fn put_closing(table: &mut [u8], built: Built) -> Built
 // SG with these fields.
 pub fn put_segment(table: &mut [u8], built: Built, f: Segment) -> Built
     requires { ⌜ Collecting (now table) built ⌝ }
-    ensures { λ r. ⌜ Collects (part-head (segment (segment-meaning f)) ∷ []) (now (table .entry)) built (now (table .exit)) r ⌝ }
+    ensures { λ r. ⌜ Collects (part-head (segment (segment-meaning f)) ∷ []) (now (table .entry)) built (now (table
+        .exit)) r ⌝ }
 {
     let mut head = [0u8; 6];
     let wide = heads::put_segment(&mut head, f);

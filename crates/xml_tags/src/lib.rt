@@ -11,7 +11,8 @@ ghost use Rattle.xml_tags.specs.Tags.{attributes-bytes};
 // One blank before the attribute, double quotes.
 pub fn put_attribute(out: &mut [u8], draft: Draft, name: &[u8], value: &[u8]) -> Draft
     requires { ⌜ draft .used ≤ length (now out) ⌝ }
-    ensures { λ r. ⌜ Wrote (attributes-bytes (attribute (now (name .entry)) (now (value .entry)))) (now (out .entry)) draft (now (out .exit)) r ⌝ }
+    ensures { λ r. ⌜ Wrote (attributes-bytes (attribute (now (name .entry)) (now (value .entry)))) (now (out .entry))
+        draft (now (out .exit)) r ⌝ }
 {
     let blank = draft::put(out, draft, b" ");
     let named = draft::put(out, blank, name);
@@ -23,7 +24,8 @@ pub fn put_attribute(out: &mut [u8], draft: Draft, name: &[u8], value: &[u8]) ->
 // A number in decimal.
 pub fn put_number(out: &mut [u8], draft: Draft, name: &[u8], n: u16) -> Draft
     requires { ⌜ draft .used ≤ length (now out) ⌝ }
-    ensures { λ r. ⌜ Wrote (attributes-bytes (number-attribute (now (name .entry)) n)) (now (out .entry)) draft (now (out .exit)) r ⌝ }
+    ensures { λ r. ⌜ Wrote (attributes-bytes (number-attribute (now (name .entry)) n)) (now (out .entry)) draft (now
+        (out .exit)) r ⌝ }
 {
     let mut digits = [0u8; 20];
     let k = lines::put_decimal(&mut digits, marks::wide(n));
@@ -33,7 +35,8 @@ pub fn put_number(out: &mut [u8], draft: Draft, name: &[u8], n: u16) -> Draft
 // No attribute where the number is 0.
 pub fn put_unless_zero(out: &mut [u8], draft: Draft, name: &[u8], n: u16) -> Draft
     requires { ⌜ draft .used ≤ length (now out) ⌝ }
-    ensures { λ r. ⌜ Wrote (attributes-bytes (unless-zero (now (name .entry)) n)) (now (out .entry)) draft (now (out .exit)) r ⌝ }
+    ensures { λ r. ⌜ Wrote (attributes-bytes (unless-zero (now (name .entry)) n)) (now (out .entry)) draft (now (out
+        .exit)) r ⌝ }
 {
     if n == 0 {
         return draft;
@@ -44,7 +47,8 @@ pub fn put_unless_zero(out: &mut [u8], draft: Draft, name: &[u8], n: u16) -> Dra
 // Y or N by its word.
 pub fn put_yes_no(out: &mut [u8], draft: Draft, name: &[u8], letter: u8) -> Draft
     requires { ⌜ draft .used ≤ length (now out) ⌝ }
-    ensures { λ r. ⌜ Wrote (attributes-bytes (word-attribute (now (name .entry)) yes-no letter)) (now (out .entry)) draft (now (out .exit)) r ⌝ }
+    ensures { λ r. ⌜ Wrote (attributes-bytes (word-attribute (now (name .entry)) yes-no letter)) (now (out .entry))
+        draft (now (out .exit)) r ⌝ }
 {
     if letter == b'Y' {
         return put_attribute(out, draft, name, b"yes");
@@ -58,7 +62,8 @@ pub fn put_yes_no(out: &mut [u8], draft: Draft, name: &[u8], letter: u8) -> Draf
 // No attribute where the letter is -.
 pub fn put_unless_hyphen(out: &mut [u8], draft: Draft, name: &[u8], letter: u8) -> Draft
     requires { ⌜ draft .used ≤ length (now out) ⌝ }
-    ensures { λ r. ⌜ Wrote (attributes-bytes (unless-hyphen (now (name .entry)) letter)) (now (out .entry)) draft (now (out .exit)) r ⌝ }
+    ensures { λ r. ⌜ Wrote (attributes-bytes (unless-hyphen (now (name .entry)) letter)) (now (out .entry)) draft (now
+        (out .exit)) r ⌝ }
 {
     if letter == b'-' {
         return draft;
@@ -69,7 +74,8 @@ pub fn put_unless_hyphen(out: &mut [u8], draft: Draft, name: &[u8], letter: u8) 
 // canReorder: Y, F or N.
 pub fn put_reorder(out: &mut [u8], draft: Draft, letter: u8) -> Draft
     requires { ⌜ draft .used ≤ length (now out) ⌝ }
-    ensures { λ r. ⌜ Wrote (attributes-bytes (word-attribute 'canReorder' yes-first-no letter)) (now (out .entry)) draft (now (out .exit)) r ⌝ }
+    ensures { λ r. ⌜ Wrote (attributes-bytes (word-attribute 'canReorder' yes-first-no letter)) (now (out .entry)) draft
+        (now (out .exit)) r ⌝ }
 {
     if letter == b'Y' {
         return put_attribute(out, draft, b"canReorder", b"yes");
@@ -86,7 +92,8 @@ pub fn put_reorder(out: &mut [u8], draft: Draft, letter: u8) -> Draft
 // The state of a segment: I, T, R or F.
 pub fn put_state(out: &mut [u8], draft: Draft, letter: u8) -> Draft
     requires { ⌜ draft .used ≤ length (now out) ⌝ }
-    ensures { λ r. ⌜ Wrote (attributes-bytes (word-attribute 'state' states letter)) (now (out .entry)) draft (now (out .exit)) r ⌝ }
+    ensures { λ r. ⌜ Wrote (attributes-bytes (word-attribute 'state' states letter)) (now (out .entry)) draft (now (out
+        .exit)) r ⌝ }
 {
     if letter == b'I' {
         return put_attribute(out, draft, b"state", b"initial");

@@ -1,8 +1,8 @@
 -- The start tag of a part.
 use Prim.Native.Nat.{ℕ, suc}
-use mathlib.Core.Path.{_≡_, refl, sym, ap, subst, _∙_}
+use mathlib.Core.Path.{_≡_, refl, ap, _∙_}
 use mathlib.Core.Bool.{Bool, true, false}
-use mathlib.Core.List.{List, [], _∷_, _++_}
+use mathlib.Core.List.{List, [], _∷_}
 use mathlib.Core.Option.{Option, none, some}
 use Rattle.xliff.specs.Unit as xliff
 use Rattle.xliff.specs.Unit.{segment, ignorable}
@@ -16,30 +16,30 @@ use Rattle.table.specs.declared.Segment.{Segment}
 use Rattle.table_builder.specs.declared.Built.{Built}
 use Rattle.xml_attribute.specs.Attribute.{short-form}
 use Rattle.xml_attributes.specs.declared.Tagged.{Tagged}
-use Rattle.xml_attributes.specs.declared.Tagged.the-variants.{Whole, Cut, Fault}
+use Rattle.xml_attributes.specs.declared.Tagged.the-variants.{Whole}
 use Rattle.xml_attributes.specs.Tags.{TagRead}
 use Rattle.xml_heads.specs.declared.Head.{Head}
 use Rattle.xml_heads.specs.declared.Head.the-variants.{Segment as ASegment, Ignorable, Bad as NoHead}
 use Rattle.xml_heads.specs.Meanings.{head-meaning}
 use Rattle.xml_slots.specs.Slots.{ByAttributes}
-use Rattle.xml_piece.specs.Pieces.{rest-at, tag-at, Ahead}
+use Rattle.xml_piece.specs.Pieces.{rest-at, tag-at}
 use Rattle.xml_passages.specs.Passages.{Leads}
 use Rattle.xml_passages.proofs.OuterLaws.{leads-bad, closed-bad, part-opens, bad-part}
 use Rattle.xml_records.specs.Collecting.{Collects}
-use Rattle.xml_content.specs.declared.Went.{Went}
 use Rattle.xml_content.specs.declared.Went.the-variants.{On, Bad}
 use Rattle.xml_element.specs.Opens.{after-tag}
-use Rattle.xml_unit.specs.Units.{Passed, Steps, HeadSteps}
+use Rattle.xml_unit.specs.Units.{HeadSteps}
 use Rattle.xml_unit.proofs.TagSteps.{tag-attributes, tag-goes, tag-same, tag-told}
 
 -- a part in the short form has no source
-no-source-in : (place : ℕ) (name : List ℕ) (ats : List Attribute) (ts : List Token) (k : ℕ) (o : Option xliff.Head) → part-of-name name ats ≡ o
+no-source-in : (place : ℕ) (name : List ℕ) (ats : List Attribute) (ts : List Token) (k : ℕ) (o : Option xliff.Head)
+    → part-of-name name ats ≡ o
     → elements (outside (part-due k)) (start-tag place name ats ∷ end-tag place name ∷ ts) ≡ bad place
 unfolding closed
 no-source-in place name ats ts k none e = bad-part place name ats (end-tag place name ∷ ts) k e
 no-source-in place name ats ts k (some h) e =
-    leads-bad (part-due k) (source-due (suc k) name) (start-tag place name ats ∷ end-tag place name ∷ ts) (end-tag place name ∷ ts)
-    (part-head h ∷ []) place (part-opens place name ats (end-tag place name ∷ ts) k h e)
+    leads-bad (part-due k) (source-due (suc k) name) (start-tag place name ats ∷ end-tag place name ∷ ts)
+    (end-tag place name ∷ ts) (part-head h ∷ []) place (part-opens place name ats (end-tag place name ∷ ts) k h e)
     (closed-bad place name ts (source-due (suc k) name) refl)
 
 leads-as : (d d′ : Due) (a b c : List Token) (rs : List Record) → a ≡ b → Leads d b rs d′ c → Leads d a rs d′ c

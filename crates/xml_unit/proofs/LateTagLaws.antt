@@ -1,26 +1,29 @@
 -- A start tag behind the unit: it is blamed, be it whole, at fault or cut.
-use Prim.Native.Nat.{ℕ, zero, suc, _+_}
-use mathlib.Core.Path.{_≡_, refl, ap, subst, sym, _∙_}
+use Prim.Native.Nat.{ℕ, zero, suc}
+use mathlib.Core.Path.{_≡_, refl, ap, _∙_}
 use mathlib.Core.Bool.{Bool, true, false, cond, _&&_, _||_}
-use mathlib.Core.List.{List, [], _∷_, _++_}
-use lib.ListN.{length, drop}
+use mathlib.Core.List.{List, [], _∷_}
+use lib.ListN.{drop}
 use lib.Dec.{eqb}
 use Rattle.xml.specs.Characters.{Front, found, cut, wrong, is-blank, quote, apostrophe, '<', '>', '/', '=', '&', front-character, front-reference, continues-name}
-use Rattle.xml.specs.Tokens.{Attribute, Token, start-tag, end-tag, fault, cut-tag, Tag, State, in-tag, in-attribute, equals-due, value-due, in-value, in-short, Move, go, give, stop, with-front, doubled, whole-tag, with-attribute, in-tag-step, equals-step, value-character, step, at-end, outside-tags, tokens}
+use Rattle.xml.specs.Tokens.{Attribute, Token, start-tag, end-tag, fault, cut-tag, Tag, State, in-tag, in-attribute, equals-due, value-due, in-value, in-short, Move, go, give, stop, with-front, doubled, whole-tag, with-attribute, in-tag-step, equals-step, step, at-end, tokens}
 use Rattle.xml.specs.Elements.{nothing-due, outside, opened, cut-short, turn, bad, elements}
 use Rattle.xml.proofs.TagLaws.{goes, gives}
 use Rattle.xml_piece.specs.Pieces.{tag-at}
 use Rattle.xml_passages.proofs.PassageLaws.{turns-bad}
 
+abbrev tag-of : ℕ → List ℕ → List Attribute → Tag
+tag-of p n ats = record { place = p; name = n; attributes = ats }
+
 -- the bytes stand in a start tag of this place
 data InTag (p : ℕ) : State → Type 0 where
-  between : {n : List ℕ} {ats : List Attribute} {spaced : Bool} → InTag p (in-tag (record { place = p; name = n; attributes = ats }) spaced)
-  attribute : {n : List ℕ} {ats : List Attribute} {a : List ℕ} → InTag p (in-attribute (record { place = p; name = n; attributes = ats }) a)
-  equals : {n : List ℕ} {ats : List Attribute} {a : List ℕ} → InTag p (equals-due (record { place = p; name = n; attributes = ats }) a)
-  value : {n : List ℕ} {ats : List Attribute} {a : List ℕ} → InTag p (value-due (record { place = p; name = n; attributes = ats }) a)
+  between : {n : List ℕ} {ats : List Attribute} {spaced : Bool} → InTag p (in-tag (tag-of p n ats) spaced)
+  attribute : {n : List ℕ} {ats : List Attribute} {a : List ℕ} → InTag p (in-attribute (tag-of p n ats) a)
+  equals : {n : List ℕ} {ats : List Attribute} {a : List ℕ} → InTag p (equals-due (tag-of p n ats) a)
+  value : {n : List ℕ} {ats : List Attribute} {a : List ℕ} → InTag p (value-due (tag-of p n ats) a)
   inside : {n : List ℕ} {ats : List Attribute} {a : List ℕ} {q : ℕ} {v : List ℕ}
-      → InTag p (in-value (record { place = p; name = n; attributes = ats }) a q v)
-  short : {n : List ℕ} {ats : List Attribute} → InTag p (in-short (record { place = p; name = n; attributes = ats }))
+      → InTag p (in-value (tag-of p n ats) a q v)
+  short : {n : List ℕ} {ats : List Attribute} → InTag p (in-short (tag-of p n ats))
 
 -- it goes on, is whole, is at fault, or is cut
 data Stays (p : ℕ) : Move → Type 0 where
@@ -41,12 +44,12 @@ module _ (p : ℕ) where
   fronts cut at s g k = ends
   fronts wrong at s g k = faulty
 
-  whole-stays : (n : List ℕ) (ats : List Attribute) (ts : List Token) → Stays p (whole-tag (record { place = p; name = n; attributes = ats }) ts)
+  whole-stays : (n : List ℕ) (ats : List Attribute) (ts : List Token) → Stays p (whole-tag (tag-of p n ats) ts)
   unfolding whole-tag
   whole-stays n ats ts = either (doubled ats) faulty whole
 
   equals-stays : (n : List ℕ) (ats : List Attribute) (a : List ℕ) (b : ℕ)
-      → Stays p (equals-step (record { place = p; name = n; attributes = ats }) a b)
+      → Stays p (equals-step (tag-of p n ats) a b)
   unfolding equals-step
   equals-stays n ats a b = either (is-blank b) (on equals) (either (eqb b '=') (on value) faulty)
 
@@ -112,4 +115,5 @@ module _ (p : ℕ) where
 -- THE LAW OF A LATE TAG
 pub late-tag : (text : List ℕ) (place : ℕ) (name : List ℕ) (upto : ℕ)
     → elements (outside nothing-due) (tag-at text place name upto) ≡ bad place
-late-tag text place name upto = late-tokens place (drop upto text) (in-tag (record { place = place; name = name; attributes = [] }) false) 0 upto between
+late-tag text place name upto =
+    late-tokens place (drop upto text) (in-tag (record { place = place; name = name; attributes = [] }) false) 0 upto between

@@ -1,6 +1,6 @@
 -- Blanks and comments passed over outside of contents, and what stands behind them.
-use Prim.Native.Nat.{ℕ, _≤_, _<_}
-use mathlib.Core.Path.{_≡_, refl, sym, subst, _∙_}
+use Prim.Native.Nat.{ℕ, _≤_}
+use mathlib.Core.Path.{_≡_, refl, subst}
 use mathlib.Core.Bool.{true, false}
 use mathlib.Core.List.{List, [], _∷_}
 use native.Mathlib.Omega.{arith}
@@ -12,8 +12,6 @@ use Rattle.xml_piece.specs.declared.Piece.the-variants.{Start, Close, Comment, 
 use Rattle.xml_piece.specs.Pieces.{rest-at, Ahead, PieceRead}
 use Rattle.xml_passages.specs.Passages.{Alike, OuterBlames}
 use Rattle.xml_passages.proofs.OuterLaws.{alike-then, alike-as, alike-blames, blank-alike, text-blames, outer-reference, outer-fault, outer-text-fault}
-use Rattle.xml_element.specs.declared.EndTag.{EndTag}
-use Rattle.xml_unit.specs.declared.Outer.{Outer}
 use Rattle.xml_unit.specs.declared.Outer.the-variants.{Start as OuterStart, Close as OuterClose, Cut, Bad, End as OuterEnd}
 use Rattle.xml_unit.specs.Units.{OuterRead}
 

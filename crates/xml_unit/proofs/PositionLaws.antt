@@ -1,8 +1,8 @@
 -- The order of a target that is its part's position.
 use Prim.Native.Nat.{ℕ, _≤_}
-use mathlib.Core.Path.{_≡_, refl, sym, ap, _∙_}
+use mathlib.Core.Path.{_≡_, refl, ap, _∙_}
 use mathlib.Core.Bool.{Bool, true, false}
-use mathlib.Core.List.{List, [], _∷_, _++_}
+use mathlib.Core.List.{List, [], _∷_}
 use native.Mathlib.Omega.{arith}
 use Rattle.xliff.specs.Item.{Item, text, character, standalone, isolated, pair, annotation-start, annotation-end}
 use Rattle.xliff.specs.Encode.{Record, opening, closing, part-head, target-head, text-run, inline, ill-text, broken, record-bytes, text-before, item-before}
@@ -10,9 +10,9 @@ use Rattle.xliff.specs.Good.{part-heads}
 use Rattle.xliff.specs.Parse.{is-part, most-parts}
 use Rattle.xml.proofs.MergeLaws.{texts-before, put, merged}
 use Rattle.table_builder.specs.declared.Built.{Built}
-use Rattle.table_builder.specs.Building.{with-run, RecordPut}
+use Rattle.table_builder.specs.Building.{RecordPut}
 use Rattle.table_builder.proofs.RecordLaws.{held-small, record-beyond}
-use Rattle.xml_records.specs.Collecting.{Collected, Collects}
+use Rattle.xml_records.specs.Collecting.{Collects}
 use Rattle.xml_records.proofs.CollectLaws.{gathered-all, whole-target, collects-record}
 use Rattle.xml_unit.specs.Units.{CollectingAt}
 
@@ -74,7 +74,8 @@ module _ {position : ℕ} {t : List ℕ} {built : Built} (k : CollectingAt posit
       )
 
 -- beyond them any record may be said to be put
-put-beyond : (t : List ℕ) (built : Built) (bytes : List ℕ) (part : Bool) → built .over ≡ true → RecordPut t built bytes part t built
+put-beyond : (t : List ℕ) (built : Built) (bytes : List ℕ) (part : Bool) → built .over ≡ true
+    → RecordPut t built bytes part t built
 unfolding RecordPut
 put-beyond t built bytes part over done run r held b h = record-beyond held r over
 

@@ -1,9 +1,9 @@
 -- A source or a target: its start tag, its content and its end tag.
-use Prim.Native.Nat.{ℕ, _≤_, _<_}
+use Prim.Native.Nat.{ℕ, _≤_}
 use mathlib.Core.Path.{_≡_, refl, sym, ap, subst, _∙_}
 use mathlib.Core.Bool.{Bool, true, false, _&&_}
 use mathlib.Core.List.{List, [], _∷_, _++_}
-use mathlib.Core.Option.{Option, none, some}
+use mathlib.Core.Option.{none, some}
 use native.Mathlib.Omega.{arith}
 use lib.ListN.{length}
 use lib.Dec.{eqb}
@@ -15,23 +15,22 @@ use Rattle.xliff.specs.Parse.{is-part}
 use Rattle.xliff.proofs.lists.Tests.{and-left}
 use Rattle.xliff.proofs.unit.Valid.{heads-append}
 use Rattle.xml.specs.Words.{'source', 'target'}
-use Rattle.xml.specs.Tokens.{Attribute, Token, start-tag, end-tag, cut-tag}
+use Rattle.xml.specs.Tokens.{Attribute, Token, start-tag}
 use Rattle.xml.specs.Attributes.{only, named}
-use Rattle.xml.specs.Elements.{Due, source-due, target-due, part-end-due, Side, outside, in-content, target-order, cut-short, bad, behind, elements}
+use Rattle.xml.specs.Elements.{Due, source-due, target-due, Side, outside, in-content, target-order, behind, elements}
 use Rattle.xml.proofs.ContentLaws.{behind-append, behind-nil}
 use Rattle.table_builder.specs.declared.Built.{Built}
 use Rattle.xml_names.specs.Names.{bytes-between}
 use Rattle.xml_attribute.specs.Attribute.{short-form}
 use Rattle.xml_attributes.specs.declared.Tagged.{Tagged}
-use Rattle.xml_attributes.specs.declared.Tagged.the-variants.{Whole, Cut, Fault}
-use Rattle.xml_attributes.specs.Tags.{WholeTag, TagRead}
+use Rattle.xml_attributes.specs.declared.Tagged.the-variants.{Whole}
+use Rattle.xml_attributes.specs.Tags.{TagRead}
 use Rattle.xml_heads.specs.declared.Order.{Order}
 use Rattle.xml_heads.specs.declared.Order.the-variants.{Given, Absent, Bad as NoOrder}
 use Rattle.xml_heads.specs.Meanings.{order-meaning, OrderRead}
-use Rattle.xml_slots.specs.Slots.{SomeSlots, ByAttributes}
 use Rattle.xml_piece.specs.Pieces.{rest-at, tag-at, Ahead}
 use Rattle.xml_passages.specs.Passages.{Passage, Blames, Leads}
-use Rattle.xml_passages.proofs.OuterLaws.{cut-before, source-side, target-side, source-opens, no-source, target-opens, no-target, bad-target, side-closed, side-bad}
+use Rattle.xml_passages.proofs.OuterLaws.{source-side, target-side, source-opens, no-source, target-opens, no-target, bad-target, side-closed, side-bad}
 use Rattle.xml_records.specs.Collecting.{Collects}
 use Rattle.xml_records.proofs.CollectLaws.{collects-none, collects-both}
 use Rattle.xml_element.specs.declared.EndTag.{EndTag}
@@ -42,7 +41,7 @@ use Rattle.xml_content.specs.declared.Went.the-variants.{On, Bad}
 use Rattle.xml_element.specs.Opens.{end-tokens, EndTagIn, after-tag}
 use Rattle.xml_content.specs.Contents.{ContentClosed, ContentRead}
 use Rattle.xml_unit.proofs.TagSteps.{tag-attributes, tag-goes, tag-count, tag-same, tag-told}
-use Rattle.xml_unit.specs.Units.{SideOn, SideSteps, SideRead, Passed, Steps, SourceSteps, TargetSteps}
+use Rattle.xml_unit.specs.Units.{SideSteps, SideRead, Steps, SourceSteps, TargetSteps}
 
 -- In the short form the end tag is that of the start tag
 module _ (text : List ℕ) (next : ℕ) (word table : List ℕ) (built : Built) (inside : next ≤ length text) where
@@ -198,7 +197,8 @@ module _ (text : List ℕ) (place : ℕ) (name : List ℕ) (upto : ℕ) (slots :
         → TargetSteps text upto position (tag-at text place name upto) t built t (Bad place)
     unfolding TargetSteps
     order-bad position t built f p =
-        ap (elements (outside (target-due position p))) whole ∙ bad-target place name ats after position p same (order-is f position)
+        ap (elements (outside (target-due position p))) whole
+        ∙ bad-target place name ats after position p same (order-is f position)
 
     headed : (position q : ℕ) (t t₁ t₂ : List ℕ) (built built₁ : Built) (w : Went) → target-order position ats ≡ some q
         → Collects (target-head q ∷ []) t built t₁ built₁ → SideRead text next short 'target' t₁ built₁ t₂ w

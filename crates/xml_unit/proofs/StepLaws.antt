@@ -1,13 +1,13 @@
 -- What stands behind blanks and comments, where something is due; and steps that follow each other.
-use Prim.Native.Nat.{ℕ, _+_, _≤_, _<_}
-use mathlib.Core.Path.{_≡_, refl, sym, ap, subst, _∙_}
+use Prim.Native.Nat.{ℕ, _+_}
+use mathlib.Core.Path.{_≡_, refl, sym, subst, _∙_}
 use mathlib.Core.List.{List, [], _∷_, _++_}
 use native.Mathlib.Omega.{arith}
 use lib.ListN.{length}
 use Rattle.xliff.specs.Encode.{Record}
 use Rattle.xliff.specs.Good.{part-heads}
 use Rattle.xliff.proofs.unit.Valid.{heads-append}
-use Rattle.xml.specs.Tokens.{Token, end-tag, finish, cut-tag}
+use Rattle.xml.specs.Tokens.{Token, finish, cut-tag}
 use Rattle.xml.specs.Elements.{Due, outside, blame, closed, finished, cut-short, bad, elements}
 use Rattle.table_builder.specs.declared.Built.{Built}
 use Rattle.xml_names.specs.Names.{bytes-between, NameIn}
@@ -17,7 +17,6 @@ use Rattle.xml_passages.proofs.OuterLaws.{leads-then, leads-bad, finish-before,
 use Rattle.xml_records.specs.Collecting.{Collects, Collecting}
 use Rattle.xml_records.proofs.CollectLaws.{collects-none, collects-both}
 use Rattle.xml_element.specs.declared.EndTag.{EndTag}
-use Rattle.xml_element.specs.declared.Emptied.{Emptied}
 use Rattle.xml_element.specs.declared.Emptied.the-variants.{On as EmptyOn, Bad as EmptyBad}
 use Rattle.xml_content.specs.declared.Went.{Went}
 use Rattle.xml_content.specs.declared.Went.the-variants.{On, Bad}
@@ -137,8 +136,9 @@ module _ (text : List ℕ) (from next heads : ℕ) (d d′ : Due) (a : List Toke
 pub some-collected : {parts : ℕ} {t : List ℕ} {built : Built} → CollectingAt parts t built → Collecting t built
 some-collected k = record { read = k .before; collected = k .collected }
 
-pub more-collected : {parts heads total : ℕ} {t t′ : List ℕ} {built built′ : Built} (rs : List Record) → CollectingAt parts t built
-    → Collects rs t built t′ built′ → part-heads rs ≡ heads → parts + heads ≡ total → CollectingAt total t′ built′
+pub more-collected : {parts heads total : ℕ} {t t′ : List ℕ} {built built′ : Built} (rs : List Record)
+    → CollectingAt parts t built → Collects rs t built t′ built′ → part-heads rs ≡ heads
+    → parts + heads ≡ total → CollectingAt total t′ built′
 more-collected rs k h e sum =
     record {
       before = k .before ++ rs;

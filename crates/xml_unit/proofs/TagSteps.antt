@@ -1,16 +1,16 @@
 -- A start tag outside of contents, as its attributes are read.
-use Prim.Native.Nat.{ℕ, _≤_, _<_}
-use mathlib.Core.Path.{_≡_, refl, sym, ap, subst, _∙_}
-use mathlib.Core.Bool.{Bool, true, false}
-use mathlib.Core.List.{List, [], _∷_, _++_}
+use Prim.Native.Nat.{ℕ}
+use mathlib.Core.Path.{_≡_, sym, ap, subst, _∙_}
+use mathlib.Core.Bool.{Bool}
+use mathlib.Core.List.{List, [], _∷_}
 use lib.ListN.{length}
-use Rattle.xml.specs.Tokens.{Attribute, Token, start-tag, cut-tag}
+use Rattle.xml.specs.Tokens.{Attribute, start-tag}
 use Rattle.xml.specs.Elements.{Due, outside, blame, cut-short, bad, elements}
 use Rattle.xml_attributes.specs.declared.Tagged.{Tagged}
 use Rattle.xml_attributes.specs.declared.Tagged.the-variants.{Whole, Cut, Fault}
-use Rattle.xml_attributes.specs.Tags.{WholeTag, TagRead}
+use Rattle.xml_attributes.specs.Tags.{TagRead}
 use Rattle.xml_slots.specs.Slots.{SomeSlots, ByAttributes}
-use Rattle.xml_piece.specs.Pieces.{rest-at, tag-at, Ahead}
+use Rattle.xml_piece.specs.Pieces.{tag-at, Ahead}
 use Rattle.xml_passages.proofs.OuterLaws.{cut-before}
 use Rattle.xml_element.specs.Opens.{after-tag}
 

@@ -1,9 +1,8 @@
 -- A unit: its start tag, its parts one by one, its end tag, and the end of the text.
-use Prim.Native.Nat.{ℕ, suc, _+_, _≤_, _<_}
+use Prim.Native.Nat.{ℕ, suc, _+_, _≤_}
 use mathlib.Core.Path.{_≡_, refl, sym, ap, subst, _∙_}
 use mathlib.Core.Bool.{Bool, true, false}
 use mathlib.Core.List.{List, [], _∷_, _++_}
-use mathlib.Core.Option.{Option, none, some}
 use native.Mathlib.Numerals.{add-one}
 use native.Mathlib.Omega.{arith}
 use lib.ListN.{length}
@@ -30,16 +29,15 @@ use Rattle.xml_slots.specs.Slots.{ByAttributes}
 use Rattle.xml_piece.specs.Pieces.{rest-at, tag-at, Ahead}
 use Rattle.xml_passages.specs.Passages.{Alike, Leads}
 use Rattle.xml_passages.proofs.OuterLaws.{leads-then, leads-bad, closed-bad, unit-opens, no-unit, bad-unit, unit-closes, text-over}
-use Rattle.xml_records.specs.Collecting.{Collected, Collects}
+use Rattle.xml_records.specs.Collecting.{Collects}
 use Rattle.xml_records.proofs.CollectLaws.{collects-none, collects-both, collected-none}
 use Rattle.xml_element.specs.declared.EndTag.{EndTag}
-use Rattle.xml_content.specs.declared.Went.{Went}
-use Rattle.xml_content.specs.declared.Went.the-variants.{On, Bad}
+use Rattle.xml_content.specs.declared.Went.the-variants.{On}
 use Rattle.xml_unit.specs.declared.ReadText.{ReadText}
 use Rattle.xml_unit.specs.declared.ReadText.the-variants.{Good, Bad as UnitBad}
 use Rattle.xml_element.specs.Opens.{end-tokens, after-tag}
-use Rattle.xml_unit.specs.Units.{CollectingAt, Passed, Steps, Finished, Finishes, UnitEnds, BehindUnit, Whole, TextRead}
-use Rattle.xml_unit.proofs.TagSteps.{tag-attributes, tag-goes, tag-same, tag-told}
+use Rattle.xml_unit.specs.Units.{CollectingAt, Passed, Steps, Finishes, UnitEnds, BehindUnit, TextRead}
+use Rattle.xml_unit.proofs.TagSteps.{tag-attributes, tag-same, tag-told}
 use Rattle.xml_unit.proofs.StepLaws.{steps-from, more-collected}
 
 -- what is read behind a step
@@ -82,8 +80,9 @@ module _ (text : List ℕ) (end : EndTag) where
   abbrev end-name : List ℕ
   end-name = bytes-between text (end .from) (end .upto)
 
-  pub unit-ends : (t t′ : List ℕ) (built built′ : Built) → equal end-name 'unit' ≡ true → Collects (closing ∷ []) t built t′ built′
-      → (m : ReadText) → BehindUnit text (end .next) built′ m → UnitEnds (end-tokens text end) t built t′ m
+  pub unit-ends : (t t′ : List ℕ) (built built′ : Built) → equal end-name 'unit' ≡ true
+      → Collects (closing ∷ []) t built t′ built′ → (m : ReadText) → BehindUnit text (end .next) built′ m
+      → UnitEnds (end-tokens text end) t built t′ m
   unfolding UnitEnds
   unit-ends t t′ built built′ same put m k i =
       finishes-then (part-due i) nothing-due (end-tokens text end) (rest-at text (end .next)) (closing ∷ []) t t′ t′ built built′
@@ -96,7 +95,8 @@ module _ (text : List ℕ) (end : EndTag) where
   other-end t built other i = closed-bad (end .place) end-name (rest-at text (end .next)) (part-due i) (rw other refl)
 
 -- the parts up to a place
-pub record PartsRead (text : List ℕ) (start : ℕ) (t₀ : List ℕ) (built₀ : Built) (at : ℕ) (t : List ℕ) (built : Built) (count : ℕ) : Type 0 where
+pub record PartsRead (text : List ℕ) (start : ℕ) (t₀ : List ℕ) (built₀ : Built) (at : ℕ) (t : List ℕ) (built : Built)
+    (count : ℕ) : Type 0 where
   pub few : count ≤ at
   pub high : at ≤ length text
   pub passed : Passed (part-due 0) (rest-at text start) count t₀ built₀ (part-due count) (rest-at text at) t built
@@ -119,13 +119,14 @@ no-parts text start t built h =
 module _ (text : List ℕ) (start : ℕ) (t₀ : List ℕ) (built₀ : Built) (at : ℕ) (t : List ℕ) (built : Built) (count : ℕ)
     (s : PartsRead text start t₀ built₀ at t built count) where
   -- one more
-  one-more : (upto next : ℕ) (tag : List Token) (t′ : List ℕ) (built′ : Built) → Ahead text at upto → Alike (rest-at text at) tag
+  one-more : (upto next : ℕ) (tag : List Token) (t′ : List ℕ) (built′ : Built) → Ahead text at upto
+      → Alike (rest-at text at) tag
       → Steps text upto (part-due count) tag 1 (part-due (suc count)) t built t′ (On next built′)
       → PartsRead text start t₀ built₀ next t′ built′ (suc count)
   one-more upto next tag t′ built′ goes k step =
       let here =
-      steps-from text at upto 1 (part-due count) (part-due (suc count)) (rest-at text at) tag t built t′ goes k (On next built′)
-      step in
+      steps-from text at upto 1 (part-due count) (part-due (suc count)) (rest-at text at) tag t built t′ goes k
+      (On next built′) step in
       let p = s .passed in
       let q = here .1 in
       record {
@@ -141,7 +142,8 @@ module _ (text : List ℕ) (start : ℕ) (t₀ : List ℕ) (built₀ : Built) (a
         };
       }
 
-  pub part-on : (upto next : ℕ) (tag : List Token) (t′ : List ℕ) (built′ : Built) → Ahead text at upto → Alike (rest-at text at) tag
+  pub part-on : (upto next : ℕ) (tag : List Token) (t′ : List ℕ) (built′ : Built) → Ahead text at upto
+      → Alike (rest-at text at) tag
       → Steps text upto (part-due count) tag 1 (part-due (suc count)) t built t′ (On next built′)
       → PartsRead text start t₀ built₀ next t′ built′ (count + 1)
   part-on upto next tag t′ built′ goes k step =
@@ -178,7 +180,8 @@ module _ (text : List ℕ) (place : ℕ) (name : List ℕ) (upto : ℕ) (slots :
 
   pub another-name : equal name 'unit' ≡ false → elements (outside unit-due) (tag-at text place name upto) ≡ bad place
   another-name other =
-      ap (elements (outside unit-due)) (tag-is short refl) ∙ no-unit place name ats (after-tag text short place name ats next) other
+      ap (elements (outside unit-due)) (tag-is short refl)
+      ∙ no-unit place name ats (after-tag text short place name ats next) other
 
   module _ (same : equal name 'unit' ≡ true) (u : UnitRead) (told : ByAttributes slots count unit-opening (unit-meaning u)) where
     opening-is : {n : UnitRead} → u ≡ n → unit-opening ats ≡ unit-meaning n
@@ -199,9 +202,10 @@ module _ (text : List ℕ) (place : ℕ) (name : List ℕ) (upto : ℕ) (slots :
       unfolding short-form
       short-unit w is close k =
           let ends = end-tag place name ∷ rest-at text next in
-          finishes-then unit-due nothing-due (tag-at text place name upto) (rest-at text next) (first ++ (closing ∷ [])) t t₂ t₂ built
-          built₂
-          (leads-then unit-due (part-due 0) nothing-due (tag-at text place name upto) ends (rest-at text next) first (closing ∷ [])
+          finishes-then unit-due nothing-due (tag-at text place name upto) (rest-at text next) (first ++ (closing ∷ [])) t t₂ t₂
+          built built₂
+          (leads-then unit-due (part-due 0) nothing-due (tag-at text place name upto) ends (rest-at text next) first
+          (closing ∷ [])
           (leads-as unit-due (part-due 0) (tag-at text place name upto) (opens true) ends first (tag-is true is)
           (unit-opens place name ats ends (record { canResegment = letter }) same (opening-is f)))
           (unit-closes 0 name place (rest-at text next) same))
@@ -221,8 +225,8 @@ pub opening-collected : (letter : ℕ) {t t′ : List ℕ} {built built′ : Bui
     → Collects (opening (record { canResegment = letter }) ∷ []) t built t′ built′ → CollectingAt 0 t′ built′
 opening-collected letter k put =
     let first : List Record = opening (record { canResegment = letter }) ∷ [] in
-    let none : part-heads first ≡ 0 = unfold part-heads is-part in refl in
-    more-collected first k put none refl
+    let no-part : part-heads first ≡ 0 = unfold part-heads is-part in refl in
+    more-collected first k put no-part refl
 
 -- the whole text
 pub none-collected : {t : List ℕ} {built : Built} → HoldsNothing built → length t ≡ most-bytes → CollectingAt 0 t built

@@ -8,13 +8,12 @@ use Rattle.xliff.specs.Bytes.{equal}
 use Rattle.xliff.specs.Encode.{Record}
 use Rattle.xliff.specs.Good.{part-heads}
 use Rattle.xml.specs.Tokens.{Attribute, Token, finish, cut-tag}
-use Rattle.xml.specs.Elements.{Due, part-due, source-due, target-due, part-end-due, nothing-due, Side, outside, in-content, Read, read, bad, behind, elements, xml-records}
+use Rattle.xml.specs.Elements.{Due, part-due, source-due, target-due, part-end-due, nothing-due, Side, outside, in-content, read, bad, behind, elements, xml-records}
 use Rattle.table_builder.specs.declared.Built.{Built}
 use Rattle.xml_names.specs.Names.{bytes-between, NameIn}
 use Rattle.xml_piece.specs.Pieces.{rest-at, tag-at, Ahead}
 use Rattle.xml_passages.specs.Passages.{Alike, OuterBlames, Leads}
 use Rattle.xml_records.specs.Collecting.{Collected, Collects}
-use Rattle.xml_element.specs.declared.EndTag.{EndTag}
 use Rattle.xml_element.specs.declared.Emptied.{Emptied}
 use Rattle.xml_element.specs.declared.Emptied.the-variants.{On as EmptyOn, Bad as EmptyBad}
 use Rattle.xml_element.specs.Opens.{end-tokens, EndTagIn, after-tag}
@@ -28,7 +27,8 @@ use Rattle.xml_unit.specs.declared.ReadText.the-variants.{Good, Bad as U
 -- behind blanks and comments
 abbrev pub OuterRead : List ℕ → ℕ → Outer → Type 0
 OuterRead text start (Start place from upto) =
-    Ahead text start upto × NameIn text from upto × Alike (rest-at text start) (tag-at text place (bytes-between text from upto) upto)
+    Ahead text start upto × NameIn text from upto
+    × Alike (rest-at text start) (tag-at text place (bytes-between text from upto) upto)
 OuterRead text start (Close end) = EndTagIn text start end × Alike (rest-at text start) (end-tokens text end)
 OuterRead text start (Cut place) = Alike (rest-at text start) (cut-tag place (length text) ∷ [])
 OuterRead text start (OuterBad p) = OuterBlames (rest-at text start) p
@@ -60,8 +60,8 @@ SideRead text next short word table built table′ r =
 
 -- From what is due to what is due then, with the records between, of which so many are heads of parts: behind it, or a
 -- place at fault
-pub record Passed (d : Due) (a : List Token) (heads : ℕ) (table : List ℕ) (built : Built) (d′ : Due) (b : List Token) (table′ : List ℕ)
-    (built′ : Built) : Type 0 where
+pub record Passed (d : Due) (a : List Token) (heads : ℕ) (table : List ℕ) (built : Built) (d′ : Due) (b : List Token)
+    (table′ : List ℕ) (built′ : Built) : Type 0 where
   pub records : List Record
   pub heads-are : part-heads records ≡ heads
   pub leads : Leads d a records d′ b

@@ -114,7 +114,8 @@ fn outer_at(text: &[u8], start: usize) -> Outer
 // Behind the start tag of a source or a target of this name: its content, and its end tag.
 fn side(text: &[u8], next: usize, short: bool, name: &[u8], table: &mut [u8], built: Built) -> Went
     requires { ⌜ (next ≤ length (now text)) × Collecting (now table) built ⌝ }
-    ensures { λ r. ⌜ SideRead (now (text .entry)) next short (now (name .entry)) (now (table .entry)) built (now (table .exit)) r ⌝ }
+    ensures { λ r. ⌜ SideRead (now (text .entry)) next short (now (name .entry)) (now (table .entry)) built (now (table
+        .exit)) r ⌝ }
 {
     if short {
         return Went::On(next, built);
@@ -142,7 +143,8 @@ fn source_at(
     built: Built,
 ) -> Went
     requires { ⌜ NameIn (now text) from upto × Collecting (now table) built ⌝ }
-    ensures { λ r. ⌜ SourceSteps (now (text .entry)) upto (tag-at (now (text .entry)) place (bytes-between (now (text .entry)) from upto) upto) (now (table .entry)) built (now (table .exit)) r ⌝ }
+    ensures { λ r. ⌜ SourceSteps (now (text .entry)) upto (tag-at (now (text .entry)) place (bytes-between (now (text
+        .entry)) from upto) upto) (now (table .entry)) built (now (table .exit)) r ⌝ }
 {
     let mut slots = [ABSENT; 16];
     match read_attributes(text, upto, &mut slots) {
@@ -179,7 +181,8 @@ fn target_at(
     position: usize,
 ) -> Went
     requires { ⌜ NameIn (now text) from upto × CollectingAt position (now table) built ⌝ }
-    ensures { λ r. ⌜ TargetSteps (now (text .entry)) upto position (tag-at (now (text .entry)) place (bytes-between (now (text .entry)) from upto) upto) (now (table .entry)) built (now (table .exit)) r ⌝ }
+    ensures { λ r. ⌜ TargetSteps (now (text .entry)) upto position (tag-at (now (text .entry)) place (bytes-between (now
+        (text .entry)) from upto) upto) (now (table .entry)) built (now (table .exit)) r ⌝ }
 {
     let mut slots = [ABSENT; 16];
     match read_attributes(text, upto, &mut slots) {
@@ -238,7 +241,8 @@ fn behind_source(
     position: usize,
 ) -> Went
     requires { ⌜ (start ≤ length (now text)) × NameIn (now text) from upto × CollectingAt position (now table) built ⌝ }
-    ensures { λ r. ⌜ Steps (now (text .entry)) start (target-due position (bytes-between (now (text .entry)) from upto)) (rest-at (now (text .entry)) start) 0 (part-due position) (now (table .entry)) built (now (table .exit)) r ⌝ }
+    ensures { λ r. ⌜ Steps (now (text .entry)) start (target-due position (bytes-between (now (text .entry)) from upto))
+        (rest-at (now (text .entry)) start) 0 (part-due position) (now (table .entry)) built (now (table .exit)) r ⌝ }
 {
     match outer_at(text, start) {
         Outer::Start(place, name_from, name_upto) => {
@@ -265,7 +269,8 @@ fn behind_source(
 // The source of a part.
 fn source_of(text: &[u8], start: usize, table: &mut [u8], built: Built) -> Went
     requires { ⌜ (start ≤ length (now text)) × Collecting (now table) built ⌝ }
-    ensures { λ r. ⌜ SourceSteps (now (text .entry)) start (rest-at (now (text .entry)) start) (now (table .entry)) built (now (table .exit)) r ⌝ }
+    ensures { λ r. ⌜ SourceSteps (now (text .entry)) start (rest-at (now (text .entry)) start) (now (table .entry))
+        built (now (table .exit)) r ⌝ }
 {
     match outer_at(text, start) {
         Outer::Start(place, from, upto) => source_at(text, place, from, upto, table, built),
@@ -279,7 +284,9 @@ fn source_of(text: &[u8], start: usize, table: &mut [u8], built: Built) -> Went
 // The head of a part whose name stands from one place to the other. In the short form it has no source.
 fn head(text: &[u8], place: usize, from: usize, upto: usize, table: &mut [u8], built: Built) -> Went
     requires { ⌜ NameIn (now text) from upto × Collecting (now table) built ⌝ }
-    ensures { λ r. ⌜ HeadSteps (now (text .entry)) upto (bytes-between (now (text .entry)) from upto) (tag-at (now (text .entry)) place (bytes-between (now (text .entry)) from upto) upto) (now (table .entry)) built (now (table .exit)) r ⌝ }
+    ensures { λ r. ⌜ HeadSteps (now (text .entry)) upto (bytes-between (now (text .entry)) from upto) (tag-at (now (text
+        .entry)) place (bytes-between (now (text .entry)) from upto) upto) (now (table .entry)) built (now (table
+        .exit)) r ⌝ }
 {
     let mut slots = [ABSENT; 16];
     match read_attributes(text, upto, &mut slots) {
@@ -309,7 +316,8 @@ fn part(
     before: usize,
 ) -> Went
     requires { ⌜ NameIn (now text) from upto × (before < upto) × CollectingAt before (now table) built ⌝ }
-    ensures { λ r. ⌜ Steps (now (text .entry)) upto (part-due before) (tag-at (now (text .entry)) place (bytes-between (now (text .entry)) from upto) upto) 1 (part-due (suc before)) (now (table .entry)) built (now (table .exit)) r ⌝ }
+    ensures { λ r. ⌜ Steps (now (text .entry)) upto (part-due before) (tag-at (now (text .entry)) place (bytes-between
+        (now (text .entry)) from upto) upto) 1 (part-due (suc before)) (now (table .entry)) built (now (table .exit)) r ⌝ }
 {
     match head(text, place, from, upto, table, built) {
         Went::On(next, headed) => match source_of(text, next, table, headed) {
@@ -359,7 +367,8 @@ fn unit_end(text: &[u8], at: usize, end: EndTag, table: &mut [u8], built: Built)
 // The parts of a unit from `start` on, and its end.
 fn parts(text: &[u8], start: usize, table: &mut [u8], built: Built) -> ReadText
     requires { ⌜ (start ≤ length (now text)) × CollectingAt 0 (now table) built ⌝ }
-    ensures { λ r. ⌜ Finishes (part-due 0) (rest-at (now (text .entry)) start) (now (table .entry)) built (now (table .exit)) r ⌝ }
+    ensures { λ r. ⌜ Finishes (part-due 0) (rest-at (now (text .entry)) start) (now (table .entry)) built (now (table
+        .exit)) r ⌝ }
 {
     let mut at = start;
     let mut so_far = built;
@@ -404,7 +413,8 @@ fn unit(
     built: Built,
 ) -> ReadText
     requires { ⌜ NameIn (now text) from upto × CollectingAt 0 (now table) built ⌝ }
-    ensures { λ r. ⌜ Finishes unit-due (tag-at (now (text .entry)) place (bytes-between (now (text .entry)) from upto) upto) (now (table .entry)) built (now (table .exit)) r ⌝ }
+    ensures { λ r. ⌜ Finishes unit-due (tag-at (now (text .entry)) place (bytes-between (now (text .entry)) from upto)
+        upto) (now (table .entry)) built (now (table .exit)) r ⌝ }
 {
     let mut slots = [ABSENT; 16];
     match read_attributes(text, upto, &mut slots) {

@@ -101,7 +101,8 @@ fn put_unit_end(out: &mut [u8], draft: Draft, within: Open) -> Draft
 
 fn put_segment_tag(out: &mut [u8], draft: Draft, f: Segment) -> Draft
     requires { ⌜ draft .used ≤ length (now out) ⌝ }
-    ensures { λ r. ⌜ Wrote (opening-tag (head-name (segment (segment-meaning f))) (head-attributes (segment (segment-meaning f)))) (now (out .entry)) draft (now (out .exit)) r ⌝ }
+    ensures { λ r. ⌜ Wrote (opening-tag (head-name (segment (segment-meaning f))) (head-attributes (segment
+        (segment-meaning f)))) (now (out .entry)) draft (now (out .exit)) r ⌝ }
 {
     let opened = draft::put(out, draft, b"<segment");
     let named = xml_tags::put_unless_zero(out, opened, b"id", f.id);
@@ -174,7 +175,8 @@ fn put_record(
     w: usize,
 ) -> Draft
     requires { ⌜ (draft .used ≤ length (now out)) × Stands (now t) at (found (now t) at x) w ⌝ }
-    ensures { λ r. ⌜ WroteRecord (now (t .entry)) at within (found (now (t .entry)) at x) (now (out .entry)) draft (now (out .exit)) r ⌝ }
+    ensures { λ r. ⌜ WroteRecord (now (t .entry)) at within (found (now (t .entry)) at x) (now (out .entry)) draft (now
+        (out .exit)) r ⌝ }
 {
     match x {
         Record::Unit(f) => put_unit_start(out, draft, f.can_resegment),
@@ -190,7 +192,8 @@ fn put_record(
 // What was read at an offset of the table.
 fn put_read(out: &mut [u8], draft: Draft, t: &[u8], at: usize, within: Open, r: Read) -> Draft
     requires { ⌜ (draft .used ≤ length (now out)) × Stands (now t) at (read-there (now t) at r) (width r) ⌝ }
-    ensures { λ x. ⌜ WroteRecord (now (t .entry)) at within (read-there (now (t .entry)) at r) (now (out .entry)) draft (now (out .exit)) x ⌝ }
+    ensures { λ x. ⌜ WroteRecord (now (t .entry)) at within (read-there (now (t .entry)) at r) (now (out .entry)) draft
+        (now (out .exit)) x ⌝ }
 {
     match r {
         Read::Good(x, w) => put_record(out, draft, t, at, within, x, w),

@@ -13,47 +13,62 @@ use Rattle.xml_unit.proofs.behind_unit.Tie as tie
 -- Outer::Start(place, from, upto) => ReadText::Bad(place)
 returns : tie.Need-returns
 returns c =
-    let args = c .before .before .before .before .before .args in
+    let at-place = c .before in
+    let at-outer-at = at-place .before .before in
+    let start = at-outer-at .before .before in
+    let args = start .args in
     let text = args .text .now in
-    let outer = c .before .before .before .outer-at in
-    let tag = c .before .place .given .0 in
-    start-bad text (args .start) (outer .result) (outer .ensures) (c .before .place .given .1) nothing-due
+    let outer = at-outer-at .outer-at in
+    let tag = at-place .place .given .0 in
+    start-bad text (args .start) (outer .result) (outer .ensures) (at-place .place .given .1) nothing-due
     (late-tag text (tag .0) (bytes-between text (tag .1 .0) (tag .1 .1 .0)) (tag .1 .1 .0))
 
 -- Outer::Close(end) => ReadText::Bad(end.place)
 returns-2 : tie.Need-returns-2
 unfolding closed
 returns-2 c =
-    let args = c .before .before .before .before .before .args in
-    let outer = c .before .before .before .outer-at in
-    end-bad (args .text .now) (args .start) (outer .result) (outer .ensures) (c .before .end .given .1) nothing-due refl
+    let at-end = c .before in
+    let at-outer-at = at-end .before .before in
+    let start = at-outer-at .before .before in
+    let args = start .args in
+    let outer = at-outer-at .outer-at in
+    end-bad (args .text .now) (args .start) (outer .result) (outer .ensures) (at-end .end .given .1) nothing-due refl
 
 -- Outer::Cut(place) => ReadText::Bad(place)
 returns-3 : tie.Need-returns-3
 returns-3 c =
-    let args = c .before .before .before .before .before .args in
+    let at-place2 = c .before in
+    let at-outer-at = at-place2 .before .before in
+    let start = at-outer-at .before .before in
+    let args = start .args in
     let text = args .text .now in
-    let outer = c .before .before .before .outer-at in
-    let place = c .before .place2 .given .0 .0 in
+    let outer = at-outer-at .outer-at in
+    let place = at-place2 .place2 .given .0 .0 in
     tag-behind (rest-at text (args .start)) _ place
-    (cut-alike text (args .start) (outer .result) (outer .ensures) (c .before .place2 .given .1)) (late-cut place (length text))
+    (cut-alike text (args .start) (outer .result) (outer .ensures) (at-place2 .place2 .given .1)) (late-cut place (length text))
 
 -- Outer::Bad(place) => ReadText::Bad(place)
 returns-4 : tie.Need-returns-4
 returns-4 c =
-    let args = c .before .before .before .before .before .args in
-    let outer = c .before .before .before .outer-at in
-    fault-bad (args .text .now) (args .start) (outer .result) (outer .ensures) (c .before .place3 .given .1) nothing-due
+    let at-place3 = c .before in
+    let at-outer-at = at-place3 .before .before in
+    let start = at-outer-at .before .before in
+    let args = start .args in
+    let outer = at-outer-at .outer-at in
+    fault-bad (args .text .now) (args .start) (outer .result) (outer .ensures) (at-place3 .place3 .given .1) nothing-due
 
 -- Outer::End(place) => ReadText::Good(built)
 returns-5 : tie.Need-returns-5
 returns-5 c =
-    let args = c .before .before .before .before .before .args in
+    let at-place4 = c .before in
+    let at-outer-at = at-place4 .before .before in
+    let start = at-outer-at .before .before in
+    let args = start .args in
     let text = args .text .now in
-    let outer = c .before .before .before .outer-at in (
+    let outer = at-outer-at .outer-at in (
       refl,
-      nothing-behind (rest-at text (args .start)) (c .before .place4 .given .0 .0)
-          (over-alike text (args .start) (outer .result) (outer .ensures) (c .before .place4 .given .1)),
+      nothing-behind (rest-at text (args .start)) (at-place4 .place4 .given .0 .0)
+          (over-alike text (args .start) (outer .result) (outer .ensures) (at-place4 .place4 .given .1)),
     )
 
 pub behind-unit-spec : {M : Type 1} → statement M

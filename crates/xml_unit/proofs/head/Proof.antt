@@ -16,67 +16,98 @@ read-attributes-requires c κs = (c .before .before .before .pre .0 .inside, all
 -- if short: return Went::Bad(place)
 returns : tie.Need-returns
 returns c =
-    let args = c .before .before .before .before .before .before .before .before .before .args in
+    let at-next = c .before .before in
+    let at-read-attributes = at-next .before .before .before in
+    let start = at-read-attributes .before .before .before .before in
+    let args = start .args in
     let text = args .text .now in
     let name = bytes-between text (args .from) (args .upto) in
-    let tag = c .before .before .before .before .before .read-attributes in
-    head-short text (args .place) name (args .upto) (tag .last .1 .1 .0) (tag .result) (tag .ensures) (c .before .before .next .given .1)
+    let tag = at-read-attributes .read-attributes in
+    head-short text (args .place) name (args .upto) (tag .last .1 .1 .0) (tag .result) (tag .ensures) (at-next .next .given .1)
     (args .table .now) (args .built) (c .if1 .taken)
 
 -- part_head(&text[from..upto], &slots, count)
 part-head-requires : tie.Need-part-head-requires
 part-head-requires c κs =
-    let args = c .before .before .before .before .before .before .before .before .before .before .before .args in
+    let at-next = c .before .before .before .before in
+    let at-read-attributes = at-next .before .before .before in
+    let start = at-read-attributes .before .before .before .before in
+    let args = start .args in
     let text = args .text .now in
     let name = bytes-between text (args .from) (args .upto) in
-    let tag = c .before .before .before .before .before .before .before .read-attributes in
-    some-slots text (args .place) name (args .upto) (tag .last .1 .1 .0) (tag .result) (tag .ensures) (c .before .before .before .before .next .given .1)
+    let tag = at-read-attributes .read-attributes in
+    some-slots text (args .place) name (args .upto) (tag .last .1 .1 .0) (tag .result) (tag .ensures) (at-next .next .given .1)
 
 -- Head::Segment(f) => Went::On(next, put_segment(table, built, f))
 returns-2 : tie.Need-returns-2
 returns-2 c =
-    let args = c .before .before .before .before .before .before .before .before .before .before .before .before .before .before .before .before .before .before .before .args in
+    let at-put-segment = c .before .before in
+    let at-f = at-put-segment .before .before .before in
+    let at-part-head = at-f .before .before in
+    let at-if1 = at-part-head .before .before .before in
+    let at-next = at-if1 .before .before in
+    let at-read-attributes = at-next .before .before .before in
+    let start = at-read-attributes .before .before .before .before in
+    let args = start .args in
     let text = args .text .now in
     let name = bytes-between text (args .from) (args .upto) in
-    let tag = c .before .before .before .before .before .before .before .before .before .before .before .before .before .before .before .read-attributes in
-    let head = c .before .before .before .before .before .before .before .part-head in
-    let put = c .before .before .put-segment in
-    segment-headed text (args .place) name (args .upto) (tag .last .1 .1 .0) (tag .result) (tag .ensures) (c .before .before .before .before .before .before .before .before .before .before .before .before .next .given .1)
-    (c .before .before .before .before .before .before .before .before .before .before .if1 .left) (head .result) (head .ensures) (args .table .now) (put .last .0) (args .built) (put .result) (c .before .before .before .before .before .f .given .1)
+    let tag = at-read-attributes .read-attributes in
+    let head = at-part-head .part-head in
+    let put = at-put-segment .put-segment in
+    segment-headed text (args .place) name (args .upto) (tag .last .1 .1 .0) (tag .result) (tag .ensures)
+    (at-next .next .given .1)
+    (at-if1 .if1 .left) (head .result) (head .ensures) (args .table .now) (put .last .0) (args .built) (put .result)
+    (at-f .f .given .1)
     (put .ensures)
 
 -- Head::Ignorable(id) => Went::On(next, put_ignorable(table, built, id))
 returns-3 : tie.Need-returns-3
 returns-3 c =
-    let args = c .before .before .before .before .before .before .before .before .before .before .before .before .before .before .before .before .before .before .before .args in
+    let at-put-ignorable = c .before .before in
+    let at-id = at-put-ignorable .before .before .before in
+    let at-part-head = at-id .before .before in
+    let at-if1 = at-part-head .before .before .before in
+    let at-next = at-if1 .before .before in
+    let at-read-attributes = at-next .before .before .before in
+    let start = at-read-attributes .before .before .before .before in
+    let args = start .args in
     let text = args .text .now in
     let name = bytes-between text (args .from) (args .upto) in
-    let tag = c .before .before .before .before .before .before .before .before .before .before .before .before .before .before .before .read-attributes in
-    let head = c .before .before .before .before .before .before .before .part-head in
-    let put = c .before .before .put-ignorable in
-    ignorable-headed text (args .place) name (args .upto) (tag .last .1 .1 .0) (tag .result) (tag .ensures) (c .before .before .before .before .before .before .before .before .before .before .before .before .next .given .1)
-    (c .before .before .before .before .before .before .before .before .before .before .if1 .left) (head .result) (head .ensures) (args .table .now) (put .last .0) (args .built) (put .result) (c .before .before .before .before .before .id .given .1)
+    let tag = at-read-attributes .read-attributes in
+    let head = at-part-head .part-head in
+    let put = at-put-ignorable .put-ignorable in
+    ignorable-headed text (args .place) name (args .upto) (tag .last .1 .1 .0) (tag .result) (tag .ensures)
+    (at-next .next .given .1)
+    (at-if1 .if1 .left) (head .result) (head .ensures) (args .table .now) (put .last .0) (args .built) (put .result)
+    (at-id .id .given .1)
     (put .ensures)
 
 -- Head::Bad => Went::Bad(place)
 returns-4 : tie.Need-returns-4
 returns-4 c =
-    let args = c .before .before .before .before .before .before .before .before .before .before .before .before .before .before .args in
+    let at-part-head = c .before .before in
+    let at-if1 = at-part-head .before .before .before in
+    let at-next = at-if1 .before .before in
+    let at-read-attributes = at-next .before .before .before in
+    let start = at-read-attributes .before .before .before .before in
+    let args = start .args in
     let text = args .text .now in
     let name = bytes-between text (args .from) (args .upto) in
-    let tag = c .before .before .before .before .before .before .before .before .before .before .read-attributes in
-    let head = c .before .before .part-head in
-    head-bad text (args .place) name (args .upto) (tag .last .1 .1 .0) (tag .result) (tag .ensures) (c .before .before .before .before .before .before .before .next .given .1)
-    (c .before .before .before .before .before .if1 .left) (head .result) (head .ensures) (args .table .now) (args .built) (c .enum-told .given .1)
+    let tag = at-read-attributes .read-attributes in
+    let head = at-part-head .part-head in
+    head-bad text (args .place) name (args .upto) (tag .last .1 .1 .0) (tag .result) (tag .ensures) (at-next .next .given .1)
+    (at-if1 .if1 .left) (head .result) (head .ensures) (args .table .now) (args .built) (c .enum-told .given .1)
 
 -- Tagged::Cut => Went::Bad(text.len())
 returns-5 : tie.Need-returns-5
 unfolding HeadSteps cut-short
 returns-5 c k =
-    let args = c .before .before .before .before .before .before .before .args in
+    let at-read-attributes = c .before .before .before in
+    let start = at-read-attributes .before .before .before .before in
+    let args = start .args in
     let text = args .text .now in
     let name = bytes-between text (args .from) (args .upto) in
-    let tag = c .before .before .before .read-attributes in
+    let tag = at-read-attributes .read-attributes in
     tag-cut text (args .place) name (args .upto) (tag .last .1 .1 .0) (tag .result) (tag .ensures) (c .enum-told2 .given .1)
     (part-due k) refl
 
@@ -84,10 +115,12 @@ returns-5 c k =
 returns-6 : tie.Need-returns-6
 unfolding HeadSteps
 returns-6 c k =
-    let args = c .before .before .before .before .before .before .before .args in
+    let at-read-attributes = c .before .before .before in
+    let start = at-read-attributes .before .before .before .before in
+    let args = start .args in
     let text = args .text .now in
     let name = bytes-between text (args .from) (args .upto) in
-    let tag = c .before .before .before .read-attributes in
+    let tag = at-read-attributes .read-attributes in
     tag-fault text (args .place) name (args .upto) (tag .last .1 .1 .0) (tag .result) (tag .ensures) (c .enum-told3 .given .1)
     (part-due k)
 

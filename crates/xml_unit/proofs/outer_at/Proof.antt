@@ -25,102 +25,163 @@ piece-at-requires c κs = c .loop .inv .high
 -- Piece::Start(from, upto)
 returns : tie.Need-returns Inv-loop μ-loop
 returns c =
-    let args = c .before .before .before .before .before .before .args in
-    let loop = c .before .before .before .before .loop in
-    let piece-at = c .before .before .before .piece-at in
-    tag-found (args .text .now) (args .start) (loop .at) (loop .inv) (piece-at .result) (piece-at .ensures) (c .before .from .given .1)
+    let at-from = c .before in
+    let at-piece-at = at-from .before .before in
+    let at-loop = at-piece-at .before in
+    let start = at-loop .before .before in
+    let args = start .args in
+    let loop = at-loop .loop in
+    let piece-at = at-piece-at .piece-at in
+    tag-found (args .text .now) (args .start) (loop .at) (loop .inv) (piece-at .result) (piece-at .ensures)
+    (at-from .from .given .1)
 
 -- Piece::Close(from, upto, next)
 returns-2 : tie.Need-returns-2 Inv-loop μ-loop
 returns-2 c =
-    let args = c .before .before .before .before .before .before .args in
-    let loop = c .before .before .before .before .loop in
-    let piece-at = c .before .before .before .piece-at in
-    end-found (args .text .now) (args .start) (loop .at) (loop .inv) (piece-at .result) (piece-at .ensures) (c .before .from2 .given .1)
+    let at-from2 = c .before in
+    let at-piece-at = at-from2 .before .before in
+    let at-loop = at-piece-at .before in
+    let start = at-loop .before .before in
+    let args = start .args in
+    let loop = at-loop .loop in
+    let piece-at = at-piece-at .piece-at in
+    end-found (args .text .now) (args .start) (loop .at) (loop .inv) (piece-at .result) (piece-at .ensures)
+    (at-from2 .from2 .given .1)
 
 -- Piece::Comment(next): a place ahead
 loop-less : tie.Need-loop-less Inv-loop μ-loop
 loop-less c =
-    let args = c .before .before .before .before .before .before .args in
-    let loop = c .before .before .before .before .loop in
-    let piece-at = c .before .before .before .piece-at in
-    let goes = comment-ahead (args .text .now) (args .start) (loop .at) (loop .inv) (piece-at .result) (piece-at .ensures) (c .before .next .given .1) in
+    let at-next = c .before in
+    let at-piece-at = at-next .before .before in
+    let at-loop = at-piece-at .before in
+    let start = at-loop .before .before in
+    let args = start .args in
+    let loop = at-loop .loop in
+    let piece-at = at-piece-at .piece-at in
+    let goes =
+    comment-ahead (args .text .now) (args .start) (loop .at) (loop .inv) (piece-at .result) (piece-at .ensures)
+    (at-next .next .given .1) in
     omega (arith, goes .ahead, goes .inside)
 
 -- at = next, behind a comment
 loop-again : tie.Need-loop-again Inv-loop μ-loop
 loop-again c =
-    let args = c .before .before .before .before .before .before .args in
-    let loop = c .before .before .before .before .loop in
-    let piece-at = c .before .before .before .piece-at in
-    comment-on (args .text .now) (args .start) (loop .at) (loop .inv) (piece-at .result) (piece-at .ensures) (c .before .next .given .1)
+    let at-next = c .before in
+    let at-piece-at = at-next .before .before in
+    let at-loop = at-piece-at .before in
+    let start = at-loop .before .before in
+    let args = start .args in
+    let loop = at-loop .loop in
+    let piece-at = at-piece-at .piece-at in
+    comment-on (args .text .now) (args .start) (loop .at) (loop .inv) (piece-at .result) (piece-at .ensures)
+    (at-next .next .given .1)
 
 -- if !blank(c)
 returns-3 : tie.Need-returns-3 Inv-loop μ-loop
 returns-3 c =
-    let args = c .before .before .before .before .before .before .before .before .args in
-    let loop = c .before .before .before .before .before .before .loop in
-    let piece-at = c .before .before .before .before .before .piece-at in
-    character-bad (args .text .now) (args .start) (loop .at) (loop .inv) (piece-at .result) (piece-at .ensures) (c .before .before .before .c .given .1)
-    (sym (c .before .blank .ensures) ∙ not-true _ (c .if1 .taken))
+    let at-blank = c .before in
+    let at-c = at-blank .before .before in
+    let at-piece-at = at-c .before .before in
+    let at-loop = at-piece-at .before in
+    let start = at-loop .before .before in
+    let args = start .args in
+    let loop = at-loop .loop in
+    let piece-at = at-piece-at .piece-at in
+    character-bad (args .text .now) (args .start) (loop .at) (loop .inv) (piece-at .result) (piece-at .ensures)
+    (at-c .c .given .1)
+    (sym (at-blank .blank .ensures) ∙ not-true _ (c .if1 .taken))
 
 -- Piece::Character(c, next), a blank: a place ahead
 loop-less-2 : tie.Need-loop-less-2 Inv-loop μ-loop
 loop-less-2 c =
-    let args = c .before .before .before .before .before .before .before .before .args in
-    let loop = c .before .before .before .before .before .before .loop in
-    let piece-at = c .before .before .before .before .before .piece-at in
-    let goes = character-ahead (args .text .now) (args .start) (loop .at) (loop .inv) (piece-at .result) (piece-at .ensures) (c .before .before .before .c .given .1) in
+    let at-c = c .before .before .before in
+    let at-piece-at = at-c .before .before in
+    let at-loop = at-piece-at .before in
+    let start = at-loop .before .before in
+    let args = start .args in
+    let loop = at-loop .loop in
+    let piece-at = at-piece-at .piece-at in
+    let goes =
+    character-ahead (args .text .now) (args .start) (loop .at) (loop .inv) (piece-at .result) (piece-at .ensures)
+    (at-c .c .given .1) in
     omega (arith, goes .ahead, goes .inside)
 
 -- at = next, behind a blank
 loop-again-2 : tie.Need-loop-again-2 Inv-loop μ-loop
 loop-again-2 c =
-    let args = c .before .before .before .before .before .before .before .before .args in
-    let loop = c .before .before .before .before .before .before .loop in
-    let piece-at = c .before .before .before .before .before .piece-at in
-    blank-on (args .text .now) (args .start) (loop .at) (loop .inv) (piece-at .result) (piece-at .ensures) (c .before .before .before .c .given .1)
-    (sym (c .before .blank .ensures) ∙ not-false _ (c .if1 .left))
+    let at-blank = c .before in
+    let at-c = at-blank .before .before in
+    let at-piece-at = at-c .before .before in
+    let at-loop = at-piece-at .before in
+    let start = at-loop .before .before in
+    let args = start .args in
+    let loop = at-loop .loop in
+    let piece-at = at-piece-at .piece-at in
+    blank-on (args .text .now) (args .start) (loop .at) (loop .inv) (piece-at .result) (piece-at .ensures) (at-c .c .given .1)
+    (sym (at-blank .blank .ensures) ∙ not-false _ (c .if1 .left))
 
 -- Piece::Reference(c, next)
 returns-4 : tie.Need-returns-4 Inv-loop μ-loop
 returns-4 c =
-    let args = c .before .before .before .before .before .before .args in
-    let loop = c .before .before .before .before .loop in
-    let piece-at = c .before .before .before .piece-at in
-    reference-bad (args .text .now) (args .start) (loop .at) (loop .inv) (piece-at .result) (piece-at .ensures) (c .before .c2 .given .1)
+    let at-c2 = c .before in
+    let at-piece-at = at-c2 .before .before in
+    let at-loop = at-piece-at .before in
+    let start = at-loop .before .before in
+    let args = start .args in
+    let loop = at-loop .loop in
+    let piece-at = at-piece-at .piece-at in
+    reference-bad (args .text .now) (args .start) (loop .at) (loop .inv) (piece-at .result) (piece-at .ensures)
+    (at-c2 .c2 .given .1)
 
 -- Piece::CutTag
 returns-5 : tie.Need-returns-5 Inv-loop μ-loop
 returns-5 c =
-    let args = c .before .before .before .before .before .args in
-    let loop = c .before .before .before .loop in
-    let piece-at = c .before .before .piece-at in
-    cut-found (args .text .now) (args .start) (loop .at) (loop .inv) (piece-at .result) (piece-at .ensures) (c .enum-told .given .1)
+    let at-piece-at = c .before .before in
+    let at-loop = at-piece-at .before in
+    let start = at-loop .before .before in
+    let args = start .args in
+    let loop = at-loop .loop in
+    let piece-at = at-piece-at .piece-at in
+    cut-found (args .text .now) (args .start) (loop .at) (loop .inv) (piece-at .result) (piece-at .ensures)
+    (c .enum-told .given .1)
 
 -- Piece::Fault(place)
 returns-6 : tie.Need-returns-6 Inv-loop μ-loop
 returns-6 c =
-    let args = c .before .before .before .before .before .before .args in
-    let loop = c .before .before .before .before .loop in
-    let piece-at = c .before .before .before .piece-at in
-    fault-found (args .text .now) (args .start) (loop .at) (loop .inv) (piece-at .result) (piece-at .ensures) (c .before .place .given .1)
+    let at-place = c .before in
+    let at-piece-at = at-place .before .before in
+    let at-loop = at-piece-at .before in
+    let start = at-loop .before .before in
+    let args = start .args in
+    let loop = at-loop .loop in
+    let piece-at = at-piece-at .piece-at in
+    fault-found (args .text .now) (args .start) (loop .at) (loop .inv) (piece-at .result) (piece-at .ensures)
+    (at-place .place .given .1)
 
 -- Piece::TextFault(place)
 returns-7 : tie.Need-returns-7 Inv-loop μ-loop
 returns-7 c =
-    let args = c .before .before .before .before .before .before .args in
-    let loop = c .before .before .before .before .loop in
-    let piece-at = c .before .before .before .piece-at in
-    text-fault-found (args .text .now) (args .start) (loop .at) (loop .inv) (piece-at .result) (piece-at .ensures) (c .before .place2 .given .1)
+    let at-place2 = c .before in
+    let at-piece-at = at-place2 .before .before in
+    let at-loop = at-piece-at .before in
+    let start = at-loop .before .before in
+    let args = start .args in
+    let loop = at-loop .loop in
+    let piece-at = at-piece-at .piece-at in
+    text-fault-found (args .text .now) (args .start) (loop .at) (loop .inv) (piece-at .result) (piece-at .ensures)
+    (at-place2 .place2 .given .1)
 
 -- Piece::End
 returns-8 : tie.Need-returns-8 Inv-loop μ-loop
 returns-8 c =
-    let args = c .before .before .before .before .before .args in
-    let loop = c .before .before .before .loop in
-    let piece-at = c .before .before .piece-at in
-    end-of-text (args .text .now) (args .start) (loop .at) (loop .inv) (piece-at .result) (piece-at .ensures) (c .enum-told2 .given .1)
+    let at-piece-at = c .before .before in
+    let at-loop = at-piece-at .before in
+    let start = at-loop .before .before in
+    let args = start .args in
+    let loop = at-loop .loop in
+    let piece-at = at-piece-at .piece-at in
+    end-of-text (args .text .now) (args .start) (loop .at) (loop .inv) (piece-at .result) (piece-at .ensures)
+    (c .enum-told2 .given .1)
 
 pub outer-at-spec : {M : Type 1} → statement M
 outer-at-spec =

@@ -13,81 +13,112 @@ use Rattle.xml_unit.proofs.part_end.Tie as tie
 -- blamed_tag(text, place, name_upto)
 blamed-tag-requires : tie.Need-blamed-tag-requires
 blamed-tag-requires c κs =
-    let outer = c .before .before .before .outer-at in
-    start-name (c .before .before .before .before .before .args .text .now) (c .before .before .before .before .before .args .start) (outer .result) (outer .ensures) (c .before .place .given .1) .inside
+    let at-place = c .before in
+    let at-outer-at = at-place .before .before in
+    let start = at-outer-at .before .before in
+    let outer = at-outer-at .outer-at in
+    start-name (start .args .text .now) (start .args .start) (outer .result) (outer .ensures)
+    (at-place .place .given .1) .inside
 
 -- ends_name(text, from, upto, end)
 ends-name-requires : tie.Need-ends-name-requires
 ends-name-requires c κs =
-    let outer = c .before .before .before .outer-at in
-    (c .before .before .before .before .before .pre .1, end-tag-in (c .before .before .before .before .before .args .text .now) (c .before .before .before .before .before .args .start) (outer .result) (outer .ensures) (c .before .end .given .1) .name)
+    let at-end = c .before in
+    let at-outer-at = at-end .before .before in
+    let start = at-outer-at .before .before in
+    let outer = at-outer-at .outer-at in (
+      start .pre .1,
+      end-tag-in (start .args .text .now) (start .args .start) (outer .result) (outer .ensures)
+          (at-end .end .given .1) .name,
+    )
 
 -- return Emptied::On(end.next)
 returns : tie.Need-returns
 unfolding PartEnds
 returns c k =
-    let args = c .before .before .before .before .before .before .before .args in
+    let at-ends-name = c .before in
+    let at-end = at-ends-name .before .before in
+    let at-outer-at = at-end .before .before in
+    let start = at-outer-at .before .before in
+    let args = start .args in
     let text = args .text .now in
     let name = bytes-between text (args .from) (args .upto) in
-    let outer = c .before .before .before .before .before .outer-at in
-    let end = c .before .before .before .end .given .0 .0 in (
-      end-tag-in text (args .start) (outer .result) (outer .ensures) (c .before .before .before .end .given .1) .goes,
-      end-leads text (args .start) (outer .result) (outer .ensures) (c .before .before .before .end .given .1) [] (part-end-due k name) (part-due k)
+    let outer = at-outer-at .outer-at in
+    let end = at-end .end .given .0 .0 in (
+      end-tag-in text (args .start) (outer .result) (outer .ensures) (at-end .end .given .1) .goes,
+      end-leads text (args .start) (outer .result) (outer .ensures) (at-end .end .given .1) [] (part-end-due k name)
+          (part-due k)
           (targeted-part-closes k name (bytes-between text (end .from) (end .upto)) (end .place) _
-          (sym (c .before .ends-name .ensures) ∙ c .if1 .taken)),
+          (sym (at-ends-name .ends-name .ensures) ∙ c .if1 .taken)),
     )
 
 -- Outer::Start(..) => Emptied::Bad(blamed_tag(text, place, name_upto))
 returns-2 : tie.Need-returns-2
 unfolding PartEnds TagBlamed turn opened cut-short
 returns-2 c k =
-    let args = c .before .before .before .before .before .before .args in
+    let at-place = c .before .before in
+    let at-outer-at = at-place .before .before in
+    let start = at-outer-at .before .before in
+    let args = start .args in
     let text = args .text .now in
     let name = bytes-between text (args .from) (args .upto) in
-    let outer = c .before .before .before .before .outer-at in
-    start-bad text (args .start) (outer .result) (outer .ensures) (c .before .before .place .given .1) (part-end-due k name)
+    let outer = at-outer-at .outer-at in
+    start-bad text (args .start) (outer .result) (outer .ensures) (at-place .place .given .1) (part-end-due k name)
     (c .blamed-tag .ensures _ (outside (part-end-due k name)) (λ ats. refl) refl)
 
 -- Emptied::Bad(end.place)
 returns-3 : tie.Need-returns-3
 unfolding PartEnds closed
 returns-3 c k =
-    let args = c .before .before .before .before .before .before .before .args in
+    let at-ends-name = c .before in
+    let at-end = at-ends-name .before .before in
+    let at-outer-at = at-end .before .before in
+    let start = at-outer-at .before .before in
+    let args = start .args in
     let text = args .text .now in
     let name = bytes-between text (args .from) (args .upto) in
-    let outer = c .before .before .before .before .before .outer-at in
-    end-bad text (args .start) (outer .result) (outer .ensures) (c .before .before .before .end .given .1) (part-end-due k name)
-    (rw (sym (c .before .ends-name .ensures) ∙ c .if1 .left) refl)
+    let outer = at-outer-at .outer-at in
+    end-bad text (args .start) (outer .result) (outer .ensures) (at-end .end .given .1) (part-end-due k name)
+    (rw (sym (at-ends-name .ends-name .ensures) ∙ c .if1 .left) refl)
 
 -- Outer::Cut(place) => Emptied::Bad(text.len())
 returns-4 : tie.Need-returns-4
 unfolding PartEnds cut-short
 returns-4 c k =
-    let args = c .before .before .before .before .before .args in
+    let at-place2 = c .before in
+    let at-outer-at = at-place2 .before .before in
+    let start = at-outer-at .before .before in
+    let args = start .args in
     let text = args .text .now in
     let name = bytes-between text (args .from) (args .upto) in
-    let outer = c .before .before .before .outer-at in
-    cut-bad text (args .start) (outer .result) (outer .ensures) (c .before .place2 .given .1) (part-end-due k name) refl
+    let outer = at-outer-at .outer-at in
+    cut-bad text (args .start) (outer .result) (outer .ensures) (at-place2 .place2 .given .1) (part-end-due k name) refl
 
 -- Outer::Bad(place) => Emptied::Bad(place)
 returns-5 : tie.Need-returns-5
 unfolding PartEnds
 returns-5 c k =
-    let args = c .before .before .before .before .before .args in
+    let at-place3 = c .before in
+    let at-outer-at = at-place3 .before .before in
+    let start = at-outer-at .before .before in
+    let args = start .args in
     let text = args .text .now in
     let name = bytes-between text (args .from) (args .upto) in
-    let outer = c .before .before .before .outer-at in
-    fault-bad text (args .start) (outer .result) (outer .ensures) (c .before .place3 .given .1) (part-end-due k name)
+    let outer = at-outer-at .outer-at in
+    fault-bad text (args .start) (outer .result) (outer .ensures) (at-place3 .place3 .given .1) (part-end-due k name)
 
 -- Outer::End(place) => Emptied::Bad(place)
 returns-6 : tie.Need-returns-6
 unfolding PartEnds finished
 returns-6 c k =
-    let args = c .before .before .before .before .before .args in
+    let at-place4 = c .before in
+    let at-outer-at = at-place4 .before .before in
+    let start = at-outer-at .before .before in
+    let args = start .args in
     let text = args .text .now in
     let name = bytes-between text (args .from) (args .upto) in
-    let outer = c .before .before .before .outer-at in
-    over-bad text (args .start) (outer .result) (outer .ensures) (c .before .place4 .given .1) (part-end-due k name) refl
+    let outer = at-outer-at .outer-at in
+    over-bad text (args .start) (outer .result) (outer .ensures) (at-place4 .place4 .given .1) (part-end-due k name) refl
 
 pub part-end-spec : {M : Type 1} → statement M
 part-end-spec =

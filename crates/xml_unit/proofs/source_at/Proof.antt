@@ -19,46 +19,63 @@ read-attributes-requires c κs = (c .before .before .before .pre .0 .inside, all
 -- side(text, next, short, b"source", table, built)
 side-requires : tie.Need-side-requires
 side-requires c κs =
-    let args = c .before .before .before .before .before .before .before .before .before .before .before .before .before .before .args in
+    let at-next = c .before .before .before .before .before .before .before in
+    let at-read-attributes = at-next .before .before .before in
+    let start = at-read-attributes .before .before .before .before in
+    let args = start .args in
     let text = args .text .now in
     let name = bytes-between text (args .from) (args .upto) in
-    let tag = c .before .before .before .before .before .before .before .before .before .before .read-attributes in
-    (tag-goes text (args .place) name (args .upto) _ (tag .result) (tag .ensures) (c .before .before .before .before .before .before .before .next .given .1) .inside, c .before .before .before .before .before .before .before .before .before .before .before .before .before .before .pre .1)
+    let tag = at-read-attributes .read-attributes in (
+      tag-goes text (args .place) name (args .upto) _ (tag .result) (tag .ensures) (at-next .next .given .1) .inside,
+      start .pre .1,
+    )
 
 -- return side(..)
 returns : tie.Need-returns
 unfolding codes 'source'
 returns c =
-    let args = c .before .before .before .before .before .before .before .before .before .before .before .before .before .before .before .before .before .args in
+    let at-side = c .before .before in
+    let at-if1 = at-side .before .before .before in
+    let at-is-word = at-if1 .before in
+    let at-next = at-is-word .before .before .before .before in
+    let at-read-attributes = at-next .before .before .before in
+    let start = at-read-attributes .before .before .before .before in
+    let args = start .args in
     let text = args .text .now in
     let name = bytes-between text (args .from) (args .upto) in
-    let tag = c .before .before .before .before .before .before .before .before .before .before .before .before .before .read-attributes in
-    let count = c .before .before .before .before .before .before .before .before .before .before .next .given .0 .1 .1 .0 in
-    let side = c .before .before .side in
-    source-read text (args .place) name (args .upto) (tag .last .1 .1 .0) (tag .result) (tag .ensures) (c .before .before .before .before .before .before .before .before .before .before .next .given .1)
+    let tag = at-read-attributes .read-attributes in
+    let count = at-next .next .given .0 .1 .1 .0 in
+    let side = at-side .side in
+    source-read text (args .place) name (args .upto) (tag .last .1 .1 .0) (tag .result) (tag .ensures) (at-next .next .given .1)
     (args .table .now) (side .last .1 .1 .1 .1 .0) (args .built) (side .result)
-    (ap (λ (b : Bool). b && eqb count 0) (sym (c .before .before .before .before .before .before .is-word .ensures)) ∙ c .before .before .before .before .before .if1 .taken) (side .ensures)
+    (ap (λ (b : Bool). b && eqb count 0) (sym (at-is-word .is-word .ensures)) ∙ at-if1 .if1 .taken) (side .ensures)
 
 -- Went::Bad(place), of another name or with attributes
 returns-2 : tie.Need-returns-2
 unfolding codes 'source'
 returns-2 c =
-    let args = c .before .before .before .before .before .before .before .before .before .before .before .before .args in
+    let at-is-word = c .before in
+    let at-next = at-is-word .before .before .before .before in
+    let at-read-attributes = at-next .before .before .before in
+    let start = at-read-attributes .before .before .before .before in
+    let args = start .args in
     let text = args .text .now in
     let name = bytes-between text (args .from) (args .upto) in
-    let tag = c .before .before .before .before .before .before .before .before .read-attributes in
-    let count = c .before .before .before .before .before .next .given .0 .1 .1 .0 in
-    source-bad text (args .place) name (args .upto) (tag .last .1 .1 .0) (tag .result) (tag .ensures) (c .before .before .before .before .before .next .given .1)
-    (args .table .now) (args .built) (ap (λ (b : Bool). b && eqb count 0) (sym (c .before .is-word .ensures)) ∙ c .if1 .left)
+    let tag = at-read-attributes .read-attributes in
+    let count = at-next .next .given .0 .1 .1 .0 in
+    source-bad text (args .place) name (args .upto) (tag .last .1 .1 .0) (tag .result) (tag .ensures) (at-next .next .given .1)
+    (args .table .now) (args .built) (ap (λ (b : Bool). b && eqb count 0) (sym (at-is-word .is-word .ensures)) ∙ c .if1 .left)
 
 -- Tagged::Cut => Went::Bad(text.len())
 returns-3 : tie.Need-returns-3
 unfolding SourceSteps
 returns-3 c k p =
-    let args = c .before .before .before .before .before .before .before .args in
+    let at-read-attributes = c .before .before .before in
+    let start = at-read-attributes .before .before .before .before in
+    let args = start .args in
     let text = args .text .now in
     let name = bytes-between text (args .from) (args .upto) in
-    let tag = c .before .before .before .read-attributes in
+    let tag = at-read-attributes .read-attributes in
     tag-cut text (args .place) name (args .upto) (tag .last .1 .1 .0) (tag .result) (tag .ensures) (c .enum-told .given .1)
     (source-due k p) (unfold cut-short in refl)
 
@@ -66,10 +83,12 @@ returns-3 c k p =
 returns-4 : tie.Need-returns-4
 unfolding SourceSteps
 returns-4 c k p =
-    let args = c .before .before .before .before .before .before .before .args in
+    let at-read-attributes = c .before .before .before in
+    let start = at-read-attributes .before .before .before .before in
+    let args = start .args in
     let text = args .text .now in
     let name = bytes-between text (args .from) (args .upto) in
-    let tag = c .before .before .before .read-attributes in
+    let tag = at-read-attributes .read-attributes in
     tag-fault text (args .place) name (args .upto) (tag .last .1 .1 .0) (tag .result) (tag .ensures) (c .enum-told2 .given .1)
     (source-due k p)
 

@@ -9,19 +9,29 @@ use Rattle.xml_unit.proofs.source_of.Tie as tie
 -- source_at(text, place, from, upto, table, built)
 source-at-requires : tie.Need-source-at-requires
 source-at-requires c κs =
-    let outer = c .before .before .before .before .outer-at in
-    (start-name (c .before .before .before .before .before .before .before .args .text .now) (c .before .before .before .before .before .before .before .args .start) (outer .result) (outer .ensures) (c .before .before .place .given .1), c .before .before .before .before .before .before .before .pre .1)
+    let at-place = c .before .before in
+    let at-outer-at = at-place .before .before in
+    let start = at-outer-at .before .before .before in
+    let outer = at-outer-at .outer-at in (
+      start-name (start .args .text .now) (start .args .start) (outer .result) (outer .ensures) (at-place .place .given .1),
+      start .pre .1,
+    )
 
 -- Outer::Start(place, from, upto) => source_at(..)
 returns : tie.Need-returns
 unfolding SourceSteps
 returns c k p =
-    let args = c .before .before .before .before .before .before .before .before .before .before .args in
+    let at-source = c .before .before in
+    let at-place = at-source .before .before .before in
+    let at-outer-at = at-place .before .before in
+    let start = at-outer-at .before .before .before in
+    let args = start .args in
     let text = args .text .now in
-    let outer = c .before .before .before .before .before .before .before .outer-at in
-    let found = c .before .before .before .before .before .place .given .1 in
-    let source = c .before .before .source-at in
-    steps-from text (args .start) (c .before .before .before .before .before .place .given .0 .1 .1 .0) 0 (source-due k p) (target-due k p) _ _ (args .table .now)
+    let outer = at-outer-at .outer-at in
+    let found = at-place .place .given .1 in
+    let source = at-source .source-at in
+    steps-from text (args .start) (at-place .place .given .0 .1 .1 .0) 0 (source-due k p) (target-due k p) _ _
+    (args .table .now)
     (args .built) (source .last .1 .1 .1 .1 .0) (start-ahead text (args .start) (outer .result) (outer .ensures) found)
     (start-alike text (args .start) (outer .result) (outer .ensures) found) (source .result) (source .ensures k p)
 
@@ -29,33 +39,46 @@ returns c k p =
 returns-2 : tie.Need-returns-2
 unfolding SourceSteps closed
 returns-2 c k p =
-    let args = c .before .before .before .before .before .before .args in
-    let outer = c .before .before .before .outer-at in
-    end-bad (args .text .now) (args .start) (outer .result) (outer .ensures) (c .before .end .given .1) (source-due k p) refl
+    let at-end = c .before in
+    let at-outer-at = at-end .before .before in
+    let start = at-outer-at .before .before .before in
+    let args = start .args in
+    let outer = at-outer-at .outer-at in
+    end-bad (args .text .now) (args .start) (outer .result) (outer .ensures) (at-end .end .given .1) (source-due k p) refl
 
 -- Outer::Cut(place) => Went::Bad(text.len())
 returns-3 : tie.Need-returns-3
 unfolding SourceSteps cut-short
 returns-3 c k p =
-    let args = c .before .before .before .before .before .before .args in
-    let outer = c .before .before .before .outer-at in
-    cut-bad (args .text .now) (args .start) (outer .result) (outer .ensures) (c .before .place2 .given .1) (source-due k p) refl
+    let at-place2 = c .before in
+    let at-outer-at = at-place2 .before .before in
+    let start = at-outer-at .before .before .before in
+    let args = start .args in
+    let outer = at-outer-at .outer-at in
+    cut-bad (args .text .now) (args .start) (outer .result) (outer .ensures) (at-place2 .place2 .given .1) (source-due k p) refl
 
 -- Outer::Bad(place) => Went::Bad(place)
 returns-4 : tie.Need-returns-4
 unfolding SourceSteps
 returns-4 c k p =
-    let args = c .before .before .before .before .before .before .args in
-    let outer = c .before .before .before .outer-at in
-    fault-bad (args .text .now) (args .start) (outer .result) (outer .ensures) (c .before .place3 .given .1) (source-due k p)
+    let at-place3 = c .before in
+    let at-outer-at = at-place3 .before .before in
+    let start = at-outer-at .before .before .before in
+    let args = start .args in
+    let outer = at-outer-at .outer-at in
+    fault-bad (args .text .now) (args .start) (outer .result) (outer .ensures) (at-place3 .place3 .given .1) (source-due k p)
 
 -- Outer::End(place) => Went::Bad(place)
 returns-5 : tie.Need-returns-5
 unfolding SourceSteps finished
 returns-5 c k p =
-    let args = c .before .before .before .before .before .before .args in
-    let outer = c .before .before .before .outer-at in
-    over-bad (args .text .now) (args .start) (outer .result) (outer .ensures) (c .before .place4 .given .1) (source-due k p) refl
+    let at-place4 = c .before in
+    let at-outer-at = at-place4 .before .before in
+    let start = at-outer-at .before .before .before in
+    let args = start .args in
+    let outer = at-outer-at .outer-at in
+    over-bad (args .text .now) (args .start) (outer .result) (outer .ensures) (at-place4 .place4 .given .1) (source-due k p)
+    refl
 
 pub source-of-spec : {M : Type 1} → statement M
 source-of-spec =

@@ -21,100 +21,151 @@ read-attributes-requires c κs = (c .before .before .before .pre .0 .inside, all
 returns : tie.Need-returns
 unfolding codes 'target'
 returns c =
-    let args = c .before .before .before .before .before .before .before .before .before .before .before .before .args in
+    let at-is-word = c .before in
+    let at-next = at-is-word .before .before .before .before in
+    let at-read-attributes = at-next .before .before .before in
+    let start = at-read-attributes .before .before .before .before in
+    let args = start .args in
     let text = args .text .now in
     let name = bytes-between text (args .from) (args .upto) in
-    let tag = c .before .before .before .before .before .before .before .before .read-attributes in
-    target-bad text (args .place) name (args .upto) (tag .last .1 .1 .0) (tag .result) (tag .ensures) (c .before .before .before .before .before .next .given .1)
-    (args .position) (args .table .now) (args .built) (sym (c .before .is-word .ensures) ∙ not-true _ (c .if1 .taken))
+    let tag = at-read-attributes .read-attributes in
+    target-bad text (args .place) name (args .upto) (tag .last .1 .1 .0) (tag .result) (tag .ensures) (at-next .next .given .1)
+    (args .position) (args .table .now) (args .built) (sym (at-is-word .is-word .ensures) ∙ not-true _ (c .if1 .taken))
 
 -- target_order(&slots, count)
 target-order-requires : tie.Need-target-order-requires
 target-order-requires c κs =
-    let args = c .before .before .before .before .before .before .before .before .before .before .before .before .before .args in
+    let at-next = c .before .before .before .before .before .before in
+    let at-read-attributes = at-next .before .before .before in
+    let start = at-read-attributes .before .before .before .before in
+    let args = start .args in
     let text = args .text .now in
     let name = bytes-between text (args .from) (args .upto) in
-    let tag = c .before .before .before .before .before .before .before .before .before .read-attributes in
-    some-slots text (args .place) name (args .upto) (tag .last .1 .1 .0) (tag .result) (tag .ensures) (c .before .before .before .before .before .before .next .given .1)
+    let tag = at-read-attributes .read-attributes in
+    some-slots text (args .place) name (args .upto) (tag .last .1 .1 .0) (tag .result) (tag .ensures) (at-next .next .given .1)
 
 -- put_target_head(table, built, q)
 put-target-head-requires : tie.Need-put-target-head-requires
-put-target-head-requires c κs = some-collected (c .before .before .before .before .before .before .before .before .before .before .before .before .before .before .before .before .before .before .pre .1)
+put-target-head-requires c κs =
+    let at-is-word = c .before .before .before .before .before .before .before in
+    let start = at-is-word .before .before .before .before .before .before .before .before .before .before .before in
+    some-collected (start .pre .1)
 
 -- side(text, next, short, b"target", table, headed), with an order
 side-requires : tie.Need-side-requires
 side-requires c κs =
-    let args = c .before .before .before .before .before .before .before .before .before .before .before .before .before .before .before .before .before .before .before .before .before .before .before .args in
+    let at-put-target-head = c .before .before .before .before in
+    let at-next =
+    at-put-target-head .before .before .before .before .before .before .before .before .before .before .before .before in
+    let at-read-attributes = at-next .before .before .before in
+    let start = at-read-attributes .before .before .before .before in
+    let args = start .args in
     let text = args .text .now in
     let name = bytes-between text (args .from) (args .upto) in
-    let tag = c .before .before .before .before .before .before .before .before .before .before .before .before .before .before .before .before .before .before .before .read-attributes in (
-      tag-goes text (args .place) name (args .upto) _ (tag .result) (tag .ensures) (c .before .before .before .before .before .before .before .before .before .before .before .before .before .before .before .before .next .given .1) .inside,
-      collecting-on (c .before .before .before .before .put-target-head .ensures) (some-collected (c .before .before .before .before .before .before .before .before .before .before .before .before .before .before .before .before .before .before .before .before .before .before .before .pre .1)),
+    let tag = at-read-attributes .read-attributes in (
+      tag-goes text (args .place) name (args .upto) _ (tag .result) (tag .ensures) (at-next .next .given .1) .inside,
+      collecting-on (at-put-target-head .put-target-head .ensures) (some-collected (start .pre .1)),
     )
 
 -- side(text, next, short, b"target", table, headed), at the part's position
 side-requires-2 : tie.Need-side-requires-2
 side-requires-2 c κs =
-    let args = c .before .before .before .before .before .before .before .before .before .before .before .before .before .before .before .before .before .before .before .before .before .before .args in
+    let at-put-position = c .before .before .before .before in
+    let at-next = at-put-position .before .before .before .before .before .before .before .before .before .before .before in
+    let at-read-attributes = at-next .before .before .before in
+    let start = at-read-attributes .before .before .before .before in
+    let args = start .args in
     let text = args .text .now in
     let name = bytes-between text (args .from) (args .upto) in
-    let tag = c .before .before .before .before .before .before .before .before .before .before .before .before .before .before .before .before .before .before .read-attributes in (
-      tag-goes text (args .place) name (args .upto) _ (tag .result) (tag .ensures) (c .before .before .before .before .before .before .before .before .before .before .before .before .before .before .before .next .given .1) .inside,
-      collecting-on (c .before .before .before .before .put-position .ensures) (some-collected (c .before .before .before .before .before .before .before .before .before .before .before .before .before .before .before .before .before .before .before .before .before .before .pre .1)),
+    let tag = at-read-attributes .read-attributes in (
+      tag-goes text (args .place) name (args .upto) _ (tag .result) (tag .ensures) (at-next .next .given .1) .inside,
+      collecting-on (at-put-position .put-position .ensures) (some-collected (start .pre .1)),
     )
 
 -- Order::Bad => Went::Bad(place)
 returns-2 : tie.Need-returns-2
 unfolding codes 'target'
 returns-2 c =
-    let args = c .before .before .before .before .before .before .before .before .before .before .before .before .before .before .before .before .args in
+    let at-target-order = c .before .before in
+    let at-if1 = at-target-order .before .before in
+    let at-is-word = at-if1 .before in
+    let at-next = at-is-word .before .before .before .before in
+    let at-read-attributes = at-next .before .before .before in
+    let start = at-read-attributes .before .before .before .before in
+    let args = start .args in
     let text = args .text .now in
     let name = bytes-between text (args .from) (args .upto) in
-    let tag = c .before .before .before .before .before .before .before .before .before .before .before .before .read-attributes in
-    let order = c .before .before .target-order in
-    order-bad text (args .place) name (args .upto) (tag .last .1 .1 .0) (tag .result) (tag .ensures) (c .before .before .before .before .before .before .before .before .before .next .given .1)
-    (sym (c .before .before .before .before .before .is-word .ensures) ∙ not-false _ (c .before .before .before .before .if1 .left)) (order .result) (order .ensures) (args .position) (args .table .now)
+    let tag = at-read-attributes .read-attributes in
+    let order = at-target-order .target-order in
+    order-bad text (args .place) name (args .upto) (tag .last .1 .1 .0) (tag .result) (tag .ensures) (at-next .next .given .1)
+    (sym (at-is-word .is-word .ensures) ∙ not-false _ (at-if1 .if1 .left)) (order .result) (order .ensures) (args .position)
+    (args .table .now)
     (args .built) (c .enum-told .given .1)
 
 -- Order::Given(q)
 returns-3 : tie.Need-returns-3
 unfolding codes 'target'
 returns-3 c =
-    let args = c .before .before .before .before .before .before .before .before .before .before .before .before .before .before .before .before .before .before .before .before .before .before .before .before .before .before .args in
+    let at-side = c .before .before in
+    let at-put-target-head = at-side .before .before .before .before .before in
+    let at-q = at-put-target-head .before .before .before in
+    let at-target-order = at-q .before .before in
+    let at-if1 = at-target-order .before .before in
+    let at-is-word = at-if1 .before in
+    let at-next = at-is-word .before .before .before .before in
+    let at-read-attributes = at-next .before .before .before in
+    let start = at-read-attributes .before .before .before .before in
+    let args = start .args in
     let text = args .text .now in
     let name = bytes-between text (args .from) (args .upto) in
-    let tag = c .before .before .before .before .before .before .before .before .before .before .before .before .before .before .before .before .before .before .before .before .before .before .read-attributes in
-    let order = c .before .before .before .before .before .before .before .before .before .before .before .before .target-order in
-    let put = c .before .before .before .before .before .before .before .put-target-head in
-    let side = c .before .before .side in
-    order-given text (args .place) name (args .upto) (tag .last .1 .1 .0) (tag .result) (tag .ensures) (c .before .before .before .before .before .before .before .before .before .before .before .before .before .before .before .before .before .before .before .next .given .1)
-    (sym (c .before .before .before .before .before .before .before .before .before .before .before .before .before .before .before .is-word .ensures) ∙ not-false _ (c .before .before .before .before .before .before .before .before .before .before .before .before .before .before .if1 .left)) (order .result) (order .ensures) (args .position) (args .table .now)
-    (put .last .0) (side .last .1 .1 .1 .1 .0) (args .built) (put .result) (side .result) (c .before .before .before .before .before .before .before .before .before .before .q .given .1) (put .ensures) (side .ensures)
+    let tag = at-read-attributes .read-attributes in
+    let order = at-target-order .target-order in
+    let put = at-put-target-head .put-target-head in
+    let side = at-side .side in
+    order-given text (args .place) name (args .upto) (tag .last .1 .1 .0) (tag .result) (tag .ensures) (at-next .next .given .1)
+    (sym (at-is-word .is-word .ensures) ∙ not-false _ (at-if1 .if1 .left)) (order .result) (order .ensures) (args .position)
+    (args .table .now)
+    (put .last .0) (side .last .1 .1 .1 .1 .0) (args .built) (put .result) (side .result) (at-q .q .given .1) (put .ensures)
+    (side .ensures)
 
 -- Order::Absent
 returns-4 : tie.Need-returns-4
 unfolding codes 'target'
 returns-4 c =
-    let args = c .before .before .before .before .before .before .before .before .before .before .before .before .before .before .before .before .before .before .before .before .before .before .before .before .before .args in
+    let at-side2 = c .before .before in
+    let at-put-position = at-side2 .before .before .before .before .before in
+    let at-enum-told2 = at-put-position .before .before in
+    let at-target-order = at-enum-told2 .before .before in
+    let at-if1 = at-target-order .before .before in
+    let at-is-word = at-if1 .before in
+    let at-next = at-is-word .before .before .before .before in
+    let at-read-attributes = at-next .before .before .before in
+    let start = at-read-attributes .before .before .before .before in
+    let args = start .args in
     let text = args .text .now in
     let name = bytes-between text (args .from) (args .upto) in
-    let tag = c .before .before .before .before .before .before .before .before .before .before .before .before .before .before .before .before .before .before .before .before .before .read-attributes in
-    let order = c .before .before .before .before .before .before .before .before .before .before .before .target-order in
-    let put = c .before .before .before .before .before .before .before .put-position in
-    let side = c .before .before .side2 in
-    order-absent text (args .place) name (args .upto) (tag .last .1 .1 .0) (tag .result) (tag .ensures) (c .before .before .before .before .before .before .before .before .before .before .before .before .before .before .before .before .before .before .next .given .1)
-    (sym (c .before .before .before .before .before .before .before .before .before .before .before .before .before .before .is-word .ensures) ∙ not-false _ (c .before .before .before .before .before .before .before .before .before .before .before .before .before .if1 .left)) (order .result) (order .ensures) (args .position) (args .table .now)
-    (put .last .0) (side .last .1 .1 .1 .1 .0) (args .built) (put .result) (side .result) (c .before .before .before .before .before .before .before .before .before .enum-told2 .given .1) (put .ensures)
+    let tag = at-read-attributes .read-attributes in
+    let order = at-target-order .target-order in
+    let put = at-put-position .put-position in
+    let side = at-side2 .side2 in
+    order-absent text (args .place) name (args .upto) (tag .last .1 .1 .0) (tag .result) (tag .ensures)
+    (at-next .next .given .1)
+    (sym (at-is-word .is-word .ensures) ∙ not-false _ (at-if1 .if1 .left)) (order .result) (order .ensures) (args .position)
+    (args .table .now)
+    (put .last .0) (side .last .1 .1 .1 .1 .0) (args .built) (put .result) (side .result) (at-enum-told2 .enum-told2 .given .1)
+    (put .ensures)
     (side .ensures)
 
 -- Tagged::Cut => Went::Bad(text.len())
 returns-5 : tie.Need-returns-5
 unfolding TargetSteps
 returns-5 c p =
-    let args = c .before .before .before .before .before .before .before .args in
+    let at-read-attributes = c .before .before .before in
+    let start = at-read-attributes .before .before .before .before in
+    let args = start .args in
     let text = args .text .now in
     let name = bytes-between text (args .from) (args .upto) in
-    let tag = c .before .before .before .read-attributes in
+    let tag = at-read-attributes .read-attributes in
     tag-cut text (args .place) name (args .upto) (tag .last .1 .1 .0) (tag .result) (tag .ensures) (c .enum-told3 .given .1)
     (target-due (args .position) p) (unfold cut-short in refl)
 
@@ -122,10 +173,12 @@ returns-5 c p =
 returns-6 : tie.Need-returns-6
 unfolding TargetSteps
 returns-6 c p =
-    let args = c .before .before .before .before .before .before .before .args in
+    let at-read-attributes = c .before .before .before in
+    let start = at-read-attributes .before .before .before .before in
+    let args = start .args in
     let text = args .text .now in
     let name = bytes-between text (args .from) (args .upto) in
-    let tag = c .before .before .before .read-attributes in
+    let tag = at-read-attributes .read-attributes in
     tag-fault text (args .place) name (args .upto) (tag .last .1 .1 .0) (tag .result) (tag .ensures) (c .enum-told4 .given .1)
     (target-due (args .position) p)
 

@@ -20,113 +20,176 @@ read-attributes-requires c κs = (c .before .before .before .pre .0 .inside, all
 returns : tie.Need-returns
 unfolding codes 'unit'
 returns c =
-    let args = c .before .before .before .before .before .before .before .before .before .before .before .before .args in
+    let at-is-word = c .before in
+    let at-next = at-is-word .before .before .before .before in
+    let at-read-attributes = at-next .before .before .before in
+    let start = at-read-attributes .before .before .before .before in
+    let args = start .args in
     let text = args .text .now in
     let name = bytes-between text (args .from) (args .upto) in
-    let tag = c .before .before .before .before .before .before .before .before .read-attributes in
-    another-name text (args .place) name (args .upto) (tag .last .1 .1 .0) (tag .result) (tag .ensures) (c .before .before .before .before .before .next .given .1)
-    (sym (c .before .is-word .ensures) ∙ not-true _ (c .if1 .taken))
+    let tag = at-read-attributes .read-attributes in
+    another-name text (args .place) name (args .upto) (tag .last .1 .1 .0) (tag .result) (tag .ensures)
+    (at-next .next .given .1)
+    (sym (at-is-word .is-word .ensures) ∙ not-true _ (c .if1 .taken))
 
 -- unit_opening(&slots, count)
 unit-opening-requires : tie.Need-unit-opening-requires
 unit-opening-requires c κs =
-    let args = c .before .before .before .before .before .before .before .before .before .before .before .before .before .args in
+    let at-next = c .before .before .before .before .before .before in
+    let at-read-attributes = at-next .before .before .before in
+    let start = at-read-attributes .before .before .before .before in
+    let args = start .args in
     let text = args .text .now in
     let name = bytes-between text (args .from) (args .upto) in
-    let tag = c .before .before .before .before .before .before .before .before .before .read-attributes in
-    some-slots text (args .place) name (args .upto) (tag .last .1 .1 .0) (tag .result) (tag .ensures) (c .before .before .before .before .before .before .next .given .1)
+    let tag = at-read-attributes .read-attributes in
+    some-slots text (args .place) name (args .upto) (tag .last .1 .1 .0) (tag .result) (tag .ensures) (at-next .next .given .1)
 
 -- put_opening(table, built, letter)
 put-opening-requires : tie.Need-put-opening-requires
-put-opening-requires c κs = some-collected (c .before .before .before .before .before .before .before .before .before .before .before .before .before .before .before .before .before .before .pre .1)
+put-opening-requires c κs =
+    let at-is-word = c .before .before .before .before .before .before .before in
+    let start = at-is-word .before .before .before .before .before .before .before .before .before .before .before in
+    some-collected (start .pre .1)
 
 -- put_closing(table, opened)
 put-closing-requires : tie.Need-put-closing-requires
-put-closing-requires c κs = collecting-on (c .before .before .before .before .put-opening .ensures) (some-collected (c .before .before .before .before .before .before .before .before .before .before .before .before .before .before .before .before .before .before .before .before .before .before .before .pre .1))
+put-closing-requires c κs =
+    let at-put-opening = c .before .before .before .before in
+    let at-is-word = at-put-opening .before .before .before .before .before .before .before .before in
+    let start = at-is-word .before .before .before .before .before .before .before .before .before .before .before in
+    collecting-on (at-put-opening .put-opening .ensures) (some-collected (start .pre .1))
 
 -- behind_unit(text, next, closed)
 behind-unit-requires : tie.Need-behind-unit-requires
 behind-unit-requires c κs =
-    let args = c .before .before .before .before .before .before .before .before .before .before .before .before .before .before .before .before .before .before .before .before .before .before .before .before .before .before .args in
+    let at-letter = c .before .before .before .before .before .before .before .before .before .before in
+    let at-next = at-letter .before .before .before .before .before .before .before .before .before in
+    let at-read-attributes = at-next .before .before .before in
+    let start = at-read-attributes .before .before .before .before in
+    let args = start .args in
     let text = args .text .now in
     let name = bytes-between text (args .from) (args .upto) in
-    let tag = c .before .before .before .before .before .before .before .before .before .before .before .before .before .before .before .before .before .before .before .before .before .before .read-attributes in
-    tag-goes text (args .place) name (args .upto) (tag .last .1 .1 .0) (tag .result) (tag .ensures) (c .before .before .before .before .before .before .before .before .before .before .before .before .before .before .before .before .before .before .before .next .given .1) .inside
+    let tag = at-read-attributes .read-attributes in
+    tag-goes text (args .place) name (args .upto) (tag .last .1 .1 .0) (tag .result) (tag .ensures)
+    (at-next .next .given .1) .inside
 
 -- parts(text, next, table, opened)
 parts-requires : tie.Need-parts-requires
 parts-requires c κs =
-    let args = c .before .before .before .before .before .before .before .before .before .before .before .before .before .before .before .before .before .before .before .before .before .before .before .args in
+    let at-put-opening = c .before .before .before .before in
+    let at-letter = at-put-opening .before .before .before in
+    let at-next = at-letter .before .before .before .before .before .before .before .before .before in
+    let at-read-attributes = at-next .before .before .before in
+    let start = at-read-attributes .before .before .before .before in
+    let args = start .args in
     let text = args .text .now in
     let name = bytes-between text (args .from) (args .upto) in
-    let tag = c .before .before .before .before .before .before .before .before .before .before .before .before .before .before .before .before .before .before .before .read-attributes in (
-      tag-goes text (args .place) name (args .upto) (tag .last .1 .1 .0) (tag .result) (tag .ensures) (c .before .before .before .before .before .before .before .before .before .before .before .before .before .before .before .before .next .given .1) .inside,
-      opening-collected (c .before .before .before .before .before .before .before .letter .given .0 .0) (c .before .before .before .before .before .before .before .before .before .before .before .before .before .before .before .before .before .before .before .before .before .before .before .pre .1) (c .before .before .before .before .put-opening .ensures),
+    let tag = at-read-attributes .read-attributes in (
+      tag-goes text (args .place) name (args .upto) (tag .last .1 .1 .0) (tag .result) (tag .ensures)
+          (at-next .next .given .1) .inside,
+      opening-collected (at-letter .letter .given .0 .0) (start .pre .1) (at-put-opening .put-opening .ensures),
     )
 
 -- if short: return behind_unit(text, next, closed)
 returns-2 : tie.Need-returns-2
 unfolding codes 'unit'
 returns-2 c =
-    let args = c .before .before .before .before .before .before .before .before .before .before .before .before .before .before .before .before .before .before .before .before .before .before .before .before .before .before .before .args in
+    let at-put-closing = c .before .before .before in
+    let at-if2 = at-put-closing .before .before in
+    let at-put-opening = at-if2 .before .before .before in
+    let at-letter = at-put-opening .before .before .before in
+    let at-unit-opening = at-letter .before .before in
+    let at-if1 = at-unit-opening .before .before in
+    let at-is-word = at-if1 .before in
+    let at-next = at-is-word .before .before .before .before in
+    let at-read-attributes = at-next .before .before .before in
+    let start = at-read-attributes .before .before .before .before in
+    let args = start .args in
     let text = args .text .now in
     let name = bytes-between text (args .from) (args .upto) in
-    let tag = c .before .before .before .before .before .before .before .before .before .before .before .before .before .before .before .before .before .before .before .before .before .before .before .read-attributes in
-    let head = c .before .before .before .before .before .before .before .before .before .before .before .before .before .unit-opening in
-    let put = c .before .before .before .before .before .before .before .before .put-opening in
-    let close = c .before .before .before .put-closing in
+    let tag = at-read-attributes .read-attributes in
+    let head = at-unit-opening .unit-opening in
+    let put = at-put-opening .put-opening in
+    let close = at-put-closing .put-closing in
     let behind = c .behind-unit in
-    short-unit text (args .place) name (args .upto) (tag .last .1 .1 .0) (tag .result) (tag .ensures) (c .before .before .before .before .before .before .before .before .before .before .before .before .before .before .before .before .before .before .before .before .next .given .1)
-    (sym (c .before .before .before .before .before .before .before .before .before .before .before .before .before .before .before .before .is-word .ensures) ∙ not-false _ (c .before .before .before .before .before .before .before .before .before .before .before .before .before .before .before .if1 .left)) (head .result) (head .ensures) (c .before .before .before .before .before .before .before .before .before .before .before .letter .given .1) (args .table .now)
-    (put .last .0) (close .last .0) (args .built) (put .result) (close .result) (put .ensures) (behind .result) (c .before .before .before .before .before .if2 .taken)
+    short-unit text (args .place) name (args .upto) (tag .last .1 .1 .0) (tag .result) (tag .ensures) (at-next .next .given .1)
+    (sym (at-is-word .is-word .ensures) ∙ not-false _ (at-if1 .if1 .left)) (head .result) (head .ensures)
+    (at-letter .letter .given .1) (args .table .now)
+    (put .last .0) (close .last .0) (args .built) (put .result) (close .result) (put .ensures) (behind .result)
+    (at-if2 .if2 .taken)
     (close .ensures) (behind .ensures)
 
 -- parts(text, next, table, opened)
 returns-3 : tie.Need-returns-3
 unfolding codes 'unit'
 returns-3 c =
-    let args = c .before .before .before .before .before .before .before .before .before .before .before .before .before .before .before .before .before .before .before .before .before .before .before .before .before .before .args in
+    let at-parts = c .before .before in
+    let at-if2 = at-parts .before .before in
+    let at-put-opening = at-if2 .before .before .before in
+    let at-letter = at-put-opening .before .before .before in
+    let at-unit-opening = at-letter .before .before in
+    let at-if1 = at-unit-opening .before .before in
+    let at-is-word = at-if1 .before in
+    let at-next = at-is-word .before .before .before .before in
+    let at-read-attributes = at-next .before .before .before in
+    let start = at-read-attributes .before .before .before .before in
+    let args = start .args in
     let text = args .text .now in
     let name = bytes-between text (args .from) (args .upto) in
-    let tag = c .before .before .before .before .before .before .before .before .before .before .before .before .before .before .before .before .before .before .before .before .before .before .read-attributes in
-    let head = c .before .before .before .before .before .before .before .before .before .before .before .before .unit-opening in
-    let put = c .before .before .before .before .before .before .before .put-opening in
-    let parts = c .before .before .parts in
-    long-unit text (args .place) name (args .upto) (tag .last .1 .1 .0) (tag .result) (tag .ensures) (c .before .before .before .before .before .before .before .before .before .before .before .before .before .before .before .before .before .before .before .next .given .1)
-    (sym (c .before .before .before .before .before .before .before .before .before .before .before .before .before .before .before .is-word .ensures) ∙ not-false _ (c .before .before .before .before .before .before .before .before .before .before .before .before .before .before .if1 .left)) (head .result) (head .ensures) (c .before .before .before .before .before .before .before .before .before .before .letter .given .1) (args .table .now)
-    (put .last .0) (parts .last .1 .1 .0) (args .built) (put .result) (put .result) (put .ensures) (parts .result) (c .before .before .before .before .if2 .left)
+    let tag = at-read-attributes .read-attributes in
+    let head = at-unit-opening .unit-opening in
+    let put = at-put-opening .put-opening in
+    let parts = at-parts .parts in
+    long-unit text (args .place) name (args .upto) (tag .last .1 .1 .0) (tag .result) (tag .ensures) (at-next .next .given .1)
+    (sym (at-is-word .is-word .ensures) ∙ not-false _ (at-if1 .if1 .left)) (head .result) (head .ensures)
+    (at-letter .letter .given .1) (args .table .now)
+    (put .last .0) (parts .last .1 .1 .0) (args .built) (put .result) (put .result) (put .ensures) (parts .result)
+    (at-if2 .if2 .left)
     (parts .ensures)
 
 -- UnitRead::Bad => ReadText::Bad(place)
 returns-4 : tie.Need-returns-4
 unfolding codes 'unit'
 returns-4 c =
-    let args = c .before .before .before .before .before .before .before .before .before .before .before .before .before .before .before .before .args in
+    let at-unit-opening = c .before .before in
+    let at-if1 = at-unit-opening .before .before in
+    let at-is-word = at-if1 .before in
+    let at-next = at-is-word .before .before .before .before in
+    let at-read-attributes = at-next .before .before .before in
+    let start = at-read-attributes .before .before .before .before in
+    let args = start .args in
     let text = args .text .now in
     let name = bytes-between text (args .from) (args .upto) in
-    let tag = c .before .before .before .before .before .before .before .before .before .before .before .before .read-attributes in
-    let head = c .before .before .unit-opening in
-    bad-opening text (args .place) name (args .upto) (tag .last .1 .1 .0) (tag .result) (tag .ensures) (c .before .before .before .before .before .before .before .before .before .next .given .1)
-    (sym (c .before .before .before .before .before .is-word .ensures) ∙ not-false _ (c .before .before .before .before .if1 .left)) (head .result) (head .ensures) (c .enum-told .given .1)
+    let tag = at-read-attributes .read-attributes in
+    let head = at-unit-opening .unit-opening in
+    bad-opening text (args .place) name (args .upto) (tag .last .1 .1 .0) (tag .result) (tag .ensures) (at-next .next .given .1)
+    (sym (at-is-word .is-word .ensures) ∙ not-false _ (at-if1 .if1 .left)) (head .result) (head .ensures)
+    (c .enum-told .given .1)
 
 -- Tagged::Cut => ReadText::Bad(text.len())
 returns-5 : tie.Need-returns-5
 unfolding cut-short
 returns-5 c =
-    let args = c .before .before .before .before .before .before .before .args in
+    let at-read-attributes = c .before .before .before in
+    let start = at-read-attributes .before .before .before .before in
+    let args = start .args in
     let text = args .text .now in
     let name = bytes-between text (args .from) (args .upto) in
-    let tag = c .before .before .before .read-attributes in
-    tag-cut text (args .place) name (args .upto) (tag .last .1 .1 .0) (tag .result) (tag .ensures) (c .enum-told2 .given .1) unit-due refl
+    let tag = at-read-attributes .read-attributes in
+    tag-cut text (args .place) name (args .upto) (tag .last .1 .1 .0) (tag .result) (tag .ensures) (c .enum-told2 .given .1)
+    unit-due refl
 
 -- Tagged::Fault => ReadText::Bad(place)
 returns-6 : tie.Need-returns-6
 returns-6 c =
-    let args = c .before .before .before .before .before .before .before .args in
+    let at-read-attributes = c .before .before .before in
+    let start = at-read-attributes .before .before .before .before in
+    let args = start .args in
     let text = args .text .now in
     let name = bytes-between text (args .from) (args .upto) in
-    let tag = c .before .before .before .read-attributes in
-    tag-fault text (args .place) name (args .upto) (tag .last .1 .1 .0) (tag .result) (tag .ensures) (c .enum-told3 .given .1) unit-due
+    let tag = at-read-attributes .read-attributes in
+    tag-fault text (args .place) name (args .upto) (tag .last .1 .1 .0) (tag .result) (tag .ensures) (c .enum-told3 .given .1)
+    unit-due
 
 pub unit-spec : {M : Type 1} → statement M
 unit-spec =

@@ -9,18 +9,24 @@ use Rattle.xml_unit.proofs.unit_end.Tie as tie
 returns : tie.Need-returns
 unfolding codes 'unit'
 returns c =
-    let args = c .before .before .before .before .before .before .before .before .before .before .before .args in
-    let put = c .before .before .before .put-closing in
+    let at-put-closing = c .before .before .before in
+    let at-if1 = at-put-closing .before .before in
+    let at-is-word = at-if1 .before in
+    let start = at-is-word .before .before .before .before .before in
+    let args = start .args in
+    let put = at-put-closing .put-closing in
     let behind = c .behind-unit in
     unit-ends (args .text .now) (args .end) (args .table .now) (put .last .0) (args .built) (put .result)
-    (sym (c .before .before .before .before .before .before .is-word .ensures) ∙ c .before .before .before .before .before .if1 .taken) (put .ensures) (behind .result) (behind .ensures)
+    (sym (at-is-word .is-word .ensures) ∙ at-if1 .if1 .taken) (put .ensures) (behind .result) (behind .ensures)
 
 -- ReadText::Bad(end.place)
 returns-2 : tie.Need-returns-2
 unfolding codes 'unit'
 returns-2 c =
-    let args = c .before .before .before .before .before .before .args in
-    other-end (args .text .now) (args .end) (args .table .now) (args .built) (sym (c .before .is-word .ensures) ∙ c .if1 .left)
+    let at-is-word = c .before in
+    let start = at-is-word .before .before .before .before .before in
+    let args = start .args in
+    other-end (args .text .now) (args .end) (args .table .now) (args .built) (sym (at-is-word .is-word .ensures) ∙ c .if1 .left)
 
 pub unit-end-spec : {M : Type 1} → statement M
 unit-end-spec =
