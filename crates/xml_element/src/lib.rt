@@ -17,6 +17,7 @@ use xml_piece::Piece;
 use xml_piece::piece_at;
 use xml_records::put_item;
 use xml_slots::ABSENT;
+use xml_slots::SLOTS;
 use xml_slots::is_word;
 
 // An end tag: its place, where its name stands, and the place behind it.
@@ -65,7 +66,7 @@ pub fn blamed_tag(text: &[u8], place: usize, upto: usize) -> usize
     requires { ⌜ upto ≤ length (now text) ⌝ }
     ensures { λ r. ⌜ TagBlamed (now (text .entry)) place upto r ⌝ }
 {
-    let mut slots = [ABSENT; 16];
+    let mut slots = [ABSENT; SLOTS];
     match read_attributes(text, upto, &mut slots) {
         Tagged::Whole(next, short, count) => place,
         Tagged::Cut => text.len(),
@@ -146,7 +147,7 @@ pub fn open_element(
     ensures { λ r. ⌜ OpenRead (now (text .entry)) place (bytes-between (now (text .entry)) from upto) upto (now (table
         .entry)) built (now (table .exit)) r ⌝ }
 {
-    let mut slots = [ABSENT; 16];
+    let mut slots = [ABSENT; SLOTS];
     match read_attributes(text, upto, &mut slots) {
         Tagged::Whole(next, short, count) => {
             match inline_element(&text[from..upto], &slots, count) {

@@ -7,6 +7,7 @@ ghost use Rattle.xliff.specs.Text.{utf8, begins-with};
 ghost use Rattle.xml.specs.Characters.{begins, is-scalar, part-of, cut-character, front-character};
 ghost use Rattle.xml_front.specs.Fronts.{told, spelling, filled-up, agree};
 use text::xml_char;
+use utf8::width;
 
 // What stands at the front: a code point and how many bytes it takes after the first; the bytes end within it; nothing
 // that XML allows.
@@ -114,22 +115,6 @@ fn agrees(c: u32, text: &[u8]) -> bool
     same_at(text, 0, 0xF0 + c / 262144)
         & (same_at(text, 1, 0x80 + c / 4096 % 64)
             & (same_at(text, 2, 0x80 + c / 64 % 64) & same_at(text, 3, 0x80 + c % 64)))
-}
-
-// How many bytes the UTF-8 of a code point takes.
-fn width(c: u32) -> usize
-    ensures { λ r. ⌜ r ≡ length (utf8 c) ⌝ }
-{
-    if c < 0x80 {
-        return 1;
-    }
-    if c < 0x800 {
-        return 2;
-    }
-    if c < 0x10000 {
-        return 3;
-    }
-    4
 }
 
 // Whether the bytes begin with the UTF-8 of a code point that XML allows.

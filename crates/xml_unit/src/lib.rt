@@ -5,7 +5,6 @@ ghost use Prim.Native.Nat.{suc, _<_, _≤_};
 ghost use lib.ListN.{length};
 ghost use Rattle.xliff.specs.Encode.{target-head};
 ghost use Rattle.xliff.specs.Parse.{most-bytes};
-ghost use Rattle.xml.specs.Characters.{is-blank};
 ghost use Rattle.xml.specs.Elements.{unit-due, part-due, target-due};
 ghost use Rattle.xml_names.specs.Names.{bytes-between, NameIn};
 ghost use Rattle.xml_piece.specs.Pieces.{rest-at, tag-at};
@@ -37,7 +36,9 @@ use xml_records::put_opening;
 use xml_records::put_segment;
 use xml_records::put_target_head;
 use xml_slots::ABSENT;
+use xml_slots::SLOTS;
 use xml_slots::is_word;
+use xml_values::is_blank_point;
 
 // "to depth 32 of pc and mrk"
 const MOST_DEPTH: usize = 32;
@@ -56,12 +57,6 @@ pub enum Outer {
 pub enum ReadText {
     Good(Built),
     Bad(usize),
-}
-
-fn blank(c: u32) -> bool
-    ensures { λ r. ⌜ r ≡ is-blank c ⌝ }
-{
-    (c == 32) | (c == 9) | (c == 10) | (c == 13)
 }
 
 // What stands behind blanks and comments from `start` on.
@@ -87,7 +82,7 @@ fn outer_at(text: &[u8], start: usize) -> Outer
                 at = next;
             }
             Piece::Character(c, next) => {
-                if !blank(c) {
+                if !is_blank_point(c) {
                     return Outer::Bad(at);
                 }
                 at = next;
@@ -146,7 +141,7 @@ fn source_at(
     ensures { λ r. ⌜ SourceSteps (now (text .entry)) upto (tag-at (now (text .entry)) place (bytes-between (now (text
         .entry)) from upto) upto) (now (table .entry)) built (now (table .exit)) r ⌝ }
 {
-    let mut slots = [ABSENT; 16];
+    let mut slots = [ABSENT; SLOTS];
     match read_attributes(text, upto, &mut slots) {
         Tagged::Whole(next, short, count) => {
             if is_word(&text[from..upto], b"source") & (count == 0) {
@@ -184,7 +179,7 @@ fn target_at(
     ensures { λ r. ⌜ TargetSteps (now (text .entry)) upto position (tag-at (now (text .entry)) place (bytes-between (now
         (text .entry)) from upto) upto) (now (table .entry)) built (now (table .exit)) r ⌝ }
 {
-    let mut slots = [ABSENT; 16];
+    let mut slots = [ABSENT; SLOTS];
     match read_attributes(text, upto, &mut slots) {
         Tagged::Whole(next, short, count) => {
             if !is_word(&text[from..upto], b"target") {
@@ -288,7 +283,7 @@ fn head(text: &[u8], place: usize, from: usize, upto: usize, table: &mut [u8], b
         .entry)) place (bytes-between (now (text .entry)) from upto) upto) (now (table .entry)) built (now (table
         .exit)) r ⌝ }
 {
-    let mut slots = [ABSENT; 16];
+    let mut slots = [ABSENT; SLOTS];
     match read_attributes(text, upto, &mut slots) {
         Tagged::Whole(next, short, count) => {
             if short {
@@ -416,7 +411,7 @@ fn unit(
     ensures { λ r. ⌜ Finishes unit-due (tag-at (now (text .entry)) place (bytes-between (now (text .entry)) from upto)
         upto) (now (table .entry)) built (now (table .exit)) r ⌝ }
 {
-    let mut slots = [ABSENT; 16];
+    let mut slots = [ABSENT; SLOTS];
     match read_attributes(text, upto, &mut slots) {
         Tagged::Whole(next, short, count) => {
             if !is_word(&text[from..upto], b"unit") {

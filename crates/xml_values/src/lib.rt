@@ -10,10 +10,17 @@ use xml_front::Front;
 use xml_front::front_character;
 use xml_reference::front_reference;
 
+// Whether a code point is a blank.
+pub fn is_blank_point(c: u32) -> bool
+    ensures { λ r. ⌜ r ≡ is-blank c ⌝ }
+{
+    (c == b' ' as u32) | (c == b'\t' as u32) | (c == b'\n' as u32) | (c == b'\r' as u32)
+}
+
 pub fn is_blank(b: u8) -> bool
     ensures { λ r. ⌜ r ≡ is-blank b ⌝ }
 {
-    (b == b' ') | (b == b'\t') | (b == b'\n') | (b == b'\r')
+    is_blank_point(b as u32)
 }
 
 // Where the blanks end that stand from a place on.

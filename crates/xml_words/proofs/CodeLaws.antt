@@ -23,12 +23,12 @@ unfolding value-code
 code-of-reference b c e = rw (eq-eqb b 38 e)
 
 module _ (b c : ℕ) (no-reference : b ≡ 38 → ⊥) where
-  pub code-of-blank : eqb c 32 || eqb c 9 || eqb c 10 || eqb c 13 ≡ true → 32 ≡ value-code b c
-  unfolding value-code value-character is-blank
+  pub code-of-blank : is-blank c ≡ true → 32 ≡ value-code b c
+  unfolding value-code value-character
   code-of-blank e = rw (ne-eqb b 38 no-reference, e)
 
-  pub code-of-other : eqb c 32 || eqb c 9 || eqb c 10 || eqb c 13 ≡ false → c ≡ value-code b c
-  unfolding value-code value-character is-blank
+  pub code-of-other : is-blank c ≡ false → c ≡ value-code b c
+  unfolding value-code value-character
   code-of-other e = rw (ne-eqb b 38 no-reference, e)
 
 -- where a value is over: at the text's end, and where nothing is found. (At its quote: `codes-end`.)

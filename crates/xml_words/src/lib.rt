@@ -11,6 +11,7 @@ ghost use Rattle.xml_slots.specs.Slots.{value-read, or-bad};
 ghost use Rattle.xml_words.specs.Codes.{CodeRead, digit-or-16};
 use xml_front::Front;
 use xml_slots::BAD;
+use xml_values::is_blank_point;
 use xml_values::value_front;
 
 // The next code point of a value and the place behind it, or that the value is over.
@@ -26,7 +27,7 @@ fn code_of(first: u8, c: u32) -> u32
     if first == b'&' {
         return c;
     }
-    if (c == b' ' as u32) | (c == b'\t' as u32) | (c == b'\n' as u32) | (c == b'\r' as u32) {
+    if is_blank_point(c) {
         return b' ' as u32;
     }
     c

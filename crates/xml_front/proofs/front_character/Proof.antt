@@ -10,14 +10,14 @@ use Rattle.xml_front.proofs.front_character.Tie as tie
 sub-t5 : tie.Need-sub-t5
 sub-t5 c =
     let spelled-with = c .before .before .before .spelled-with in
-    omega (arith, c .width .ensures, utf8-nonempty (spelled-with .result))
+    omega (arith, c .width .ensures .0, utf8-nonempty (spelled-with .result))
 
 -- return Front::Found(c, width(c) - 1)
 returns : tie.Need-returns
 returns c =
     let text = c .before .before .before .before .before .args .text .now in
     let spelled-with = c .before .before .before .spelled-with in
-    rw (c .width .ensures)
+    rw (c .width .ensures .0)
     (front-found text (spelled-with .result) (spelled-with .ensures ∙ unfilled text)
     (sym (c .before .before .starts-with .ensures) ∙ c .before .if1 .taken))
 

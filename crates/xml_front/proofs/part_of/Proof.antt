@@ -7,7 +7,7 @@ use Rattle.xml_front.proofs.part_of.Tie as tie
 -- is_scalar(c) & ((text.len() < width(c)) & agrees(c, text))
 returns : tie.Need-returns
 unfolding part-of
-returns c = simp (c .before .before .is-scalar .ensures, c .before .width .ensures, c .agrees .ensures, cut-off)
+returns c = simp (c .before .before .is-scalar .ensures, c .before .width .ensures .0, c .agrees .ensures, cut-off)
 
 pub part-of-spec : {M : Type 1} → statement M
 part-of-spec =

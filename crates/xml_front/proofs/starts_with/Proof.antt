@@ -9,7 +9,7 @@ use Rattle.xml_front.proofs.starts_with.Tie as tie
 returns : tie.Need-returns
 unfolding begins-with
 returns c =
-    simp (c .before .before .xml-char .ensures, c .before .width .ensures, c .agrees .ensures, xml-same, whole)
+    simp (c .before .before .xml-char .ensures, c .before .width .ensures .0, c .agrees .ensures, xml-same, whole)
 
 pub starts-with-spec : {M : Type 1} → statement M
 starts-with-spec =

@@ -76,7 +76,7 @@ loop-again c =
     comment-on (args .text .now) (args .start) (loop .at) (loop .inv) (piece-at .result) (piece-at .ensures)
     (at-next .next .given .1)
 
--- if !blank(c)
+-- if !is_blank_point(c)
 returns-3 : tie.Need-returns-3 Inv-loop μ-loop
 returns-3 c =
     let at-blank = c .before in
@@ -89,7 +89,7 @@ returns-3 c =
     let piece-at = at-piece-at .piece-at in
     character-bad (args .text .now) (args .start) (loop .at) (loop .inv) (piece-at .result) (piece-at .ensures)
     (at-c .c .given .1)
-    (sym (at-blank .blank .ensures) ∙ not-true _ (c .if1 .taken))
+    (sym (at-blank .is-blank-point .ensures) ∙ not-true _ (c .if1 .taken))
 
 -- Piece::Character(c, next), a blank: a place ahead
 loop-less-2 : tie.Need-loop-less-2 Inv-loop μ-loop
@@ -118,7 +118,7 @@ loop-again-2 c =
     let loop = at-loop .loop in
     let piece-at = at-piece-at .piece-at in
     blank-on (args .text .now) (args .start) (loop .at) (loop .inv) (piece-at .result) (piece-at .ensures) (at-c .c .given .1)
-    (sym (at-blank .blank .ensures) ∙ not-false _ (c .if1 .left))
+    (sym (at-blank .is-blank-point .ensures) ∙ not-false _ (c .if1 .left))
 
 -- Piece::Reference(c, next)
 returns-4 : tie.Need-returns-4 Inv-loop μ-loop
@@ -201,7 +201,7 @@ outer-at-spec =
     (λ c. search needs)
     loop-less
     loop-again
-    -- by search: enum-known-c, blank-requires
+    -- by search: enum-known-c, is-blank-point-requires
     (λ c. search needs) (λ c κs. search needs)
     returns-3
     loop-less-2

@@ -1,4 +1,5 @@
 use Rattle.xml_words.proofs.CodeLaws.{code-of-reference, code-of-blank, code-of-other}
+use mathlib.Core.Path.{sym, _∙_}
 use borrow.Author.Needs.{needs}
 use Rattle.xml_words.proofs.code_of.Statement.{statement}
 use Rattle.xml_words.proofs.code_of.Tie as tie
@@ -12,21 +13,23 @@ returns c =
 -- return b' ' as u32
 returns-2 : tie.Need-returns-2
 returns-2 c =
-    let args = c .before .before .args in
-    code-of-blank (args .first) (args .c) (c .before .if1 .left) (c .if2 .taken)
+    let args = c .before .before .before .args in
+    let is-blank-point = c .before .is-blank-point in
+    code-of-blank (args .first) (args .c) (c .before .before .if1 .left) (sym (is-blank-point .ensures) ∙ c .if2 .taken)
 
 -- c
 returns-3 : tie.Need-returns-3
 returns-3 c =
-    let args = c .before .before .args in
-    code-of-other (args .first) (args .c) (c .before .if1 .left) (c .if2 .left)
+    let args = c .before .before .before .args in
+    let is-blank-point = c .before .is-blank-point in
+    code-of-other (args .first) (args .c) (c .before .before .if1 .left) (sym (is-blank-point .ensures) ∙ c .if2 .left)
 
 pub code-of-spec : {M : Type 1} → statement M
 code-of-spec =
     tie.close
     (tie.spec
     returns
-    -- by search: cast-if2, cast-if2-2, cast-if2-3, cast-if2-4, cast-result
-    (λ c. search needs) (λ c. search needs) (λ c. search needs) (λ c. search needs) (λ c. search needs)
+    -- by search: is-blank-point-requires, cast-result
+    (λ c κs. search needs) (λ c. search needs)
     returns-2
     returns-3)
