@@ -24,7 +24,8 @@ use Rattle.read_xml.specs.Judging.{ReadTable}
 
 module _ (u : XliffUnit) (table : List ℕ) (built : Built) (k : ReadTable u table built) (out : List ℕ) where
   -- 15
-  large : (over : Bool) → built .over ≡ over → over || ltb (length out) (built .used) ≡ true → too-large (length out) u ≡ true
+  large : (over : Bool) → built .over ≡ over → over || ltb (length out) (built .used) ≡ true
+      → too-large (length out) u ≡ true
   large true e h = k .beyond e (length out)
   large false e h = k .within e .large (length out) ∙ h
 
@@ -32,7 +33,8 @@ module _ (u : XliffUnit) (table : List ℕ) (built : Built) (k : ReadTable u tab
       → (spec.refused 15 0 ≡ answer (table-read (length out) u)) × (out ≡ output (table-read (length out) u) out)
   refused-15 h =
       answers-refused (table-read (length out) u) 15 0 out
-      (unfold table-read in applied 15 (too-large (length out) u) (table-refusal (encode u)) (encode u) (large (built .over) refl h))
+      (unfold table-read in
+      applied 15 (too-large (length out) u) (table-refusal (encode u)) (encode u) (large (built .over) refl h))
 
   -- the check of the table read
   module _ (h : built .over || ltb (length out) (built .used) ≡ false) where
@@ -74,10 +76,12 @@ pub text-at-fault : (s out : List ℕ) (p : ℕ) → xml-records s ≡ bad p
     → (spec.refused 22 p ≡ answer (read-xml s (length out))) × (out ≡ output (read-xml s (length out)) out)
 text-at-fault s out p e = answers-refused (read-xml s (length out)) 22 p out (unfold read-xml in rw (e, read-xml))
 
-pub text-read : (s : List ℕ) (room : ℕ) (rs : List Record) → xml-records s ≡ read rs → read-xml s room ≡ table-read room (unit-of rs)
+pub text-read : (s : List ℕ) (room : ℕ) (rs : List Record) → xml-records s ≡ read rs
+    → read-xml s room ≡ table-read room (unit-of rs)
 unfolding read-xml
 text-read s room rs e = rw (e, read-xml)
 
-pub table-of : (s : List ℕ) (rs : List Record) (table : List ℕ) (built : Built) → xml-records s ≡ read rs → Collected table built rs
+pub table-of : (s : List ℕ) (rs : List Record) (table : List ℕ) (built : Built) → xml-records s ≡ read rs
+    → Collected table built rs
     → ReadTable (unit-of rs) table built
 table-of s rs table built e k = record { beyond = λ o room. read-beyond s e k o room; within = λ o. read-within s e k o }

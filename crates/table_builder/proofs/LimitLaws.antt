@@ -14,7 +14,7 @@ use Rattle.xliff.specs.Parse.{is-part, most-bytes, most-records, most-parts}
 use Rattle.xliff.specs.Good.{part-heads}
 use Rattle.xliff.proofs.lists.Tests.{or-left, or-right, or-both, or-none}
 use Rattle.xliff.proofs.unit.Pieces.{spell-append}
-use Rattle.xliff.proofs.unit.Valid.{heads-unit}
+use Rattle.xliff.proofs.unit.Valid.{heads-append, heads-unit}
 use Rattle.table_builder.specs.Building.{run-records, with-run, past-limits}
 
 -- the sizes of records with one more
@@ -28,8 +28,7 @@ spell-size rs r = ap length (spell-more rs r) ∙ length-append (spell rs) (reco
 
 pub count-more : (rs : List Record) (r : Record) → part-heads (rs ++ (r ∷ [])) ≡ part-heads rs + cond (is-part r) 1 0
 unfolding part-heads
-count-more [] r = omega arith
-count-more (q ∷ rs) r = omega (arith, count-more rs r)
+count-more rs r = omega (arith, heads-append rs (r ∷ []))
 
 -- the records of a unit are beyond a limit exactly if the unit is, as 15 tells it
 pub past-unit : (u : XliffUnit) → past-limits (unit-records u)

@@ -14,7 +14,7 @@ use Rattle.xml.specs.Attributes.{named, only, value-of}
 use borrow.Author.Tests.{not-true}
 use Rattle.xml_slots.specs.Slots.{slot-names, value-read, absent, or-bad, in-slot, slots-of, sound, index-of}
 use Rattle.xml_attributes.specs.Tags.{Known, Placed}
-use Rattle.xml_slots.proofs.NameLaws.{equal-swap, stands-in, not-there, absent-there, named-below, unnamed}
+use Rattle.xml_slots.proofs.NameLaws.{none-twice, equal-swap, stands-in, not-there, absent-there, named-below, unnamed}
 use Rattle.xml_slots.proofs.ValueLaws.{slot-absent}
 
 -- whether the attributes are sound
@@ -94,10 +94,6 @@ unfolding slots-of value-of in-slot
 all-absent = refl
 
 -- no name stands twice
-unfoldable none-twice : List (List ℕ) → Bool
-none-twice [] = true
-none-twice (n ∷ ns) = not (named ns n) && none-twice ns
-
 names-differ : none-twice slot-names ≡ true
 unfolding none-twice named any equal Words·all
 names-differ = refl

@@ -95,12 +95,6 @@ module _ (text : List ℕ) (start depth : ℕ) (table₀ : List ℕ) (built₀ :
         collects = s .collects;
       }
 
--- the array keeps its length
-pub same-room : (records : List Record) (t t′ : List ℕ) (b b′ : Built) → Collecting t b → Collects records t b t′ b′
-    → length t′ ≡ length t
-same-room records t t′ b b′ held k =
-    k .on (held .read) (held .collected) .holds .room ∙ sym (held .collected .holds .room)
-
 -- behind the end tag of an element with content
 module _ (text : List ℕ) (place : ℕ) (name : List ℕ) (upto depth : ℕ) (tag : NestedTag) (r : NestedRead text place name upto tag)
     (deep : depth ≡ 0 → ⊥) (long : tag .short ≡ false) (t t₁ t₂ t₃ : List ℕ) (b b₁ b₂ : Built) (end : EndTag)

@@ -18,7 +18,7 @@ use Rattle.xml.specs.Tokens.{Attribute, doubled}
 use Rattle.xml.specs.Attributes.{named, only, value-of}
 use Rattle.xml_slots.specs.Slots.{slot-names, absent, in-slot, sound, Slotted, index-of}
 use Rattle.xml_slots.proofs.WordLaws.{suc-eqb}
-use Rattle.xml_slots.proofs.NameLaws.{equal-swap, stands-in, not-there}
+use Rattle.xml_slots.proofs.NameLaws.{none-twice, equal-swap, stands-in, not-there}
 use Rattle.xml_elements.specs.Reading.{name-of, names-of, apart}
 use Rattle.xml_elements.proofs.SlotLaws.{is-there, told-at}
 
@@ -29,11 +29,6 @@ ones (some v) = 1
 
 abbrev counted : List (List ℕ) → List Attribute → ℕ
 counted ns ats = sum (λ n. ones (value-of n ats)) ns
-
--- names, none of them twice
-none-twice : List (List ℕ) → Bool
-none-twice [] = true
-none-twice (n ∷ ns) = not (any (equal n) ns) && none-twice ns
 
 counted-none : (ns : List (List ℕ)) → counted ns [] ≡ 0
 unfolding value-of
@@ -166,7 +161,7 @@ other-names k p (j ∷ ks) h e =
     (other-names k p ks (apart-rest j ks h) (or-right (eqb k j) _ e))
 
 names-apart : (ks : List ℕ) → apart ks ≡ true → none-twice (names-of ks) ≡ true
-unfolding none-twice
+unfolding none-twice named
 names-apart [] h = refl
 names-apart (k ∷ ks) h =
     rw (other-names k (apart-slot k ks h) ks (apart-rest k ks h) (apart-other k ks h)) (names-apart ks (apart-rest k ks h))

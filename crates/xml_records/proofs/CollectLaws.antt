@@ -157,3 +157,9 @@ pub collecting-builds : {t : List ℕ} {built : Built} → Collecting t built �
 collecting-builds k =
     let held = k .collected in
     record { done = held .done; run = held .run; holds = held .holds }
+
+-- the array keeps its length
+pub same-room : (records : List Record) (t t′ : List ℕ) (b b′ : Built) → Collecting t b → Collects records t b t′ b′
+    → length t′ ≡ length t
+same-room records t t′ b b′ held k =
+    k .on (held .read) (held .collected) .holds .room ∙ sym (held .collected .holds .room)

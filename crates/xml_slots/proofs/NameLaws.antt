@@ -1,7 +1,7 @@
 -- The names of attributes: whether one stands among others, and where.
 use Prim.Native.Nat.{ℕ, suc, _+_, _≤_, _<_}
 use mathlib.Core.Path.{_≡_, refl, ap, ap₂}
-use mathlib.Core.Bool.{Bool, true, false, _&&_, _||_, cond}
+use mathlib.Core.Bool.{Bool, true, false, not, _&&_, _||_, cond}
 use mathlib.Core.List.{List, [], _∷_, _++_}
 use mathlib.Core.Option.{none, some}
 use native.Mathlib.Omega.{arith}
@@ -19,6 +19,11 @@ equal-swap [] [] = refl
 equal-swap [] (b ∷ t) = refl
 equal-swap (a ∷ s) [] = refl
 equal-swap (a ∷ s) (b ∷ t) = ap₂ _&&_ (eqb-swap a b) (equal-swap s t)
+
+-- names, none of them twice
+unfoldable pub none-twice : List (List ℕ) → Bool
+none-twice [] = true
+none-twice (n ∷ ns) = not (named ns n) && none-twice ns
 
 -- an attribute of this name
 abbrev pub stands-in : List ℕ → List Attribute → Bool

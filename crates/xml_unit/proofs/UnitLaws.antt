@@ -36,9 +36,10 @@ use Rattle.xml_content.specs.declared.Went.the-variants.{On}
 use Rattle.xml_unit.specs.declared.ReadText.{ReadText}
 use Rattle.xml_unit.specs.declared.ReadText.the-variants.{Good, Bad as UnitBad}
 use Rattle.xml_element.specs.Opens.{end-tokens, after-tag}
-use Rattle.xml_unit.specs.Units.{CollectingAt, Passed, Steps, Finishes, UnitEnds, BehindUnit, TextRead}
-use Rattle.xml_unit.proofs.TagSteps.{tag-attributes, tag-same, tag-told}
-use Rattle.xml_unit.proofs.StepLaws.{steps-from, more-collected}
+use Rattle.xml_part.specs.Parts.{CollectingAt, Passed, Steps}
+use Rattle.xml_unit.specs.Units.{Finishes, UnitEnds, BehindUnit, TextRead}
+use Rattle.xml_part.proofs.TagSteps.{tag-attributes, tag-same, tag-told}
+use Rattle.xml_part.proofs.StepLaws.{steps-from, more-collected}
 
 -- what is read behind a step
 module _ (d d′ : Due) (a b : List Token) (rs : List Record) (t t₁ t₂ : List ℕ) (built built₁ : Built) (l : Leads d a rs d′ b)

@@ -21,7 +21,8 @@ slice-aggregate-check : tie.Need-slice-aggregate-check
 slice-aggregate-check c =
     let start = c .before .before .before .before .before in
     let args = start .args in
-    let fits = table-fits (start .pre .unit) (args .table .now) (args .built) (start .pre .read) (args .out .now) (c .before .if1 .left) in
+    let some = start .pre in
+    let fits = table-fits (some .unit) (args .table .now) (args .built) (some .read) (args .out .now) (c .before .if1 .left) in
     sym (length-take-le (args .built .used) (args .table .now) (fits .0))
 
 -- &table[..used], to be put
@@ -29,7 +30,9 @@ slice-aggregate-put : tie.Need-slice-aggregate-put
 slice-aggregate-put c =
     let start = c .before .before .before .before .before .before .before .before .before .before in
     let args = start .args in
-    let fits = table-fits (start .pre .unit) (args .table .now) (args .built) (start .pre .read) (args .out .now) (c .before .before .before .before .before .before .if1 .left) in
+    let after-if = c .before .before .before .before .before .before in
+    let some = start .pre in
+    let fits = table-fits (some .unit) (args .table .now) (args .built) (some .read) (args .out .now) (after-if .if1 .left) in
     sym (length-take-le (args .built .used) (args .table .now) (fits .0))
 
 -- writer::put(out, &table[..used])
@@ -37,27 +40,35 @@ put-requires : tie.Need-put-requires
 put-requires c κs =
     let start = c .before .before .before .before .before .before .before .before .before .before in
     let args = start .args in
-    let fits = table-fits (start .pre .unit) (args .table .now) (args .built) (start .pre .read) (args .out .now) (c .before .before .before .before .before .before .if1 .left) in
+    let after-if = c .before .before .before .before .before .before in
+    let some = start .pre in
+    let fits = table-fits (some .unit) (args .table .now) (args .built) (some .read) (args .out .now) (after-if .if1 .left) in
     omega (arith, length-take-le (args .built .used) (args .table .now) (fits .0), fits .1)
 
 -- Answer::Accepted(wrote)
 returns-2 : tie.Need-returns-2
 unfolding Judges
 returns-2 c =
-    let args = c .before .before .before .before .before .before .before .before .before .before .before .before .before .args in
     let put = c .before .before .put in
+    let after-told = c .before .before .before .before .before in
+    let after-check = after-told .before .before in
+    let after-if = after-check .before .before in
+    let args = after-if .before .before .before .before .args in
+    let accepted = sym (ap answer-meaning (after-told .enum-told .given .1)) ∙ after-check .check .ensures in
     λ u k.
-    accepted-table u (args .table .now) (args .built) k (args .out .now) (c .before .before .before .before .before .before .before .before .before .if1 .left) _ (put .result) (put .last .0)
-    (sym (ap answer-meaning (c .before .before .before .before .before .enum-told .given .1)) ∙ c .before .before .before .before .before .before .before .check .ensures) (put .ensures .0) (put .ensures .1)
+    accepted-table u (args .table .now) (args .built) k (args .out .now) (after-if .if1 .left) _ (put .result) (put .last .0)
+    accepted (put .ensures .0) (put .ensures .1)
 
 -- Answer::Refused(n, at) => Answer::Refused(n, at)
 returns-3 : tie.Need-returns-3
 unfolding Judges
 returns-3 c =
-    let args = c .before .before .before .before .before .before .before .before .before .args in
-    λ u k.
-    refused-table u (args .table .now) (args .built) k (args .out .now) (c .before .before .before .before .before .if1 .left) _ _
-    (sym (ap answer-meaning (c .before .n .given .1)) ∙ c .before .before .before .check .ensures)
+    let after-n = c .before in
+    let after-check = after-n .before .before in
+    let after-if = after-check .before .before in
+    let args = after-if .before .before .before .before .args in
+    let refused = sym (ap answer-meaning (after-n .n .given .1)) ∙ after-check .check .ensures in
+    λ u k. refused-table u (args .table .now) (args .built) k (args .out .now) (after-if .if1 .left) _ _ refused
 
 pub judged-spec : {M : Type 1} → statement M
 judged-spec =

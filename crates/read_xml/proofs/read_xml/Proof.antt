@@ -27,23 +27,30 @@ judged-requires c κs =
 returns : tie.Need-returns
 unfolding Judges
 returns c =
-    let args = c .before .before .before .before .before .before .before .before .before .before .before .before .before .args in
+    let judged = c .before .before .judged in
+    let after-built = c .before .before .before .before .before .before in
+    let after-read = after-built .before .before .before in
+    let args = after-read .before .before .before .before .args in
     let xml = args .xml .now in
     let out = args .out .now in
-    let read-unit = c .before .before .before .before .before .before .before .before .before .read-unit in
+    let read-unit = after-read .read-unit in
     let table = read-unit .last .1 .0 in
-    let whole = subst (TextRead xml table) (c .before .before .before .before .before .before .built .given .1) (read-unit .ensures) in
-    let judged = c .before .before .judged in
-    subst (λ (o : Outcome). Answers o (judged .result) out (judged .last .1 .1 .0)) (sym (text-read xml (length out) (whole .records) (whole .are)))
-    (judged .ensures (unit-of (whole .records)) (table-of xml (whole .records) table _ (whole .are) (whole .collected)))
+    let whole = subst (TextRead xml table) (after-built .built .given .1) (read-unit .ensures) in
+    let unit = unit-of (whole .records) in
+    subst (λ (o : Outcome). Answers o (judged .result) out (judged .last .1 .1 .0))
+    (sym (text-read xml (length out) (whole .records) (whole .are)))
+    (judged .ensures unit (table-of xml (whole .records) table _ (whole .are) (whole .collected)))
 
 -- ReadText::Bad(place) => Answer::Refused(22, place)
 returns-2 : tie.Need-returns-2
 returns-2 c =
-    let args = c .before .before .before .before .before .before .before .before .args in
+    let after-place = c .before in
+    let after-read = after-place .before .before .before in
+    let args = after-read .before .before .before .before .args in
     let xml = args .xml .now in
-    let read-unit = c .before .before .before .before .read-unit in
-    text-at-fault xml (args .out .now) _ (subst (TextRead xml (read-unit .last .1 .0)) (c .before .place .given .1) (read-unit .ensures))
+    let read-unit = after-read .read-unit in
+    let bad = subst (TextRead xml (read-unit .last .1 .0)) (after-place .place .given .1) (read-unit .ensures) in
+    text-at-fault xml (args .out .now) _ bad
 
 pub read-xml-spec : {M : Type 1} → statement M
 read-xml-spec =

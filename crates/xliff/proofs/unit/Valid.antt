@@ -173,7 +173,7 @@ unfolding part-heads
 heads-append [] qs = omega arith
 heads-append (r ∷ rs) qs = omega (arith, heads-append rs qs)
 
-heads-text : (c : ℕ) (rs : List Record) → part-heads (text-before c rs) ≡ part-heads rs
+pub heads-text : (c : ℕ) (rs : List Record) → part-heads (text-before c rs) ≡ part-heads rs
 unfolding part-heads text-before is-part
 heads-text c [] = omega arith
 heads-text c (opening d ∷ rs) = omega arith

@@ -1,12 +1,12 @@
 -- The cycle of calls of a content and the elements in it. A content at a depth calls for elements at that depth, and an
 -- element calls for content at one less: the measure of `content` is twice the depth and one, that of `element` twice.
 use Rattle.xml_content.proofs.ElementLaws.{deeper, short-element, content-blames}
-use Rattle.xml_content.proofs.LoopLaws.{SoFar, nothing-read, piece-on, element-on, at-fault, element-at-fault, content-ends, same-room, ended}
+use Rattle.xml_content.proofs.LoopLaws.{SoFar, nothing-read, piece-on, element-on, at-fault, element-at-fault, content-ends, ended}
 use Rattle.xml_names.specs.Names.{bytes-between}
 use Rattle.xml_element.specs.Opens.{OpenRead}
 use Rattle.xml_content.specs.Contents.{StepRead, ElementOn, ElementRead, ContentClosed, ContentRead}
 use Rattle.xml_records.specs.Collecting.{Collects, Collecting}
-use Rattle.xml_records.proofs.CollectLaws.{collecting-on}
+use Rattle.xml_records.proofs.CollectLaws.{collecting-on, same-room}
 use lib.ListN.{length}
 use mathlib.Core.Path.{sym, subst, _∙_}
 use mathlib.Core.List.{List, [], _∷_}

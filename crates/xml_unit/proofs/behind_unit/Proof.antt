@@ -4,7 +4,7 @@ use borrow.Author.Needs.{needs}
 use Rattle.xml.specs.Elements.{nothing-due, closed}
 use Rattle.xml_names.specs.Names.{bytes-between}
 use Rattle.xml_piece.specs.Pieces.{rest-at}
-use Rattle.xml_unit.proofs.StepLaws.{start-bad, end-bad, cut-alike, fault-bad, over-alike}
+use Rattle.xml_part.proofs.StepLaws.{start-bad, end-bad, cut-alike, fault-bad, over-alike}
 use Rattle.xml_unit.proofs.LateTagLaws.{late-tag, late-cut}
 use Rattle.xml_unit.proofs.UnitLaws.{nothing-behind, tag-behind}
 use Rattle.xml_unit.proofs.behind_unit.Statement.{statement}

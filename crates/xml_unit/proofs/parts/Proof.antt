@@ -6,8 +6,9 @@ use borrow.Author.Needs.{needs}
 use Rattle.xml.specs.Elements.{part-due, cut-short, finished}
 use Rattle.xml_names.specs.Names.{bytes-between}
 use Rattle.xml_piece.specs.Pieces.{tag-at}
-use Rattle.xml_unit.specs.Units.{Steps}
-use Rattle.xml_unit.proofs.StepLaws.{start-ahead, start-name, start-alike, start-bad, end-tag-in, end-alike, cut-bad, fault-bad, over-bad, some-collected, more-collected, same-room}
+use Rattle.xml_part.specs.Parts.{Steps}
+use Rattle.xml_records.proofs.CollectLaws.{same-room}
+use Rattle.xml_part.proofs.StepLaws.{start-ahead, start-name, start-alike, start-bad, end-tag-in, end-alike, cut-bad, fault-bad, over-bad, some-collected, more-collected}
 use Rattle.xml_unit.proofs.UnitLaws.{PartsRead, no-parts, part-on, parts-bad, parts-end}
 use Rattle.xml_unit.proofs.parts.Statement.{statement}
 use Rattle.xml_unit.proofs.parts.Tie as tie
@@ -139,7 +140,7 @@ same-length c =
     let at-part = c .before .before .before .before .before in
     let at-loop = at-part .before .before .before .before .before .before in
     let start = at-loop .before .before .before in
-    at-part .part .kept .1 .1 .1 .1 .0 ∙ same-room (at-loop .loop .inv .passed .records) (start .pre .1)
+    at-part .part .kept .1 .1 .1 .1 .0 ∙ same-room (at-loop .loop .inv .passed .records) _ _ _ _ (some-collected (start .pre .1))
     (at-loop .loop .inv .passed .collects)
 
 -- unit_end(text, at, end, table, so_far)
@@ -162,7 +163,7 @@ same-length-2 c =
     let at-unit-end = c .before .before in
     let at-loop = at-unit-end .before .before .before .before .before .before in
     let start = at-loop .before .before .before in
-    at-unit-end .unit-end .kept .1 .1 .1 .0 ∙ same-room (at-loop .loop .inv .passed .records) (start .pre .1)
+    at-unit-end .unit-end .kept .1 .1 .1 .0 ∙ same-room (at-loop .loop .inv .passed .records) _ _ _ _ (some-collected (start .pre .1))
     (at-loop .loop .inv .passed .collects)
 
 -- return unit_end(..)
@@ -188,7 +189,7 @@ same-length-3 : tie.Need-same-length-3 Inv-loop μ-loop
 same-length-3 c =
     let at-loop = c .before .before .before .before in
     let start = at-loop .before .before .before in
-    same-room (at-loop .loop .inv .passed .records) (start .pre .1) (at-loop .loop .inv .passed .collects)
+    same-room (at-loop .loop .inv .passed .records) _ _ _ _ (some-collected (start .pre .1)) (at-loop .loop .inv .passed .collects)
 
 -- Outer::Cut(place): return ReadText::Bad(text.len())
 returns-3 : tie.Need-returns-3 Inv-loop μ-loop
@@ -210,7 +211,7 @@ same-length-4 : tie.Need-same-length-4 Inv-loop μ-loop
 same-length-4 c =
     let at-loop = c .before .before .before .before in
     let start = at-loop .before .before .before in
-    same-room (at-loop .loop .inv .passed .records) (start .pre .1) (at-loop .loop .inv .passed .collects)
+    same-room (at-loop .loop .inv .passed .records) _ _ _ _ (some-collected (start .pre .1)) (at-loop .loop .inv .passed .collects)
 
 -- Outer::Bad(place): return ReadText::Bad(place)
 returns-4 : tie.Need-returns-4 Inv-loop μ-loop
@@ -231,7 +232,7 @@ same-length-5 : tie.Need-same-length-5 Inv-loop μ-loop
 same-length-5 c =
     let at-loop = c .before .before .before .before in
     let start = at-loop .before .before .before in
-    same-room (at-loop .loop .inv .passed .records) (start .pre .1) (at-loop .loop .inv .passed .collects)
+    same-room (at-loop .loop .inv .passed .records) _ _ _ _ (some-collected (start .pre .1)) (at-loop .loop .inv .passed .collects)
 
 -- Outer::End(place): return ReadText::Bad(place)
 returns-5 : tie.Need-returns-5 Inv-loop μ-loop

@@ -2,7 +2,7 @@ use mathlib.Core.Path.{refl}
 use borrow.Author.Needs.{needs}
 use Rattle.xml.specs.Elements.{unit-due, closed, cut-short, finished}
 use Rattle.xml_piece.specs.Pieces.{rest-at}
-use Rattle.xml_unit.proofs.StepLaws.{start-name, start-alike, end-bad, cut-bad, fault-bad, over-bad}
+use Rattle.xml_part.proofs.StepLaws.{start-name, start-alike, end-bad, cut-bad, fault-bad, over-bad}
 use Rattle.xml_unit.proofs.UnitLaws.{finishes-alike, none-collected, text-bad, text-read}
 use Rattle.xml_unit.proofs.read_unit.Statement.{statement}
 use Rattle.xml_unit.proofs.read_unit.Tie as tie

@@ -6,8 +6,8 @@ use Rattle.xml.specs.Elements.{unit-due, cut-short}
 use Rattle.xml_names.specs.Names.{bytes-between}
 use Rattle.xml_attributes.proofs.SlotLaws.{all-absent}
 use Rattle.xml_records.proofs.CollectLaws.{collecting-on}
-use Rattle.xml_unit.proofs.StepLaws.{some-collected}
-use Rattle.xml_unit.proofs.TagSteps.{tag-cut, tag-fault, tag-goes, some-slots}
+use Rattle.xml_part.proofs.StepLaws.{some-collected}
+use Rattle.xml_part.proofs.TagSteps.{tag-cut, tag-fault, tag-goes, some-slots}
 use Rattle.xml_unit.proofs.UnitLaws.{another-name, bad-opening, short-unit, long-unit, opening-collected}
 use Rattle.xml_unit.proofs.unit.Statement.{statement}
 use Rattle.xml_unit.proofs.unit.Tie as tie

@@ -5,10 +5,10 @@ use Rattle.xml.specs.Elements.{part-due, part-end-due, opened, closed, cut-shor
 use Rattle.xml_names.specs.Names.{bytes-between}
 use Rattle.xml_passages.proofs.OuterLaws.{targeted-part-closes}
 use Rattle.xml_element.specs.Opens.{TagBlamed}
-use Rattle.xml_unit.specs.Units.{PartEnds}
-use Rattle.xml_unit.proofs.StepLaws.{start-name, start-bad, end-tag-in, end-leads, end-bad, cut-bad, fault-bad, over-bad}
-use Rattle.xml_unit.proofs.part_end.Statement.{statement}
-use Rattle.xml_unit.proofs.part_end.Tie as tie
+use Rattle.xml_part.specs.Parts.{PartEnds}
+use Rattle.xml_part.proofs.StepLaws.{start-name, start-bad, end-tag-in, end-leads, end-bad, cut-bad, fault-bad, over-bad}
+use Rattle.xml_part.proofs.part_end.Statement.{statement}
+use Rattle.xml_part.proofs.part_end.Tie as tie
 
 -- blamed_tag(text, place, name_upto)
 blamed-tag-requires : tie.Need-blamed-tag-requires

@@ -28,8 +28,8 @@ use Rattle.xml_passages.proofs.OuterLaws.{leads-bad, closed-bad, part-opens, ba
 use Rattle.xml_records.specs.Collecting.{Collects}
 use Rattle.xml_content.specs.declared.Went.the-variants.{On, Bad}
 use Rattle.xml_element.specs.Opens.{after-tag}
-use Rattle.xml_unit.specs.Units.{HeadSteps}
-use Rattle.xml_unit.proofs.TagSteps.{tag-attributes, tag-goes, tag-same, tag-told}
+use Rattle.xml_part.specs.Parts.{HeadSteps}
+use Rattle.xml_part.proofs.TagSteps.{tag-attributes, tag-goes, tag-same, tag-told}
 
 -- a part in the short form has no source
 no-source-in : (place : ℕ) (name : List ℕ) (ats : List Attribute) (ts : List Token) (k : ℕ) (o : Option xliff.Head)

@@ -1,9 +1,9 @@
 use native.Mathlib.Omega.{arith}
 use borrow.Author.Needs.{needs}
-use Rattle.xml_unit.proofs.PositionLaws.{position-small, beyond-collects}
-use Rattle.xml_unit.proofs.StepLaws.{some-collected}
-use Rattle.xml_unit.proofs.put_position.Statement.{statement}
-use Rattle.xml_unit.proofs.put_position.Tie as tie
+use Rattle.xml_part.proofs.PositionLaws.{position-small, beyond-collects}
+use Rattle.xml_part.proofs.StepLaws.{some-collected}
+use Rattle.xml_part.proofs.put_position.Statement.{statement}
+use Rattle.xml_part.proofs.put_position.Tie as tie
 
 -- if built.over: return built
 returns : tie.Need-returns

@@ -40,8 +40,8 @@ use Rattle.xml_content.specs.declared.Went.{Went}
 use Rattle.xml_content.specs.declared.Went.the-variants.{On, Bad}
 use Rattle.xml_element.specs.Opens.{end-tokens, EndTagIn, after-tag}
 use Rattle.xml_content.specs.Contents.{ContentClosed, ContentRead}
-use Rattle.xml_unit.proofs.TagSteps.{tag-attributes, tag-goes, tag-count, tag-same, tag-told}
-use Rattle.xml_unit.specs.Units.{SideSteps, SideRead, Steps, SourceSteps, TargetSteps}
+use Rattle.xml_part.proofs.TagSteps.{tag-attributes, tag-goes, tag-count, tag-same, tag-told}
+use Rattle.xml_part.specs.Parts.{SideSteps, SideRead, Steps, SourceSteps, TargetSteps}
 
 -- In the short form the end tag is that of the start tag
 module _ (text : List ℕ) (next : ℕ) (word table : List ℕ) (built : Built) (inside : next ≤ length text) where

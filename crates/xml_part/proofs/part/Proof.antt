@@ -8,10 +8,10 @@ use Rattle.xml_names.specs.Names.{bytes-between}
 use Rattle.xml_piece.specs.Pieces.{rest-at, tag-at}
 use Rattle.xml_records.proofs.CollectLaws.{collecting-on}
 use Rattle.xml_content.specs.declared.Went.the-variants.{Bad}
-use Rattle.xml_unit.specs.Units.{Steps, SourceSteps, HeadSteps}
-use Rattle.xml_unit.proofs.StepLaws.{some-collected, more-collected, steps-then}
-use Rattle.xml_unit.proofs.part.Statement.{statement}
-use Rattle.xml_unit.proofs.part.Tie as tie
+use Rattle.xml_part.specs.Parts.{Steps, SourceSteps, HeadSteps}
+use Rattle.xml_part.proofs.StepLaws.{some-collected, more-collected, steps-then}
+use Rattle.xml_part.proofs.part.Statement.{statement}
+use Rattle.xml_part.proofs.part.Tie as tie
 
 -- head(text, place, from, upto, table, built)
 head-requires : tie.Need-head-requires

@@ -4,9 +4,9 @@ use native.Mathlib.Omega.{arith}
 use lib.ListN.{length}
 use borrow.Author.Tests.{not-true, not-false}
 use borrow.Author.Needs.{needs}
-use Rattle.xml_unit.proofs.OuterSteps.{Passing, no-passing, tag-found, end-found, comment-ahead, comment-on, character-ahead, blank-on, character-bad, reference-bad, cut-found, fault-found, text-fault-found, end-of-text}
-use Rattle.xml_unit.proofs.outer_at.Statement.{statement}
-use Rattle.xml_unit.proofs.outer_at.Tie as tie
+use Rattle.xml_part.proofs.OuterSteps.{Passing, no-passing, tag-found, end-found, comment-ahead, comment-on, character-ahead, blank-on, character-bad, reference-bad, cut-found, fault-found, text-fault-found, end-of-text}
+use Rattle.xml_part.proofs.outer_at.Statement.{statement}
+use Rattle.xml_part.proofs.outer_at.Tie as tie
 
 abbrev Inv-loop : tie.InvT-loop
 Inv-loop text start at₀ at = Passing text start at

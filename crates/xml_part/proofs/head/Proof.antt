@@ -3,11 +3,11 @@ use borrow.Author.Needs.{needs}
 use Rattle.xml.specs.Elements.{part-due, cut-short}
 use Rattle.xml_names.specs.Names.{bytes-between}
 use Rattle.xml_attributes.proofs.SlotLaws.{all-absent}
-use Rattle.xml_unit.specs.Units.{HeadSteps}
-use Rattle.xml_unit.proofs.TagSteps.{tag-cut, tag-fault, some-slots}
-use Rattle.xml_unit.proofs.HeadLaws.{head-short, head-bad, segment-headed, ignorable-headed}
-use Rattle.xml_unit.proofs.head.Statement.{statement}
-use Rattle.xml_unit.proofs.head.Tie as tie
+use Rattle.xml_part.specs.Parts.{HeadSteps}
+use Rattle.xml_part.proofs.TagSteps.{tag-cut, tag-fault, some-slots}
+use Rattle.xml_part.proofs.HeadLaws.{head-short, head-bad, segment-headed, ignorable-headed}
+use Rattle.xml_part.proofs.head.Statement.{statement}
+use Rattle.xml_part.proofs.head.Tie as tie
 
 -- read_attributes(text, upto, &mut slots)
 read-attributes-requires : tie.Need-read-attributes-requires

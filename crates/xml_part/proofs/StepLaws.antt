@@ -20,10 +20,10 @@ use Rattle.xml_element.specs.declared.EndTag.{EndTag}
 use Rattle.xml_element.specs.declared.Emptied.the-variants.{On as EmptyOn, Bad as EmptyBad}
 use Rattle.xml_content.specs.declared.Went.{Went}
 use Rattle.xml_content.specs.declared.Went.the-variants.{On, Bad}
-use Rattle.xml_unit.specs.declared.Outer.{Outer}
-use Rattle.xml_unit.specs.declared.Outer.the-variants.{Start, Close, Cut, Bad as OuterBad, End}
+use Rattle.xml_part.specs.declared.Outer.{Outer}
+use Rattle.xml_part.specs.declared.Outer.the-variants.{Start, Close, Cut, Bad as OuterBad, End}
 use Rattle.xml_element.specs.Opens.{end-tokens, EndTagIn}
-use Rattle.xml_unit.specs.Units.{OuterRead, CollectingAt, Passed, Steps, EndSteps}
+use Rattle.xml_part.specs.Parts.{OuterRead, CollectingAt, Passed, Steps, EndSteps}
 
 alike-leads : (d d′ : Due) (a b c : List Token) (rs : List Record) → Alike a b → Leads d b rs d′ c → Leads d a rs d′ c
 unfolding Alike Leads
@@ -145,8 +145,3 @@ more-collected rs k h e sum =
       counted = omega (arith, heads-append (k .before) rs, k .counted, e);
       collected = h .on (k .before) (k .collected);
     }
-
--- the array keeps its length
-pub same-room : {parts : ℕ} {t t′ : List ℕ} {built built′ : Built} (rs : List Record) → CollectingAt parts t built
-    → Collects rs t built t′ built′ → length t′ ≡ length t
-same-room rs k h = h .on (k .before) (k .collected) .holds .room ∙ sym (k .collected .holds .room)

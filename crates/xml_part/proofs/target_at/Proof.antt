@@ -6,12 +6,12 @@ use Rattle.xml.specs.Elements.{target-due, cut-short}
 use Rattle.xml_names.specs.Names.{bytes-between}
 use Rattle.xml_attributes.proofs.SlotLaws.{all-absent}
 use Rattle.xml_records.proofs.CollectLaws.{collecting-on}
-use Rattle.xml_unit.specs.Units.{TargetSteps}
-use Rattle.xml_unit.proofs.StepLaws.{some-collected}
-use Rattle.xml_unit.proofs.TagSteps.{tag-cut, tag-fault, tag-goes, some-slots}
-use Rattle.xml_unit.proofs.SideLaws.{target-bad, order-bad, order-given, order-absent}
-use Rattle.xml_unit.proofs.target_at.Statement.{statement}
-use Rattle.xml_unit.proofs.target_at.Tie as tie
+use Rattle.xml_part.specs.Parts.{TargetSteps}
+use Rattle.xml_part.proofs.StepLaws.{some-collected}
+use Rattle.xml_part.proofs.TagSteps.{tag-cut, tag-fault, tag-goes, some-slots}
+use Rattle.xml_part.proofs.SideLaws.{target-bad, order-bad, order-given, order-absent}
+use Rattle.xml_part.proofs.target_at.Statement.{statement}
+use Rattle.xml_part.proofs.target_at.Tie as tie
 
 -- read_attributes(text, upto, &mut slots)
 read-attributes-requires : tie.Need-read-attributes-requires

@@ -12,8 +12,8 @@ use Rattle.xml_piece.specs.declared.Piece.the-variants.{Start, Close, Comment, 
 use Rattle.xml_piece.specs.Pieces.{rest-at, Ahead, PieceRead}
 use Rattle.xml_passages.specs.Passages.{Alike, OuterBlames}
 use Rattle.xml_passages.proofs.OuterLaws.{alike-then, alike-as, alike-blames, blank-alike, text-blames, outer-reference, outer-fault, outer-text-fault}
-use Rattle.xml_unit.specs.declared.Outer.the-variants.{Start as OuterStart, Close as OuterClose, Cut, Bad, End as OuterEnd}
-use Rattle.xml_unit.specs.Units.{OuterRead}
+use Rattle.xml_part.specs.declared.Outer.the-variants.{Start as OuterStart, Close as OuterClose, Cut, Bad, End as OuterEnd}
+use Rattle.xml_part.specs.Parts.{OuterRead}
 
 alike-self : (a : List Token) → Alike a a
 unfolding Alike

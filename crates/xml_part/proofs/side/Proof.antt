@@ -1,9 +1,9 @@
 use mathlib.Core.Path.{sym, _∙_}
 use native.Mathlib.Omega.{arith}
 use borrow.Author.Needs.{needs}
-use Rattle.xml_unit.proofs.SideLaws.{short-side, content-end, side-ends, side-other, side-at-fault}
-use Rattle.xml_unit.proofs.side.Statement.{statement}
-use Rattle.xml_unit.proofs.side.Tie as tie
+use Rattle.xml_part.proofs.SideLaws.{short-side, content-end, side-ends, side-other, side-at-fault}
+use Rattle.xml_part.proofs.side.Statement.{statement}
+use Rattle.xml_part.proofs.side.Tie as tie
 
 -- if short: return Went::On(next, built)
 returns : tie.Need-returns

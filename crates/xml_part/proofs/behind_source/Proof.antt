@@ -8,10 +8,10 @@ use Rattle.xml_piece.specs.Pieces.{rest-at, tag-at}
 use Rattle.xml_passages.proofs.OuterLaws.{part-closes}
 use Rattle.xml_records.proofs.CollectLaws.{collects-none}
 use Rattle.xml_content.specs.declared.Went.the-variants.{On, Bad}
-use Rattle.xml_unit.specs.Units.{Steps, TargetSteps, EndSteps, PartEnds}
-use Rattle.xml_unit.proofs.StepLaws.{start-ahead, start-name, start-alike, start-bad, end-tag-in, end-leads, end-bad, cut-bad, fault-bad, over-bad, steps-from, ends-then, ends-bad}
-use Rattle.xml_unit.proofs.behind_source.Statement.{statement}
-use Rattle.xml_unit.proofs.behind_source.Tie as tie
+use Rattle.xml_part.specs.Parts.{Steps, TargetSteps, EndSteps, PartEnds}
+use Rattle.xml_part.proofs.StepLaws.{start-ahead, start-name, start-alike, start-bad, end-tag-in, end-leads, end-bad, cut-bad, fault-bad, over-bad, steps-from, ends-then, ends-bad}
+use Rattle.xml_part.proofs.behind_source.Statement.{statement}
+use Rattle.xml_part.proofs.behind_source.Tie as tie
 
 -- target_at(text, place, name_from, name_upto, table, built, position)
 target-at-requires : tie.Need-target-at-requires

@@ -9,26 +9,15 @@ use Rattle.xliff.specs.Encode.{Record, opening, closing, part-head, target-head
 use Rattle.xliff.specs.Good.{part-heads}
 use Rattle.xliff.specs.Parse.{is-part, most-parts}
 use Rattle.xml.proofs.MergeLaws.{texts-before, put, merged}
+use Rattle.xliff.proofs.unit.Valid.{heads-text}
 use Rattle.table_builder.specs.declared.Built.{Built}
 use Rattle.table_builder.specs.Building.{RecordPut}
 use Rattle.table_builder.proofs.RecordLaws.{held-small, record-beyond}
 use Rattle.xml_records.specs.Collecting.{Collects}
 use Rattle.xml_records.proofs.CollectLaws.{gathered-all, whole-target, collects-record}
-use Rattle.xml_unit.specs.Units.{CollectingAt}
+use Rattle.xml_part.specs.Parts.{CollectingAt}
 
 -- records put together have the heads of parts that they had
-heads-text : (c : ℕ) (rs : List Record) → part-heads (text-before c rs) ≡ part-heads rs
-unfolding part-heads text-before is-part
-heads-text c [] = omega arith
-heads-text c (opening d ∷ rs) = omega arith
-heads-text c (closing ∷ rs) = omega arith
-heads-text c (part-head h ∷ rs) = omega arith
-heads-text c (target-head q ∷ rs) = omega arith
-heads-text c (text-run cs ∷ rs) = omega arith
-heads-text c (inline x ∷ rs) = omega arith
-heads-text c (ill-text ∷ rs) = omega arith
-heads-text c (broken b ∷ rs) = omega arith
-
 heads-texts : (cs : List ℕ) (rs : List Record) → part-heads (texts-before cs rs) ≡ part-heads rs
 unfolding texts-before
 heads-texts [] rs = refl

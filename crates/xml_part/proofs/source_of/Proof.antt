@@ -1,10 +1,10 @@
 use mathlib.Core.Path.{refl}
 use borrow.Author.Needs.{needs}
 use Rattle.xml.specs.Elements.{source-due, target-due, closed, cut-short, finished}
-use Rattle.xml_unit.specs.Units.{SourceSteps}
-use Rattle.xml_unit.proofs.StepLaws.{start-ahead, start-name, start-alike, end-bad, cut-bad, fault-bad, over-bad, steps-from}
-use Rattle.xml_unit.proofs.source_of.Statement.{statement}
-use Rattle.xml_unit.proofs.source_of.Tie as tie
+use Rattle.xml_part.specs.Parts.{SourceSteps}
+use Rattle.xml_part.proofs.StepLaws.{start-ahead, start-name, start-alike, end-bad, cut-bad, fault-bad, over-bad, steps-from}
+use Rattle.xml_part.proofs.source_of.Statement.{statement}
+use Rattle.xml_part.proofs.source_of.Tie as tie
 
 -- source_at(text, place, from, upto, table, built)
 source-at-requires : tie.Need-source-at-requires

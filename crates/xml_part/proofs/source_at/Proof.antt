@@ -6,11 +6,11 @@ use Rattle.xml.specs.Words.{codes, 'source'}
 use Rattle.xml.specs.Elements.{source-due, cut-short}
 use Rattle.xml_names.specs.Names.{bytes-between}
 use Rattle.xml_attributes.proofs.SlotLaws.{all-absent}
-use Rattle.xml_unit.specs.Units.{SourceSteps}
-use Rattle.xml_unit.proofs.TagSteps.{tag-cut, tag-fault, tag-goes}
-use Rattle.xml_unit.proofs.SideLaws.{source-read, source-bad}
-use Rattle.xml_unit.proofs.source_at.Statement.{statement}
-use Rattle.xml_unit.proofs.source_at.Tie as tie
+use Rattle.xml_part.specs.Parts.{SourceSteps}
+use Rattle.xml_part.proofs.TagSteps.{tag-cut, tag-fault, tag-goes}
+use Rattle.xml_part.proofs.SideLaws.{source-read, source-bad}
+use Rattle.xml_part.proofs.source_at.Statement.{statement}
+use Rattle.xml_part.proofs.source_at.Tie as tie
 
 -- read_attributes(text, upto, &mut slots)
 read-attributes-requires : tie.Need-read-attributes-requires
