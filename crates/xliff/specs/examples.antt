@@ -5,3 +5,4 @@ pub mod Delicate
 pub mod Limits
 pub mod Desk
 pub mod Rejoin
+pub mod Accents

@@ -16,7 +16,7 @@ use Rattle.xliff.specs.Parse.{unit}
 use Rattle.xliff.specs.Rules.{starts-id, fault-5, fault-6, fault-7, fault-8, fault-9, fault-6-to-10}
 use Rattle.xliff.specs.Check.{Valid, too-large}
 use Rattle.xliff.specs.Focus.{Focus, nowhere, here, focus, order-parts, with-parts}
-use Rattle.xliff.specs.Split.{cut-item, first-items, second-items, first-target, second-target, split-order, first-half, second-half, split-focus, split-unit, has-id, part-has-id, id-taken, bad-cut, split-refusal, split}
+use Rattle.xliff.specs.Split.{cut-item, first-items, second-items, first-target, second-target, split-order, first-half, second-half, split-focus, split-unit, has-id, part-has-id, id-taken, bad-cut, accent-parted, split-refusal, split}
 use Rattle.xliff.proofs.lists.Sum.{bit, sum, sum-append}
 use Rattle.xliff.specs.Good.{each-cons, GoodHead, GoodIn, GoodContent, GoodTarget, GoodParts}
 use Rattle.xliff.proofs.lists.Each.{each-append, each-apart, each-take, each-drop, each-map}
@@ -232,8 +232,10 @@ split-accepted t n source-cut target-cut new room r bt e =
     by nowhere k o h = absurd (true≢false (applies-none 11 true o))
     by (here b p a) k o h =
         let at : u .parts ≡ b ++ (p ∷ a) = focus-here (u .parts) n b p a k in
-        let o2 = then-right (applies 13 (bad-cut p source-cut target-cut)) _ (then-right (applies 12 (is-closed (u .opening .canResegment) p)) _ o) in
-        whole b p a at k (applies-none 14 (id-taken (u .parts) new) o2) h
+        let behind-12 = then-right (applies 12 (is-closed (u .opening .canResegment) p)) _ o in
+        let behind-13 = then-right (applies 13 (bad-cut p source-cut target-cut)) _ behind-12 in
+        let behind-23 = then-right (applies 23 (accent-parted p source-cut target-cut)) _ behind-13 in
+        whole b p a at k (applies-none 14 (id-taken (u .parts) new) behind-23) h
 
 -- An accepted split leaves a valid table
 pub split-valid : (t : List ℕ) (n source-cut target-cut new room : ℕ) (r : List ℕ) → Bytes t
