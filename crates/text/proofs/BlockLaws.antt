@@ -8,6 +8,7 @@ use borrow.Author.Tests.{leb-true, leb-false, eqb-false, lt-ltb, le-ltb, le-leb,
 use lib.ListN.{length, drop, getD, length-drop}
 use lib.Seq.{drop-drop, getD-drop}
 use lib.Dec.{leb, eqb}
+use Rattle.xliff.specs.Text.{is-accent}
 use Rattle.text.specs.Utf8.{trail, twoOf, charOf, textOk}
 use Rattle.text.specs.Blocks.{alike, nowhere, allFit}
 use Rattle.xliff.proofs.lists.Tests.{and-left, and-right, or-left, or-right}
@@ -97,7 +98,7 @@ plain-byte c g h l =
 pub one-more : (c : ℕ) (l : List ℕ) → 32 ≤ c → c < 128 → textOk (c ∷ l) ≡ textOk l
 unfolding charOf
 one-more c l a b =
-    text-step (c ∷ l) c 1 (simp (lt-ltb c 128 b, le-leb 1 (suc (length l)) (omega arith)))
+    text-step (c ∷ l) c 1 {a = is-accent c} (simp (lt-ltb c 128 b, le-leb 1 (suc (length l)) (omega arith)))
     ∙ simp (ne-eqb c 9 (omega arith), ne-eqb c 10 (omega arith), ne-eqb c 13 (omega arith), le-leb 0x20 c a, le-leb c 0xD7FF (omega arith))
 
 pub two-more : (c : ℕ) (l : List ℕ) → 194 ≤ c → c ≤ 223 → trail (getD l 0 0) ≡ true → textOk (c ∷ l) ≡ textOk (drop 1 l)
@@ -106,7 +107,7 @@ two-more c [] a b h = absurd (true≢false (sym h))
 two-more c (d ∷ l) a b h =
     let low = behind-low d h in
     let high = behind-high d h in
-    text-step (c ∷ d ∷ l) (c % 32 * 64 + d % 64) 2
+    text-step (c ∷ d ∷ l) (c % 32 * 64 + d % 64) 2 {a = is-accent (c % 32 * 64 + d % 64)}
     (simp (le-ltb c 128 (omega arith), le-leb 194 c a, le-leb c 223 b, le-leb 1 (suc (suc (length l))) (omega arith), le-leb 2 (suc (suc (length l))) (omega arith), h))
     ∙ simp (
       ne-eqb (c % 32 * 64 + d % 64) 9 (omega arith),

@@ -6,16 +6,20 @@ use mathlib.Core.List.{List, [], _∷_, _++_}
 use mathlib.Core.Option.{Option, some, none}
 use native.Mathlib.Omega.{arith}
 use borrow.Author.Tests.{leb-true, le-leb, lt-leb, ne-eqb}
+use lib.ListN.{length, take, drop, take-append-drop}
+use lib.Seq.{length-take-le}
 use lib.Dec.{leb, eqb}
 use Rattle.xliff.specs.Bytes.{gather}
 use Rattle.xliff.specs.Text as spec
-use Rattle.xliff.specs.Text.{between, xml-allows, text-of}
+use Rattle.xliff.specs.Text.{between, xml-allows, is-accent, text-of}
 use Rattle.xliff.specs.Good.{Allowed, no-text, one-point}
 use Rattle.xliff.proofs.text.Utf8.{allowed-bound, text-of-utf8s, text-of-some}
-use Rattle.text.specs.Utf8.{utf8, utf8s, scalar, within, xmlChar, codes, allXml, someXml, textOk, allScalar}
+use Rattle.text.specs.Utf8.{utf8, utf8s, scalar, within, xmlChar, pointOf, charOf, codes, allXml, someXml, textOk, allScalar}
 use Rattle.xliff.proofs.lists.Tests.{and-left, and-right}
 use borrow.Table.Steps.{cases}
-use Rattle.text.proofs.Coding.{codes-of-bytes, bytes-of-codes}
+use Rattle.text.specs.declared.Char.the-variants.{Point}
+use Rattle.text.proofs.Utf8Laws.{point-accent, char-width}
+use Rattle.text.proofs.Coding.{encoded, decoded, read-scalar, codes-of-bytes, bytes-of-codes}
 
 or-apart : (x p q r : Bool) → x || (p || q || r) ≡ x || p || q || r
 or-apart true p q r = refl
@@ -64,6 +68,36 @@ allowed (c ∷ cs) h = one-point (sym (xml-same c) ∙ and-left (xmlChar c) _ h)
 all-xml : (cs : List ℕ) → Allowed cs → allXml cs ≡ true
 all-xml [] no-text = refl
 all-xml (c ∷ cs) (one-point p a) = rw (xml-same c, p, all-xml cs a)
+
+-- THE DECODER in the specification's words. A code point that UTF-8 can hold is read back from its bytes, and told to be
+-- an accent or not
+pub decoded-scalar : (c : ℕ) (rest : List ℕ) → scalar c ≡ true
+    → charOf (spec.utf8 c ++ rest) ≡ pointOf c (length (spec.utf8 c))
+decoded-scalar c rest h =
+    subst (λ (u : List ℕ). charOf (u ++ rest) ≡ pointOf c (length u)) (utf8-same c) (decoded c rest h)
+
+pub decoded-allowed : (c : ℕ) (rest : List ℕ) → xml-allows c ≡ true
+    → charOf (spec.utf8 c ++ rest) ≡ pointOf c (length (spec.utf8 c))
+decoded-allowed c rest h = decoded-scalar c rest (xml-scalar c (xml-same c ∙ h))
+
+-- what it reads stands there
+pub record Decoded (t : List ℕ) (c w : ℕ) (a : Bool) : Type 0 where
+  pub bytes : t ≡ spec.utf8 c ++ drop w t
+  pub width : w ≡ length (spec.utf8 c)
+  pub can-hold : scalar c ≡ true
+  pub accent : a ≡ is-accent c
+
+pub char-is : (t : List ℕ) (c w : ℕ) {a : Bool} → charOf t ≡ Point c w a → Decoded t c w a
+char-is t c w {a} e =
+    let front : take w t ≡ spec.utf8 c = encoded t c w e ∙ utf8-same c in
+    let back : t ≡ spec.utf8 c ++ drop w t = sym (take-append-drop w t) ∙ ap (λ (u : List ℕ). u ++ drop w t) front in
+    let fits : scalar c ≡ true = read-scalar t c w e in
+    record {
+      bytes = back;
+      width = sym (length-take-le w t (char-width t c w e .1)) ∙ ap length front;
+      can-hold = fits;
+      accent = point-accent _ _ _ _ (sym e ∙ ap charOf back ∙ decoded-scalar c (drop w t) fits);
+    }
 
 -- a text that passes: its code points
 pub text-good : (t : List ℕ) → textOk t ≡ true → (cs : List ℕ) × (text-of t ≡ some cs)

@@ -8,6 +8,7 @@ use borrow.Author.Tests.{ltb-false, leb-true, leb-false, eqb-true, eqb-false, le
 use lib.ListN.{length, drop, getD}
 use lib.Seq.{getD-drop}
 use lib.Dec.{eqb, leb, ltb}
+use Rattle.xliff.specs.Text.{is-accent}
 use Rattle.text.specs.Utf8.{xmlChar, within, trail, threeOf, charOf, textOk}
 use Rattle.text.specs.Blocks.{nowhere, barred, tripleFits, tripleAt, opensBlock, allFit}
 use Rattle.xliff.proofs.lists.Tests.{and-left, and-right, or-left, or-right}
@@ -98,7 +99,7 @@ three-more c [] a b h k s = absurd (true≢false (sym h))
 three-more c (d ∷ []) a b h k s = absurd (true≢false (sym k))
 three-more c (d ∷ e ∷ l) a b h k s =
     let good = code-good (c % 16 * 4096 + d % 64 * 64 + e % 64) (code-allowed c d e a b h k s) in
-    text-step (c ∷ d ∷ e ∷ l) (c % 16 * 4096 + d % 64 * 64 + e % 64) 3
+    text-step (c ∷ d ∷ e ∷ l) (c % 16 * 4096 + d % 64 * 64 + e % 64) 3 {a = is-accent (c % 16 * 4096 + d % 64 * 64 + e % 64)}
     (simp (
       le-ltb c 128 (omega arith),
       le-leb 194 c (omega arith),

@@ -3,7 +3,8 @@ ghost use mathlib.Core.Path.{_≡_};
 ghost use mathlib.Core.Bool.{true, false};
 ghost use Prim.Native.Nat.{_+_, _-_, _*_, _<_, _≤_};
 ghost use lib.ListN.{length, drop};
-ghost use Rattle.text.specs.Utf8.{xmlChar, pointIf, twoOf, threeOf, fourOf, charOf, textOk};
+ghost use Rattle.xliff.specs.Text.{is-accent};
+ghost use Rattle.text.specs.Utf8.{xmlChar, pointOf, pointIf, twoOf, threeOf, fourOf, charOf, textOk};
 ghost use Rattle.text.specs.Blocks.{pairFits, tripleFits, opensBlock, pairAt, tripleAt, allFit, PassedText};
 
 pub fn xml_char(c: u32) -> bool
@@ -15,16 +16,28 @@ pub fn xml_char(c: u32) -> bool
             | ((0x10000 <= c) & (c <= 0x10FFFF)))
 }
 
-// A code point and the bytes that it takes.
+// A code point, the bytes that it takes, and whether it is an accent, U+0300 to U+036F.
 pub enum Char {
-    Point(u32, usize),
+    Point(u32, usize, bool),
     Bad,
+}
+
+fn is_accent(c: u32) -> bool
+    ensures { λ r. ⌜ r ≡ is-accent c ⌝ }
+{
+    (0x300 <= c) & (c <= 0x36F)
+}
+
+fn point_of(c: u32, w: usize) -> Char
+    ensures { λ r. ⌜ r ≡ pointOf c w ⌝ }
+{
+    Char::Point(c, w, is_accent(c))
 }
 
 fn point_if(ok: bool, c: u32, w: usize) -> Char
     ensures { λ r. ⌜ r ≡ pointIf ok c w ⌝ }
 {
-    if ok { Char::Point(c, w) } else { Char::Bad }
+    if ok { point_of(c, w) } else { Char::Bad }
 }
 
 fn wider(x: u8) -> u32
@@ -76,8 +89,8 @@ fn four_of(t: &[u8]) -> Char
     point_if(ok, c, 4)
 }
 
-// The character at the head of `t`.
-fn char_of(t: &[u8]) -> Char
+// The character at the head of `t`: the one decoder, which all readers of text ask.
+pub fn char_of(t: &[u8]) -> Char
     ensures { λ r. ⌜ r ≡ charOf (now (t .entry)) ⌝ }
 {
     if t.len() < 1 {
@@ -85,7 +98,7 @@ fn char_of(t: &[u8]) -> Char
     }
     let a = t[0];
     if a < 128 {
-        return Char::Point(wider(a), 1);
+        return point_of(wider(a), 1);
     }
     if (194 <= a) & (a <= 223) {
         return two_of(t);
@@ -181,7 +194,7 @@ fn pass_each(t: &[u8], from: usize, until: usize) -> Passed
             at += 1;
         } else {
             match char_of(&t[at..]) {
-                Char::Point(c, w) => {
+                Char::Point(c, w, _) => {
                     if !xml_char(c) {
                         return Passed::Not;
                     }
