@@ -22,7 +22,7 @@ use Rattle.walk.specs.Place.{Inside, over, between, within, Parted}
 use Rattle.walk.specs.declared.Place.{Place}
 use Rattle.walk.proofs.RecordLaws.{width-there}
 use Rattle.walk.proofs.WalkLaws.{texts-other}
-use Rattle.walk.proofs.TextLaws.{utf8s-append, utf8-some}
+use Rattle.xliff.proofs.text.Utf8.{utf8s-append, utf8-nonempty}
 use Rattle.xliff.proofs.unit.Pieces.{spell-append}
 use Rattle.walk.proofs.PlaceLaws.{kept-items, kept-front, kept-back}
 use Rattle.cut.specs.Turned.{cut-record, cut-records, textPiece}
@@ -290,11 +290,11 @@ module _ (k : ℕ) (c : List ℕ) (at u : ℕ) (us : List ℕ) (v : ℕ) (vs : L
 
   some-more : 1 ≤ length vs′
   unfolding utf8s gather
-  some-more = omega (arith, length-append (utf8 v) (gather utf8 vs), utf8-some v)
+  some-more = omega (arith, length-append (utf8 v) (gather utf8 vs), utf8-nonempty v)
 
   pub some-before : 1 ≤ length us′
   unfolding utf8s gather
-  some-before = omega (arith, length-append (utf8 u) (gather utf8 us), utf8-some u)
+  some-before = omega (arith, length-append (utf8 u) (gather utf8 us), utf8-nonempty u)
 
   pub the-inner : Inner k c (items (a ++ (text-run ((u ∷ us) ++ (v ∷ vs)) ∷ rs)))
       (record { at = at; into = length us′; left = 0 }) a (text-run ((u ∷ us) ++ (v ∷ vs)) ∷ rs)

@@ -13,7 +13,7 @@ use Rattle.xliff.specs.Focus.{here, order-target, order-part, order-parts, with
 use Rattle.xliff.specs.Join.{join-heads, join-targets, join-parts, join-order, join-focus}
 use Rattle.xliff.proofs.lists.Sum.{sum, sum-append, sum-gather}
 use Rattle.xliff.proofs.operations.Sources.{join-count}
-use Rattle.walk.proofs.TextLaws.{utf8s-append}
+use Rattle.xliff.proofs.text.Utf8.{utf8s-append}
 use Rattle.join_result.specs.Result.{joined-unit}
 
 -- two contents as records, one behind the other: two texts that touch are one

@@ -23,7 +23,7 @@ use Rattle.walker.specs.Offsets.{WidthAt}
 use Rattle.walk.specs.Marks.{number}
 use Rattle.walk.proofs.RecordLaws.{Upto, upto-on}
 use Rattle.walk.proofs.WalkLaws.{Next, next as next-record, first-of, rest-start, rest-end, inline-least}
-use Rattle.walk.proofs.TextLaws.{utf8s-append}
+use Rattle.xliff.proofs.text.Utf8.{utf8s-append}
 use Rattle.xliff.proofs.unit.Pieces.{spell-append}
 use Rattle.walk.proofs.PlaceLaws.{is-text, kept-items}
 use Rattle.cut.proofs.CutLaws.{kept-records}

@@ -18,7 +18,7 @@ use Rattle.xliff.specs.Good.{Allowed, no-text, one-point}
 use Rattle.walk.specs.Kept.{Kept, kept-end, kept-item, kept-text, Holds, items}
 use Rattle.walk.specs.Place.{Inside, over, between, within, Parted}
 use Rattle.walk.specs.declared.Place.{Place}
-use Rattle.walk.proofs.TextLaws.{utf8s-append, utf8-some}
+use Rattle.xliff.proofs.text.Utf8.{utf8s-append, utf8-nonempty}
 use Rattle.walk.proofs.PlaceLaws.{kept-items, kept-front, kept-back}
 use Rattle.cut.specs.Turned.{cut-records}
 use Rattle.cut.proofs.CutLaws.{cut-kept, cut-items, kept-records}
@@ -79,7 +79,7 @@ record Halved (k : ℕ) (all : List Record) (n : ℕ) : Type 0 where
 
 some-bytes : (u : ℕ) (us : List ℕ) → 1 ≤ length (utf8s (u ∷ us))
 unfolding utf8s gather
-some-bytes u us = omega (arith, length-append (utf8 u) (gather utf8 us), utf8-some u)
+some-bytes u us = omega (arith, length-append (utf8 u) (gather utf8 us), utf8-nonempty u)
 
 module _ (k u : ℕ) (us : List ℕ) (v : ℕ) (vs : List ℕ) (a rs : List Record) (kp : Kept false (a ++ (text-run ((u ∷ us) ++ (v ∷ vs)) ∷ rs)))
     (count : length (items a) + length (u ∷ us) ≡ k) where

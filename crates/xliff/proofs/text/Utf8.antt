@@ -12,7 +12,7 @@ use lib.Dec.{leb, ltb}
 use borrow.Author.Tests.{ltb-true, ltb-false, lt-ltb, le-ltb, leb-true, leb-false, le-leb, lt-leb, ne-eqb}
 use Rattle.xliff.specs.Bytes.{equal, gather}
 use Rattle.xliff.specs.Text.{between, xml-allows, utf8-1, utf8-2, utf8-3, utf8-4, utf8, utf8s, spelled, begins-with, allowed-first, prepend, code-points, text-of}
-use Rattle.xliff.proofs.lists.Tests.{none-some, and-left, and-right, equal-true, equal-refl}
+use Rattle.xliff.proofs.lists.Tests.{none-some, and-left, and-right, equal-true, equal-refl, gather-append}
 
 -- what XML allows is at most 10FFFF
 beyond : (c : ℕ) → 0x10FFFF < c → xml-allows c ≡ false
@@ -86,6 +86,10 @@ utf8-nonempty c = by (ltb c 0x80) (ltb c 0x800) (ltb c 0x10000)
     by false true d = omega arith
     by false false true = omega arith
     by false false false = omega arith
+
+pub utf8s-append : (a b : List ℕ) → utf8s (a ++ b) ≡ utf8s a ++ utf8s b
+unfolding utf8s
+utf8s-append a b = gather-append utf8 a b
 
 pub code-points-utf8s : (n : ℕ) (cs : List ℕ) → Allowed cs → length (utf8s cs) ≤ n → code-points n (utf8s cs) ≡ some cs
 unfolding utf8s gather code-points prepend
