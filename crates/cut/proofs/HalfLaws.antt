@@ -61,10 +61,10 @@ beyond-behind ys cs x =
 
 -- cut between two records
 module _ (k : ℕ) (a b : List Record) (kp : Kept false (a ++ b)) where
-  halves-taken : (length (items a) ≡ k) → take k (items (a ++ b)) ≡ items a
+  pub halves-taken : (length (items a) ≡ k) → take k (items (a ++ b)) ≡ items a
   halves-taken e = ap (take k) (kept-items false a b kp) ∙ take-at (items a) (items b) k e
 
-  halves-dropped : (length (items a) ≡ k) → drop k (items (a ++ b)) ≡ items b
+  pub halves-dropped : (length (items a) ≡ k) → drop k (items (a ++ b)) ≡ items b
   halves-dropped e = ap (drop k) (kept-items false a b kp) ∙ drop-at (items a) (items b) k e
 
   pub clean-first : length (items a) ≡ k → content-bytes (first-items k (items (a ++ b))) ≡ spell (cut-records (items b) a)
@@ -130,10 +130,10 @@ module _ (k u : ℕ) (us : List ℕ) (v : ℕ) (vs : List ℕ) (a rs : List Reco
   long : length (items a ++ map text (u ∷ us)) ≡ k
   long = length-append (items a) (map text (u ∷ us)) ∙ ap (λ (n : ℕ). length (items a) + n) (length-texts (u ∷ us)) ∙ count
 
-  taken : take k all ≡ items a ++ map text (u ∷ us)
+  pub taken : take k all ≡ items a ++ map text (u ∷ us)
   taken = ap (take k) apart ∙ take-at (items a ++ map text (u ∷ us)) (map text (v ∷ vs) ++ items rs) k long
 
-  dropped : drop k all ≡ map text (v ∷ vs) ++ items rs
+  pub dropped : drop k all ≡ map text (v ∷ vs) ++ items rs
   dropped = ap (drop k) apart ∙ drop-at (items a ++ map text (u ∷ us)) (map text (v ∷ vs) ++ items rs) k long
 
   -- what is beyond the cut, with the whole text
@@ -144,21 +144,21 @@ module _ (k u : ℕ) (us : List ℕ) (v : ℕ) (vs : List ℕ) (a rs : List Reco
   unfolding reading take-record
   same-beyond x = beyond-texts (v ∷ vs) (items rs) x ∙ sym (beyond-texts ((u ∷ us) ++ (v ∷ vs)) (items rs) x)
 
-  kept-text-front : Kept false (a ++ (text-run (u ∷ us) ∷ []))
+  pub kept-text-front : Kept false (a ++ (text-run (u ∷ us) ∷ []))
   kept-text-front =
       text-instead false a ((u ∷ us) ++ (v ∷ vs)) rs u us kp (allowed-front (u ∷ us) (v ∷ vs) (tk .allowed))
       (let l : length (utf8s ((u ∷ us) ++ (v ∷ vs))) ≡ length (utf8s (u ∷ us) ++ utf8s (v ∷ vs)) =
       ap length (utf8s-append (u ∷ us) (v ∷ vs)) in
       omega (arith, tk .small, length-append (utf8s (u ∷ us)) (utf8s (v ∷ vs))))
 
-  kept-text-back : Kept false (text-run (v ∷ vs) ∷ rs)
+  pub kept-text-back : Kept false (text-run (v ∷ vs) ∷ rs)
   kept-text-back =
       kept-text (allowed-back (u ∷ us) (v ∷ vs) (tk .allowed))
       (let l : length (utf8s ((u ∷ us) ++ (v ∷ vs))) ≡ length (utf8s (u ∷ us) ++ utf8s (v ∷ vs)) =
       ap length (utf8s-append (u ∷ us) (v ∷ vs)) in
       omega (arith, tk .small, length-append (utf8s (u ∷ us)) (utf8s (v ∷ vs)))) (tk .others)
 
-  front-items : items (a ++ (text-run (u ∷ us) ∷ [])) ≡ items a ++ map text (u ∷ us)
+  pub front-items : items (a ++ (text-run (u ∷ us) ∷ [])) ≡ items a ++ map text (u ∷ us)
   unfolding reading take-record
   front-items = kept-items false a (text-run (u ∷ us) ∷ []) kept-text-front
       ∙ ap (λ (l : Content). items a ++ l) (append-nil (map text (u ∷ us)))
@@ -253,7 +253,7 @@ module _ (k : ℕ) (c : List ℕ) (at u : ℕ) (us : List ℕ) (v : ℕ) (vs : L
   whole-is : whole ≡ us′ ++ vs′
   whole-is = utf8s-append (u ∷ us) (v ∷ vs)
 
-  whole-size : length whole ≡ length us′ + length vs′
+  pub whole-size : length whole ≡ length us′ + length vs′
   whole-size = ap length whole-is ∙ length-append us′ vs′
 
   from-record : drop at c ≡ record-bytes (text-run ((u ∷ us) ++ (v ∷ vs))) ++ spell rs
@@ -269,7 +269,7 @@ module _ (k : ℕ) (c : List ℕ) (at u : ℕ) (us : List ℕ) (v : ℕ) (vs : L
   from-text =
       sym (drop-drop 4 at c) ∙ ap (drop 4) from-record ∙ ap (λ (l : List ℕ). l ++ spell rs) whole-is ∙ append-assoc us′ vs′ (spell rs)
 
-  from-cut : drop (at + 4 + length us′) c ≡ vs′ ++ spell rs
+  pub from-cut : drop (at + 4 + length us′) c ≡ vs′ ++ spell rs
   from-cut = sym (drop-drop (length us′) (at + 4) c) ∙ ap (drop (length us′)) from-text ∙ drop-at us′ (vs′ ++ spell rs) (length us′) refl
 
   from-rest : drop (at + (4 + length whole)) c ≡ spell rs
@@ -281,14 +281,14 @@ module _ (k : ℕ) (c : List ℕ) (at u : ℕ) (us : List ℕ) (v : ℕ) (vs : L
   unfolding record-bytes
   piece cs = refl
 
-  fits-in : at + (4 + length whole) ≤ length c
+  pub fits-in : at + (4 + length whole) ≤ length c
   fits-in =
       let l : length (drop at c) ≡ length (record-bytes (text-run ((u ∷ us) ++ (v ∷ vs)))) + length (spell rs) =
       ap length from-record ∙ length-append (record-bytes (text-run ((u ∷ us) ++ (v ∷ vs)))) (spell rs) in
       let f = the-fit k c at a (text-run ((u ∷ us) ++ (v ∷ vs)) ∷ rs) o h in
       omega (arith, length-drop at c, record-size)
 
-  some-more : 1 ≤ length vs′
+  pub some-more : 1 ≤ length vs′
   unfolding utf8s gather
   some-more = omega (arith, length-append (utf8 v) (gather utf8 vs), utf8-nonempty v)
 

@@ -1,4 +1,4 @@
-// Split: document 01, "Split (part, source cut, target cut, new id)".
+// Split: document 01, "Split (part, source cut, target cut, new id)", with 23 of document 02, order 2.
 use answers::Answer;
 use part_at::FoundPart;
 use part_at::PartPlace;
@@ -13,7 +13,7 @@ ghost use Rattle.answers.specs.Answers.{answer-meaning};
 ghost use Rattle.part_at.specs.Stands.{PartFound, CheckedPart};
 ghost use Rattle.outcomes.specs.Outcomes.{Answers};
 
-// 12, 13, 14, 15, then the bytes: every refusal is decided before the first store.
+// 12, 13, 23, 14, 15, then the bytes: every refusal is decided before the first store.
 fn split_there(
     table: &[u8],
     n: usize,
@@ -32,7 +32,12 @@ fn split_there(
     if split_limits::is_bad_cut(table, place, source_cut, target_cut) {
         return Answer::Refused(13, 0);
     }
-    if part_refusals::is_taken(table, id) {
+    let parted = accents::is_accent_parted(table, place, source_cut, target_cut);
+    let taken = part_refusals::is_taken(table, id);
+    if parted {
+        return Answer::Refused(23, 0);
+    }
+    if taken {
         return Answer::Refused(14, 0);
     }
     let room = out.len();

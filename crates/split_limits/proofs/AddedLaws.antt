@@ -22,7 +22,7 @@ use Rattle.xliff.proofs.text.Utf8.{utf8s-append, utf8-nonempty}
 use Rattle.walk.proofs.PlaceLaws.{kept-items, kept-front, kept-back}
 use Rattle.cut.specs.Turned.{cut-records}
 use Rattle.cut.proofs.CutLaws.{cut-kept, cut-items, kept-records}
-use Rattle.cut.proofs.HalfLaws.{items-of, weaken, sides, first-size-0, first-size-1, second-size-0, second-size-1, length-texts}
+use Rattle.cut.proofs.HalfLaws.{items-of, weaken, halves-taken, halves-dropped, taken, dropped, kept-text-front, kept-text-back, front-items, sides, first-size-0, first-size-1, second-size-0, second-size-1, length-texts}
 use Rattle.halves_of_part.specs.Parts.{halves}
 use Rattle.xliff.proofs.unit.Pieces.{part-bytes}
 use Rattle.heads.proofs.HeadLaws.{id-long}
@@ -47,26 +47,6 @@ few-one : (m : ℕ) → one-if m ≤ 1
 few-one zero = omega arith
 few-one (suc m) = omega arith
 
--- a text in two
-allowed-front : (us vs : List ℕ) → Allowed (us ++ vs) → Allowed us
-allowed-front [] vs h = no-text
-allowed-front (u ∷ us) vs (one-point p h) = one-point p (allowed-front us vs h)
-
-allowed-back : (us vs : List ℕ) → Allowed (us ++ vs) → Allowed vs
-allowed-back [] vs h = h
-allowed-back (u ∷ us) vs (one-point p h) = allowed-back us vs h
-
-module _ (u : ℕ) (us : List ℕ) (v : ℕ) (vs : List ℕ) (rs : List Record) where
-  text-size : length (utf8s ((u ∷ us) ++ (v ∷ vs))) ≡ length (utf8s (u ∷ us)) + length (utf8s (v ∷ vs))
-  text-size = ap length (utf8s-append (u ∷ us) (v ∷ vs)) ∙ length-append (utf8s (u ∷ us)) (utf8s (v ∷ vs))
-
-  kept-apart : (b : Bool) (a : List Record) → Kept b (a ++ (text-run ((u ∷ us) ++ (v ∷ vs)) ∷ rs))
-      → Kept b (a ++ (text-run (u ∷ us) ∷ [])) × Kept false (text-run (v ∷ vs) ∷ rs)
-  kept-apart b [] (kept-text h l k) =
-      (kept-text (allowed-front (u ∷ us) (v ∷ vs) h) (omega (arith, text-size)) kept-end, kept-text (allowed-back (u ∷ us) (v ∷ vs) h) (omega (arith, text-size)) k)
-  kept-apart b (inline x ∷ a) (kept-item g k) = let r = kept-apart false a k in (kept-item g (r .0), r .1)
-  kept-apart b (text-run ds ∷ a) (kept-text h l k) = let r = kept-apart true a k in (kept-text h l (r .0), r .1)
-
 -- the records of the two halves, before any mark is turned
 record Halved (k : ℕ) (all : List Record) (n : ℕ) : Type 0 where
   pub firsts : List Record
@@ -77,42 +57,24 @@ record Halved (k : ℕ) (all : List Record) (n : ℕ) : Type 0 where
   pub dropped : drop k (items all) ≡ items seconds
   pub count : length firsts + length seconds ≡ length all + n
 
+halved-within : (k u : ℕ) (us : List ℕ) (v : ℕ) (vs : List ℕ) (a rs : List Record)
+    → Kept false (a ++ (text-run ((u ∷ us) ++ (v ∷ vs)) ∷ rs)) → length (items a) + length (u ∷ us) ≡ k
+    → Halved k (a ++ (text-run ((u ∷ us) ++ (v ∷ vs)) ∷ rs)) 1
+unfolding reading take-record
+halved-within k u us v vs a rs kept count =
+    record {
+      firsts = a ++ (text-run (u ∷ us) ∷ []);
+      seconds = text-run (v ∷ vs) ∷ rs;
+      kept-first = kept-text-front k u us v vs a rs kept count;
+      kept-second = kept-text-back k u us v vs a rs kept count;
+      taken = taken k u us v vs a rs kept count ∙ sym (front-items k u us v vs a rs kept count);
+      dropped = dropped k u us v vs a rs kept count;
+      count = omega (arith, length-append a (text-run (u ∷ us) ∷ []), length-append a (text-run ((u ∷ us) ++ (v ∷ vs)) ∷ rs));
+    }
+
 some-bytes : (u : ℕ) (us : List ℕ) → 1 ≤ length (utf8s (u ∷ us))
 unfolding utf8s gather
 some-bytes u us = omega (arith, length-append (utf8 u) (gather utf8 us), utf8-nonempty u)
-
-module _ (k u : ℕ) (us : List ℕ) (v : ℕ) (vs : List ℕ) (a rs : List Record) (kp : Kept false (a ++ (text-run ((u ∷ us) ++ (v ∷ vs)) ∷ rs)))
-    (count : length (items a) + length (u ∷ us) ≡ k) where
-  abbrev front : Content
-  front = items a ++ map text (u ∷ us)
-
-  abbrev back : Content
-  back = map text (v ∷ vs) ++ items rs
-
-  apart : items (a ++ (text-run ((u ∷ us) ++ (v ∷ vs)) ∷ rs)) ≡ front ++ back
-  unfolding reading take-record
-  apart =
-      kept-items false a (text-run ((u ∷ us) ++ (v ∷ vs)) ∷ rs) kp
-      ∙ ap (λ (l : Content). items a ++ (l ++ items rs)) (map-append text (u ∷ us) (v ∷ vs))
-      ∙ ap (λ (l : Content). items a ++ l) (append-assoc (map text (u ∷ us)) (map text (v ∷ vs)) (items rs))
-      ∙ sym (append-assoc (items a) (map text (u ∷ us)) back)
-
-  long : length front ≡ k
-  long = length-append (items a) (map text (u ∷ us)) ∙ ap (λ (n : ℕ). length (items a) + n) (length-texts (u ∷ us)) ∙ count
-
-  halved-within : Halved k (a ++ (text-run ((u ∷ us) ++ (v ∷ vs)) ∷ rs)) 1
-  unfolding reading take-record
-  halved-within =
-      let r = kept-apart u us v vs rs false a kp in
-      record {
-        firsts = a ++ (text-run (u ∷ us) ∷ []);
-        seconds = text-run (v ∷ vs) ∷ rs;
-        kept-first = r .0;
-        kept-second = r .1;
-        taken = ap (take k) apart ∙ take-at front back k long ∙ sym (kept-items false a (text-run (u ∷ us) ∷ []) (r .0) ∙ ap (λ (l : Content). items a ++ l) (append-nil (map text (u ∷ us))));
-        dropped = ap (drop k) apart ∙ drop-at front back k long;
-        count = omega (arith, length-append a (text-run (u ∷ us) ∷ []), length-append a (text-run ((u ∷ us) ++ (v ∷ vs)) ∷ rs));
-      }
 
 halved-by : (k into left : ℕ) (a b : List Record) → Kept false (a ++ b) → Inside k (length (items a)) into left b → Halved k (a ++ b) (one-if into)
 unfolding reading
@@ -133,8 +95,8 @@ halved-by k into left a b kp (between {r} {rs} e) =
       seconds = r ∷ rs;
       kept-first = kept-front false a (r ∷ rs) kp;
       kept-second = weaken (kept-back false a (r ∷ rs) kp .0) (r ∷ rs) (kept-back false a (r ∷ rs) kp .1);
-      taken = ap (take k) (kept-items false a (r ∷ rs) kp) ∙ take-at (items a) (items (r ∷ rs)) k e;
-      dropped = ap (drop k) (kept-items false a (r ∷ rs) kp) ∙ drop-at (items a) (items (r ∷ rs)) k e;
+      taken = halves-taken k a (r ∷ rs) kp e;
+      dropped = halves-dropped k a (r ∷ rs) kp e;
       count = omega (arith, length-append a (r ∷ rs));
     }
 halved-by k into left a b kp (within u us v vs rs e) =
