@@ -8,6 +8,7 @@ const DOOR: &str = include_str!("../examples/door.txt");
 const DOOR_XML: &str = include_str!("../examples/door.xml");
 const DOOR_REQUESTS: &str = include_str!("../examples/door-requests.txt");
 const DOOR_BROKEN_XML: &str = include_str!("../examples/door-broken.xml");
+const ACCENT: &str = include_str!("../examples/accent.txt");
 
 fn job(text: &str) -> Job {
     Job::read(text.into()).unwrap()
@@ -28,16 +29,56 @@ fn readme_has(text: &str) {
 
 #[test]
 fn the_readme_is_true() {
-    readme_has(DOOR);
-    let shown = commands::run(&job(DOOR)).text;
-    let (answers, _) = shown.split_once("\nthe table:").unwrap();
-    readme_has(answers);
+    for example in [DOOR, ACCENT] {
+        readme_has(example);
+        let shown = commands::run(&job(example)).text;
+        let (answers, _) = shown.split_once("\nthe table:").unwrap();
+        readme_has(answers);
+    }
     readme_has(DOOR_XML);
     let blamed = commands::check(&job(DOOR_BROKEN_XML));
     assert_eq!(blamed.end, End::Refused);
     readme_has(&blamed.text);
     let Shown { text, .. } = commands::xml(&job("UN Y\nSG 1 - I\nTX \"A. B\"\nUE\n"));
     readme_has(&text);
+}
+
+/// Order 2 of document 02, here in the target alone.
+#[test]
+fn a_letter_keeps_its_accent() {
+    let expected = r#"check: OK 54: accepted
+
+split part 1 at source item 6 and target item 5, new id 2
+NO 23 0: the source or target cut parts an accent (U+0300 to U+036F) from the text before it
+
+split part 1 at source item 6 and target item 6, new id 2
+OK 72: accepted
+    UN Y
+    SG 1 - T
+  - TX "Closed Floor 2"
+  + TX "Closed"
+    TG 1
+  - TX "Ferme\u{301} E\u{301}tage 2"
+  + TX "Ferme\u{301}"
+  + SG 2 - T
+  + TX " Floor 2"
+  + TG 2
+  + TX " E\u{301}tage 2"
+    UE
+
+the table:
+  UN Y
+  SG 1 - T
+  TX "Closed"
+  TG 1
+  TX "Ferme\u{301}"
+  SG 2 - T
+  TX " Floor 2"
+  TG 2
+  TX " E\u{301}tage 2"
+  UE
+"#;
+    assert_eq!(commands::run(&job(ACCENT)), Shown::refused(expected));
 }
 
 /// The unit in XML and the list of requests are the job in notation.

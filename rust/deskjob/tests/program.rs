@@ -41,6 +41,8 @@ fn accepted_is_0_and_refused_is_1() {
     assert_eq!(status(&["run", "-"], ACCEPTED), 0);
     assert_eq!(status(&["run", "-"], REFUSED), 1);
     assert_eq!(status(&["run", "-"], &[ACCEPTED, "RT 1\n"].concat()), 1);
+    assert_eq!(status(&["run", example!("accent.txt")], ""), 1);
+    assert_eq!(status(&["check", example!("accent.txt")], ""), 0);
     assert_eq!(status(&["show", "5545"], ""), 0);
     assert_eq!(status(&["lines"], "check 554E59534700012D495545\n"), 0);
     assert_eq!(status(&["lines"], "xmlwrite 200 554E59534700012D495545\n"), 0);

@@ -241,6 +241,6 @@ fn answer(call: impl FnOnce(*mut u8, *mut usize) -> bool) -> Answer {
     if call(&mut number, &mut value) {
         return Ok(value);
     }
-    let reason = Reason::of_number(number).expect("the proved desk refuses by 1 to 22");
+    let reason = Reason::of_number(number).expect("the proved desk refuses by 1 to 23");
     Err(Refusal { reason, place: value })
 }

@@ -31,6 +31,7 @@ pub enum Reason {
     NothingToChange = 20,
     NotOnePair = 21,
     OutsideXml = 22,
+    AccentParted = 23,
 }
 
 /// Each with its words, in the sequence of their numbers.
@@ -76,6 +77,10 @@ const REASONS: &[(Reason, &str)] = &[
         "not in one content, not balanced between, or the end's canReorder does not fit pc",
     ),
     (Reason::OutsideXml, "outside the XML that the desk reads, or pc and mrk deeper than 32"),
+    (
+        Reason::AccentParted,
+        "the source or target cut parts an accent (U+0300 to U+036F) from the text before it",
+    ),
 ];
 
 // The build fails if their numbers do not rise.

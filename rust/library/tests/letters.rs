@@ -46,9 +46,9 @@ fn reasons_have_their_numbers() {
     let all: Vec<Reason> = (0..=255).filter_map(Reason::of_number).collect();
     assert_eq!(all, Reason::all().collect::<Vec<_>>());
     let numbers: Vec<u8> = all.iter().map(|reason| reason.number()).collect();
-    assert_eq!(numbers, (1..=22).collect::<Vec<u8>>());
-    let some = [Reason::Overlap, Reason::OrdersNotInSequence, Reason::OutsideXml];
-    assert_eq!(some.map(Reason::number), [9, 16, 22]);
+    assert_eq!(numbers, (1..=23).collect::<Vec<u8>>());
+    let some = [Reason::Overlap, Reason::OrdersNotInSequence, Reason::AccentParted];
+    assert_eq!(some.map(Reason::number), [9, 16, 23]);
     let texts: HashSet<&str> = all.iter().map(|reason| reason.text()).collect();
     assert_eq!(texts.len(), all.len(), "two reasons have the same words");
 }

@@ -103,6 +103,20 @@ fn odd_bytes_are_shown() {
     assert_eq!(texts(job(b"UERT\0\x01RT\0")), ["UE", "RT 1", "525400 (no request)"]);
 }
 
+/// An accent that is a code point of its own, U+0300 to U+036F, is shown as such, so that items can
+/// be counted; é in one code point stays é.
+#[test]
+fn accents_are_shown_by_number() {
+    for accent in '\u{300}'..='\u{36F}' {
+        let table = [b"TX\0\x06e", accent.to_string().as_bytes(), "é ".as_bytes()].concat();
+        let shown = format!("TX \"e\\u{{{:x}}}é \"", accent as u32);
+        assert_eq!(texts(records(&table)), [shown.as_str()]);
+        assert_eq!(read(&shown).map(|job| job.table), Ok(table.clone()));
+        // and may be written as it is
+        assert_eq!(read(&format!("TX \"e{accent}é \"")).map(|job| job.table), Ok(table));
+    }
+}
+
 #[test]
 fn mistakes_have_line_and_column() {
     let mistake = |text| read(text).unwrap_err().to_string();

@@ -5,6 +5,10 @@ use crate::record::{number_at, record_length};
 use crate::rules::check;
 use crate::{Refusal, MOST_BYTES, MOST_JOB_BYTES};
 
+/// The numbers by which the desk program can refuse. 22 is not among them: it reads no XML.
+pub const NUMBERS: [u16; 22] =
+    [1, 2, 3, 4, 5, 6, 7, 8, 9, 10, 11, 12, 13, 14, 15, 16, 17, 18, 19, 20, 21, 23];
+
 /// A request of a job, read by mark and length only: "Wrong letters go to the operation."
 #[derive(Clone, Debug, PartialEq, Eq)]
 pub enum Request<'a> {

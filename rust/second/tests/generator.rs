@@ -1,6 +1,6 @@
-//! The generator: valid units are valid and rich, and every number from 1 to 21 is reached.
+//! The generator: valid units are valid and rich, and every number of the desk program is reached.
 
-use second::desk::desk;
+use second::desk::{desk, NUMBERS};
 use second::generate::{drafted, job, valid_table, Kind, Random};
 use second::record::Inline;
 use second::rules::check;
@@ -58,8 +58,8 @@ fn every_answer_is_reached() {
         kinds[Kind::ALL.iter().position(|k| *k == kind).unwrap()] += 1;
         tally.count(&desk(&job));
     }
-    println!("{kinds:?}\n{}", tally.report(1..=21));
-    for number in 1..=21 {
+    println!("{kinds:?}\n{}", tally.report(NUMBERS));
+    for number in NUMBERS {
         assert!(tally.refused.contains_key(&number), "number {number} is not reached");
     }
 }

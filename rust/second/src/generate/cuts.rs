@@ -1,5 +1,5 @@
-//! Small units split at every position: multi-byte text, pairs and annotations across the cut,
-//! with a target and without.
+//! Small units split at every position: multi-byte text, accents, pairs and annotations across the
+//! cut, with a target and without.
 
 use crate::operations::content::items;
 use crate::rules::check;
@@ -68,20 +68,36 @@ fn among(source: &[u8], translated: &[u8]) -> Vec<u8> {
     .concat()
 }
 
+fn pair(content: Vec<u8>) -> Vec<u8> {
+    [code(b"PO", 5, b"YYYY"), content, code(b"PC", 5, b"YYYY")].concat()
+}
+
+fn annotation(content: Vec<u8>) -> Vec<u8> {
+    [b"MO\0\x06-".to_vec(), content, b"MC\0\x06".to_vec()].concat()
+}
+
+/// Accents first in a content, behind a letter, behind each other, behind a `CP` and behind
+/// markers; U+02FF and U+0370 are none.
+fn accents() -> Vec<u8> {
+    [
+        text("\u{301}e\u{300}\u{36F}"),
+        b"CP\0\0\0\x01".to_vec(),
+        text("\u{302}a\u{2FF}\u{370}"),
+        pair(text("\u{301}")),
+        text("\u{36F}"),
+    ]
+    .concat()
+}
+
 fn small_units() -> Vec<Vec<u8>> {
-    let letters = b"YYYY";
-    let pair =
-        |content: Vec<u8>| [code(b"PO", 5, letters), content, code(b"PC", 5, letters)].concat();
-    let annotation =
-        |content: Vec<u8>| [b"MO\0\x06-".to_vec(), content, b"MC\0\x06".to_vec()].concat();
     // One to four bytes a character, and characters that XML forbids.
     let mixed = [text("aé€😀b"), b"CP\0\0\0\x01".to_vec(), text("ß")].concat();
     let nested = pair([text("x"), annotation(text("yé")), code(b"PH", 7, b"YN-Y")].concat());
     let crossed = [
-        code(b"SC", 5, letters),
+        code(b"SC", 5, b"YYYY"),
         b"SM\0\x06-".to_vec(),
         text("q"),
-        code(b"EC", 5, letters),
+        code(b"EC", 5, b"YYYY"),
         text("r"),
         b"EM\0\x06".to_vec(),
     ]
@@ -90,10 +106,13 @@ fn small_units() -> Vec<Vec<u8>> {
         alone(&mixed),
         alone(&nested),
         alone(&crossed),
+        alone(&accents()),
         among(&mixed, &text("€é")),
         among(&nested, &nested),
         among(&crossed, &crossed),
         among(&pair(text("ab")), &pair(vec![])),
         among(&text("ab"), &[]),
+        among(&accents(), &accents()),
+        among(&text("ab"), &accents()),
     ]
 }

@@ -5,15 +5,42 @@ use crate::operations::content::gather;
 use crate::record::{Annotation, Code, Inline, Mark};
 use crate::table::Placed;
 
-const WORDS: [&str; 12] =
-    ["A. B", "x", "Hello", " ", ". ", "naïve", "漢字", "😀", "e\u{301}", "\t\n", "\u{FFFD}", "½ a"];
+const WORDS: [&str; 11] =
+    ["A. B", "x", "Hello", " ", ". ", "naïve", "漢字", "😀", "\t\n", "\u{FFFD}", "½ a"];
 
 /// Code points that XML 1.0 forbids.
 const FORBIDDEN: [u32; 9] = [0, 1, 8, 0xB, 0x1F, 0xD800, 0xDFFF, 0xFFFE, 0xFFFF];
 
+/// One to three words, many with accents behind them.
 pub fn text(random: &mut Random) -> Inline {
-    let words = 1 + random.below(3);
-    Inline::Text((0..words).flat_map(|_| random.pick(&WORDS).bytes()).collect())
+    let mut text = String::new();
+    for _ in 0..1 + random.below(3) {
+        text += *random.pick(&WORDS);
+        if random.chance(40) {
+            text += &one_or_two_accents(random);
+        }
+    }
+    Inline::Text(text.into_bytes())
+}
+
+/// Accents with nothing before them; touching texts become one.
+pub fn accents(random: &mut Random) -> Inline {
+    Inline::Text(one_or_two_accents(random).into_bytes())
+}
+
+fn one_or_two_accents(random: &mut Random) -> String {
+    (0..1 + random.below(2)).map(|_| accent(random)).collect()
+}
+
+/// "an accent as a second code point, U+0300 to U+036F", or a neighbour of these.
+fn accent(random: &mut Random) -> char {
+    match random.below(10) {
+        0 => '\u{2FF}',
+        1 => '\u{370}',
+        2 => '\u{300}',
+        3 => '\u{36F}',
+        _ => ('\u{300}'..='\u{36F}').nth(random.below(0x70)).expect("0x70 of them"),
+    }
 }
 
 pub fn character(random: &mut Random) -> Inline {

@@ -28,7 +28,9 @@ fn many_parts(random: &mut Random) -> Vec<u8> {
     let mut table = b"UNY".to_vec();
     for part in 0..parts {
         table.extend(if random.chance(30) { b"IG\0\0".as_slice() } else { b"SG\0\0-T" });
-        table.extend(b"TX\0\x02ab");
+        // Two items each, the second sometimes an accent.
+        let text: &[u8] = if random.chance(20) { b"TX\0\x03e\xCC\x81" } else { b"TX\0\x02ab" };
+        table.extend(text);
         if random.chance(50) {
             table.extend([b'T', b'G', 0, part as u8 + 1]);
         }

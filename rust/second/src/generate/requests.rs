@@ -1,10 +1,12 @@
 //! Requests after a table: mostly with arguments that the operation takes, also wrong ones.
 
+use std::ops::Range;
+
 use super::damage::bytes;
 use super::random::Random;
 use super::set_target::set_target_request;
 use crate::desk::read_request;
-use crate::operations::content::items;
+use crate::operations::content::{is_accent, items};
 use crate::operations::Operation;
 use crate::record::{Half, Inline};
 use crate::rejoin::Split;
@@ -31,8 +33,6 @@ pub fn request_list(random: &mut Random, table: Vec<u8>, count: usize) -> Vec<u8
 
 /// A request of any operation.
 fn request(random: &mut Random, unit: &Unit) -> Vec<u8> {
-    // A number that is not used: the jobs of a seed stay what they always were.
-    random.draw();
     match random.pick(&Operation::ALL) {
         Operation::Split => split_request(random, unit),
         Operation::Join => join_request(random, unit),
@@ -87,24 +87,38 @@ fn split_request(random: &mut Random, unit: &Unit) -> Vec<u8> {
 pub fn split(random: &mut Random, unit: &Unit) -> Split {
     let open = |part: &Part| !unit.is_closed(part) && items(&part.source).len() > 1;
     let number = part_number(random, unit, open);
-    let (source_items, target_items) = match unit.part(number) {
-        Some(part) => (
-            items(&part.source).len(),
-            part.target.as_ref().map_or(0, |target| items(&target.content).len()),
-        ),
-        None => (3, 3),
-    };
+    let part = unit.part(number).unwrap_or(&unit.parts[0]);
+    let source = items(&part.source);
+    let target = part.target.as_ref().map_or(vec![], |target| items(&target.content));
     let source_cut = match random.below(12) {
-        0 => *random.pick(&[0, source_items, source_items + 1, 65535]),
-        _ => 1 + random.below(source_items.saturating_sub(1)),
+        0 => *random.pick(&[0, source.len(), source.len() + 1, 65535]),
+        _ => cut(random, &source, 1..source.len()),
     };
     let target_cut = match random.below(12) {
-        0 => *random.pick(&[target_items + 1, 65535]),
-        1 => target_items,
-        _ => random.below(target_items + 1),
+        0 => *random.pick(&[target.len() + 1, 65535]),
+        1 => target.len(),
+        _ => cut(random, &target, 0..target.len() + 1),
     };
     let (source_cut, target_cut) = (source_cut as u16, target_cut as u16);
     Split { part: number, source_cut, target_cut, new_id: new_id(random, unit) }
+}
+
+/// A cut of a content, one of these: any, or directly before an accent that stands behind text
+/// (which is 23) or behind none.
+fn cut(random: &mut Random, items: &[Inline], cuts: Range<usize>) -> usize {
+    let behind_text = |cut: usize| cut > 0 && matches!(items[cut - 1], Inline::Text(_));
+    let before_accent = |cut: &usize| items.get(*cut).is_some_and(is_accent);
+    let (allowed, refused): (Vec<usize>, Vec<usize>) =
+        cuts.clone().filter(before_accent).partition(|&cut| !behind_text(cut));
+    let chosen = match random.below(10) {
+        0 => refused,
+        1..=4 => allowed,
+        _ => vec![],
+    };
+    match chosen[..] {
+        [] => cuts.start + random.below(cuts.len()),
+        _ => *random.pick(&chosen),
+    }
 }
 
 /// 0, an id that is used, or any.

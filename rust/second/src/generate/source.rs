@@ -3,7 +3,9 @@
 
 use std::collections::HashMap;
 
-use super::inline::{annotation, character, code, cut_into, halves, text, turn_to_brackets};
+use super::inline::{
+    accents, annotation, character, code, cut_into, halves, text, turn_to_brackets,
+};
 use super::random::{Ids, Random};
 use crate::record::{Code, Half, Inline};
 
@@ -43,7 +45,7 @@ struct Growth<'a> {
 }
 
 impl Growth<'_> {
-    /// Adds a few inline records, pairs and annotations with more inside.
+    /// Adds a few inline records, pairs and annotations with more inside; behind many, accents.
     fn grow(&mut self, depth: usize) {
         for _ in 0..self.random.below(if depth == 0 { 3 } else { 4 }) {
             let added = match self.random.below(100) {
@@ -57,6 +59,9 @@ impl Growth<'_> {
                 _ => text(self.random),
             };
             self.flat.push(added);
+            if self.random.chance(25) {
+                self.flat.push(accents(self.random));
+            }
         }
     }
 

@@ -1,7 +1,7 @@
 //! The targets of a generated unit: orders, the source's codes part by part or cut anew, lone
 //! halves whose other half waits, copies and codes of their own.
 
-use super::inline::{annotation, character, code, cut_into, text, turn_to_brackets};
+use super::inline::{accents, annotation, character, code, cut_into, text, turn_to_brackets};
 use super::random::{Ids, Random};
 use super::source::Source;
 use crate::record::{Half, Inline};
@@ -118,15 +118,17 @@ fn to_start_and_end(inline: &mut Inline) {
     };
 }
 
-/// A translator's changes: copies, new codes and annotations, characters, records left out.
+/// A translator's changes: copies, new codes and annotations, characters, accents that come first,
+/// records left out.
 pub fn edit(random: &mut Random, ids: &mut Ids, source: &Source, content: &mut Vec<Inline>) {
     for _ in 0..*random.pick(&[0, 0, 1, 2]) {
         let place = random.below(content.len() + 1);
-        match random.below(7) {
+        match random.below(8) {
             0 | 1 => add_copy(random, ids, source, content),
             2 => content.insert(place, character(random)),
             3 => content.insert(place, text(random)),
-            4 => add_own(random, ids, content),
+            4 => content.insert(0, accents(random)),
+            5 => add_own(random, ids, content),
             _ if place < content.len() && content[place].half().is_none() => {
                 content.remove(place);
             }

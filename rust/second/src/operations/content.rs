@@ -18,6 +18,14 @@ pub fn items(content: &[Placed]) -> Vec<Inline> {
     items
 }
 
+/// Whether an item is an accent: document 02, order 2, "Some tools write an accent as a second code
+/// point, U+0300 to U+036F".
+pub fn is_accent(item: &Inline) -> bool {
+    let Inline::Text(text) = item else { return false };
+    let text = std::str::from_utf8(text).expect("the table was checked before");
+    text.starts_with(|code_point| ('\u{300}'..='\u{36F}').contains(&code_point))
+}
+
 /// Items as records again: touching texts are one `TX`. The records stand in no table yet, so
 /// their offsets are 0.
 pub fn gather(items: impl IntoIterator<Item = Inline>) -> Vec<Placed> {

@@ -1,6 +1,7 @@
-//! "**Split** (part, source cut, target cut, new id; parts count from 1)."
+//! "**Split** (part, source cut, target cut, new id; parts count from 1)." With order 2 of document
+//! 02, "Accents stay with their letters".
 
-use super::content::{gather, items};
+use super::content::{gather, is_accent, items};
 use super::{hand_out, Outcome};
 use crate::record::{Inline, Mark};
 use crate::rules::check;
@@ -29,18 +30,18 @@ pub fn split(
     if !cuts_fit(old, source_cut as usize, target_cut as usize) {
         return refuse(13);
     }
+    // "Answers: 23, in split after 13 and before 14."
+    if accent_parted(old, source_cut as usize, target_cut as usize) {
+        return refuse(23);
+    }
     // "14: new id not 0 and already the id of a part or inline record of the unit."
     if new_id != 0 && has_id(&unit, new_id) {
         return refuse(14);
     }
     let (first, second) = halves(old, source_cut as usize, target_cut as usize, new_id);
     let mut result = unit.clone();
-    // "The target's order q becomes q and q + 1, other orders above q rise by 1; without
-    // target, orders stay."
-    if let Some(Target { order, .. }) = old.target {
-        for target in result.parts.iter_mut().filter_map(|p| p.target.as_mut()) {
-            target.order += u16::from(target.order > order);
-        }
+    if let Some(target) = &old.target {
+        raise_orders(&mut result, target.order);
     }
     // "The second half is written directly behind the first."
     let position = part as usize - 1;
@@ -55,6 +56,18 @@ fn cuts_fit(part: &Part, source_cut: usize, target_cut: usize) -> bool {
     source_cut >= 1 && source_cut < items(&part.source).len() && target_cut <= target_items
 }
 
+/// "A cut is refused, in source or target, if the item after it is such a mark and the item before
+/// it is a code point of text."
+fn accent_parted(part: &Part, source_cut: usize, target_cut: usize) -> bool {
+    let parted = |content: &[Placed], cut: usize| {
+        let items = items(content);
+        let (before, after) = items.split_at(cut);
+        matches!(before.last(), Some(Inline::Text(_))) && after.first().is_some_and(is_accent)
+    };
+    let in_target = |target: &Target| parted(&target.content, target_cut);
+    parted(&part.source, source_cut) || part.target.as_ref().is_some_and(in_target)
+}
+
 fn has_id(unit: &Unit, id: u16) -> bool {
     let in_content =
         |content: &[Placed]| content.iter().any(|placed| placed.inline.id() == Some(id));
@@ -63,6 +76,14 @@ fn has_id(unit: &Unit, id: u16) -> bool {
             || in_content(&part.source)
             || part.target.as_ref().is_some_and(|target| in_content(&target.content))
     })
+}
+
+/// "The target's order q becomes q and q + 1, other orders above q rise by 1; without target,
+/// orders stay."
+fn raise_orders(unit: &mut Unit, above: u16) {
+    for target in unit.parts.iter_mut().filter_map(|p| p.target.as_mut()) {
+        target.order += u16::from(target.order > above);
+    }
 }
 
 /// "The first half keeps the id; the other fields are copied."

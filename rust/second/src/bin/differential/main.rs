@@ -12,7 +12,7 @@ use std::sync::Mutex;
 
 use arguments::Arguments;
 use compare::{compare, Case};
-use second::desk::desk;
+use second::desk::{desk, NUMBERS};
 use second::generate::{every_cut, job, splits_undone, Kind};
 use second::tally::Tally;
 
@@ -125,7 +125,7 @@ impl Results {
         println!("  {:<34}{cuts:>6}", "small units, cut at every position");
         println!("  {:<34}{undone:>6}", "lists of splits undone in reverse");
         println!("answers, of all printed lines (of a job at most the first 100):");
-        print!("{}", self.tally.lock().unwrap().report(1..=21));
+        print!("{}", self.tally.lock().unwrap().report(NUMBERS));
         if !arguments.vectors.is_empty() {
             println!("vectors: {vectors} passed");
         }
