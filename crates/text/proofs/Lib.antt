@@ -5,3 +5,4 @@ pub mod PairLaws
 pub mod TripleLaws
 pub mod Coding
 pub mod TextLaws
+pub mod PointLaws

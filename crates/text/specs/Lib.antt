@@ -1,2 +1,3 @@
 pub mod Utf8
 pub mod Blocks
+pub mod Points

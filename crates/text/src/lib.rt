@@ -1,4 +1,6 @@
 // UTF-8, and the characters that XML 1.0 allows.
+pub mod points;
+
 ghost use mathlib.Core.Path.{_≡_};
 ghost use mathlib.Core.Bool.{true, false};
 ghost use Prim.Native.Nat.{_+_, _-_, _*_, _<_, _≤_};

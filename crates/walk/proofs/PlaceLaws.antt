@@ -10,18 +10,19 @@ use lib.Seq.{take-all, length-take-le}
 use lib.Dec.{leb, ltb}
 use borrow.Author.Tests.{ltb-true, ltb-false, leb-true, leb-false}
 use Rattle.xliff.specs.Bytes.{two, gather}
-use Rattle.xliff.specs.Text.{utf8s}
+use Rattle.xliff.specs.Text.{utf8, utf8s}
 use Rattle.xliff.specs.Item.{Item, Content, start, end, form-P, form-S, text, character, standalone, isolated, pair, annotation-start, annotation-end, mark}
 use Rattle.xliff.specs.Encode.{Record, text-run, inline, record-bytes}
 use Rattle.xliff.specs.Parse.{reading, take-record}
+use Rattle.xliff.proofs.text.Utf8.{utf8-nonempty, utf8s-append}
+use Rattle.text.specs.Points.{TextBytes, PassedOver}
+use Rattle.text.specs.declared.points.Points.{Points}
 use Rattle.walk.specs.Kept.{Kept, kept-end, kept-item, kept-text, Of, items, Inline, an-item, a-text, InContent}
 use Rattle.marks.specs.Marks.{marked}
-use Rattle.walk.specs.Place.{PassedOver, Begins, One, passText, passItem, passOf, Inside, over, between, within, Parted}
-use Rattle.walk.specs.declared.Passed.{Passed}
+use Rattle.walk.specs.Place.{Begins, One, passText, passItem, passOf, Inside, over, between, within, Parted}
 use Rattle.walk.specs.declared.Pass.the-variants.{Stop, On}
 use Rattle.walk.proofs.RecordLaws.{Upto, upto-start, upto-on}
 use Rattle.walk.proofs.WalkLaws.{Next, rest-start, rest-end, inline-least}
-use Rattle.walk.proofs.TextLaws.{utf8s-append, no-bytes}
 
 -- only a text has the mark of one
 not-marked : (x : Item) (s : List ℕ) → GoodItem x → marked (record-bytes (inline x) ++ s) (84 ∷ 88 ∷ []) ≡ false
@@ -50,9 +51,17 @@ is-text (inline x) t s (an-item g) e m = absurd (true≢false (sym m ∙ ap (λ 
 is-text (text-run cs) t s (a-text a l) e m = record { points = cs; is = refl; allowed = a }
 
 -- the bytes of a text
-pub text-bytes : (t cs : List ℕ) → t ≡ record-bytes (text-run cs) → (utf8s cs ≡ drop 4 t) × (length t - 4 ≡ length (utf8s cs))
+text-bytes : (t cs : List ℕ) → t ≡ record-bytes (text-run cs) → (utf8s cs ≡ drop 4 t) × (length t - 4 ≡ length (utf8s cs))
 unfolding record-bytes two
 text-bytes t cs e = (sym (ap (drop 4) e), let l = ap length e in omega arith)
+
+-- a record that is a text: its code points, and their bytes behind the head
+marked-text : (r : Record) (t : List ℕ) → Inline r → t ≡ record-bytes r → marked t (84 ∷ 88 ∷ []) ≡ true
+    → (x : IsText r) × (utf8s (x .points) ≡ drop 4 t) × (length t - 4 ≡ length (utf8s (x .points)))
+marked-text r t g e m =
+    let x = is-text r t [] g (e ∙ sym (append-nil (record-bytes r))) m in
+    let (bytes, size) = text-bytes t (x .points) (e ∙ ap record-bytes (x .is)) in
+    (x, bytes, size)
 
 -- a record with no such mark is an item
 pub pass-item : (r : Record) (t : List ℕ) (k : ℕ) → Inline r → t ≡ record-bytes r → marked t (84 ∷ 88 ∷ []) ≡ false
@@ -89,6 +98,12 @@ passed-item (suc k) l e = cc
 length-texts : (cs : List ℕ) → length (map text cs ++ []) ≡ length cs
 length-texts [] = refl
 length-texts (c ∷ cs) = ap suc (length-texts cs)
+
+-- a text of no bytes has no code points
+no-bytes : (l : List ℕ) → length (utf8s l) ≡ 0 → l ≡ []
+unfolding utf8s gather
+no-bytes [] e = refl
+no-bytes (c ∷ l) e = absurd (let y : ⊥ = omega (arith, utf8-nonempty c, length-append (utf8 c) (gather utf8 l)) in y)
 
 utf8s-cut : (k : ℕ) (cs : List ℕ) → length (utf8s cs) ≡ length (utf8s (take k cs)) + length (utf8s (drop k cs))
 utf8s-cut k cs =
@@ -230,16 +245,19 @@ begins-least t (r, s, g, e) = let l : length t ≡ length (record-bytes r ++ s) 
 pub one-least : (t : List ℕ) → One t → 4 ≤ length t
 one-least t (r, g, e) = let l : length t ≡ length (record-bytes r) = ap length e in omega (arith, inline-least r g)
 
-text-passed : (p : Passed) (n k : ℕ) (cs : List ℕ) → p .bytes ≡ length (utf8s (take k cs)) → p .left ≡ k - length cs → n ≡ length (utf8s cs)
+text-passed : (p : Points) (n k : ℕ) (cs : List ℕ) → p .bytes ≡ length (utf8s (take k cs)) → p .left ≡ k - length cs → n ≡ length (utf8s cs)
     → passText p n ≡ passOf (text-run cs) k
 text-passed p n k cs a b e = rw (a, b, e)
 
+-- behind the head of a text stand the bytes of its code points
+pub text-behind : (t : List ℕ) → One t → marked t (84 ∷ 88 ∷ []) ≡ true → TextBytes (drop 4 t)
+text-behind t (r, g, e) m = let (x, bytes, size) = marked-text r t g e m in (x .points, x .allowed, bytes)
+
 -- the record t met: a text, by what is passed over of it; an item
-pub met-text : (r : Record) (t : List ℕ) (k : ℕ) (p : Passed) → Inline r → t ≡ record-bytes r → marked t (84 ∷ 88 ∷ []) ≡ true
+pub met-text : (r : Record) (t : List ℕ) (k : ℕ) (p : Points) → Inline r → t ≡ record-bytes r → marked t (84 ∷ 88 ∷ []) ≡ true
     → PassedOver (drop 4 t) k p → passText p (length t - 4) ≡ passOf r k
 met-text r t k p g e m passes =
-    let x = is-text r t [] g (e ∙ sym (append-nil (record-bytes r))) m in
-    let (bytes, size) = text-bytes t (x .points) (e ∙ ap record-bytes (x .is)) in
+    let (x, bytes, size) = marked-text r t g e m in
     let (a, b) = passes (x .points) (x .allowed) bytes in
     text-passed p (length t - 4) k (x .points) a b size ∙ ap (λ (q : Record). passOf q k) (sym (x .is))
 

@@ -1,5 +1,4 @@
 -- Where an item begins.
-use Rattle.xliff.specs.Good.{Allowed}
 use Prim.Native.Nat.{ℕ, zero, suc, _+_, _-_}
 use mathlib.Core.Path.{_≡_}
 use mathlib.Core.Bool.{cond}
@@ -8,19 +7,15 @@ use lib.ListN.{length, take}
 use lib.Dec.{ltb}
 use Rattle.xliff.specs.Text.{utf8s}
 use Rattle.xliff.specs.Encode.{Record, opening, closing, part-head, target-head, text-run, inline, ill-text, broken, record-bytes, spell}
+use Rattle.text.specs.declared.points.Points.{Points}
 use Rattle.walk.specs.Kept.{Of, items, Inline}
-use Rattle.walk.specs.declared.Passed.{Passed}
 use Rattle.walk.specs.declared.Pass.{Pass}
 use Rattle.walk.specs.declared.Pass.the-variants.{Stop, On}
 use Rattle.walk.specs.declared.Place.{Place}
 
--- k code points of the text t passed over
-abbrev pub PassedOver : List ℕ → ℕ → Passed → Type 0
-PassedOver t k p = (cs : List ℕ) → Allowed cs → utf8s cs ≡ t → (p .bytes ≡ length (utf8s (take k cs))) × (p .left ≡ k - length cs)
-
 -- one record met with k items to pass over: the item stands in it, behind that many bytes of its text; or the items
 -- left
-abbrev pub passText : Passed → ℕ → Pass
+abbrev pub passText : Points → ℕ → Pass
 passText p n = cond (ltb (p .bytes) n) (Stop (p .bytes)) (On (p .left))
 
 abbrev pub passItem : ℕ → Pass

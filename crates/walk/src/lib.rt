@@ -1,5 +1,6 @@
 // A walk over a content that is known to be good.
 use marks::Mark;
+use text::points::Points;
 ghost use mathlib.Core.Path.{_≡_};
 ghost use mathlib.Core.Bool.{true, false, _&&_};
 ghost use Prim.Native.Nat.{_+_, _-_, _<_, _≤_};
@@ -8,8 +9,7 @@ ghost use lib.Dec.{eqb};
 ghost use Rattle.walk.specs.Kept.{Fair};
 ghost use Rattle.marks.specs.Marks.{meaning};
 ghost use Rattle.walk.specs.Marks.{number, kindOf, kindAt, opposite, FoundOther};
-ghost use Rattle.walk.specs.Points.{lead, leads, further, sought};
-ghost use Rattle.walk.specs.Place.{PassedOver, passText, One, PassedOne, PlaceOf};
+ghost use Rattle.walk.specs.Place.{passText, One, PassedOne, PlaceOf};
 
 // Where an item begins: its record's offset, the bytes before it in that record's text, the items that are missing.
 pub struct Place {
@@ -61,95 +61,13 @@ pub fn has_other(c: &[u8], kind: u8, id: u16) -> bool
     false
 }
 
-// 1 for the first byte of a code point, 0 for the others.
-fn lead(b: u8) -> u8
-    ensures { λ r. ⌜ (r ≡ lead b) × (r ≤ 1) ⌝ }
-{
-    if (0x80 <= b) & (b <= 0xBF) { 0 } else { 1 }
-}
-
-// How many code points begin in the 64 bytes from `at` on. No branch: compiled to a few wide instructions.
-fn leads_in(t: &[u8], at: usize) -> usize
-    requires { ⌜ at + 64 ≤ length (now t) ⌝ }
-    ensures { λ r. ⌜ r ≡ leads 64 (drop at (now (t .entry))) ⌝ }
-{
-    let mut n: u8 = 0;
-    let mut i: usize = 0;
-    while i < 64 {
-        n += lead(t[at + i]);
-        i += 1;
-    }
-    n as usize
-}
-
-// Bytes passed over, and code points still to pass over.
-struct Passed {
-    bytes: usize,
-    left: usize,
-}
-
-// Blocks of 64 bytes passed over, up to the one in which code point number `k` begins.
-fn pass_blocks(t: &[u8], k: usize) -> Passed
-    ensures { λ r. ⌜ (r .bytes ≤ length (now (t .entry))) × (sought (now (t .entry)) k ≡ further (r .bytes) (sought (drop (r .bytes) (now (t .entry))) (r .left))) ⌝ }
-{
-    let mut at: usize = 0;
-    let mut left = k;
-    while 64 <= t.len() - at {
-        let n = leads_in(t, at);
-        if left < n {
-            return Passed {
-                bytes: at,
-                left: left,
-            };
-        }
-        at += 64;
-        left -= n;
-    }
-    Passed {
-        bytes: at,
-        left: left,
-    }
-}
-
-// From an offset on, byte by byte, up to the first byte of the code point behind `left` others.
-fn pass_bytes(t: &[u8], from: usize, k: usize) -> Passed
-    requires { ⌜ from ≤ length (now t) ⌝ }
-    ensures { λ r. ⌜ r ≡ further from (sought (drop from (now (t .entry))) k) ⌝ }
-{
-    let mut at = from;
-    let mut left = k;
-    while at < t.len() {
-        let n = lead(t[at]) as usize;
-        if left < n {
-            return Passed {
-                bytes: at,
-                left: left,
-            };
-        }
-        at += 1;
-        left -= n;
-    }
-    Passed {
-        bytes: at,
-        left: left,
-    }
-}
-
-// The first `k` code points of a text passed over.
-fn pass_points(t: &[u8], k: usize) -> Passed
-    ensures { λ r. ⌜ PassedOver (now (t .entry)) k r ⌝ }
-{
-    let p = pass_blocks(t, k);
-    pass_bytes(t, p.bytes, p.left)
-}
-
 // The item stands in the record met, behind so many bytes of its text; or the items left.
 enum Pass {
     Stop(usize),
     On(usize),
 }
 
-fn pass_text(p: Passed, n: usize) -> Pass
+fn pass_text(p: Points, n: usize) -> Pass
     ensures { λ r. ⌜ r ≡ passText p n ⌝ }
 {
     if p.bytes < n {
@@ -165,7 +83,7 @@ fn pass_one(t: &[u8], k: usize) -> Pass
     ensures { λ r. ⌜ PassedOne (now (t .entry)) k r ⌝ }
 {
     if marks::marked_by(t, b"TX") {
-        return pass_text(pass_points(&t[4..], k), t.len() - 4);
+        return pass_text(text::points::pass_points(&t[4..], k), t.len() - 4);
     }
     if k == 0 {
         return Pass::Stop(0);

@@ -1,6 +1,6 @@
 use mathlib.Core.Path.{sym, _∙_}
 use native.Mathlib.Omega.{arith}
-use Rattle.walk.proofs.PlaceLaws.{one-least, met-text, pass-item, pass-some}
+use Rattle.walk.proofs.PlaceLaws.{one-least, text-behind, met-text, pass-item, pass-some}
 use Rattle.xliff.proofs.lists.Slices.{tail-is}
 use borrow.Author.Needs.{needs}
 use Rattle.walk.proofs.pass_one.Statement.{statement}
@@ -29,6 +29,15 @@ part-pass-points-start c =
     let args = start .args in
     let pre = start .pre in
     omega (arith, one-least (args .t .now) pre)
+
+-- `text::points::pass_points(&t[4..], k)`: a text stands there
+pass-points-requires : tie.Need-pass-points-requires
+pass-points-requires c κs =
+    let start = c .before .before .before .before .before in
+    let t = start .args .t .now in
+    let marked-by = c .before .before .marked-by in
+    let if1 = c .before .if1 .taken in
+    rw (tail-is 4 t) (text-behind t (start .pre) (sym (marked-by .ensures) ∙ if1))
 
 -- `t.len() - 4`
 sub-pass-text : tie.Need-sub-pass-text
@@ -75,8 +84,9 @@ pass-one-spec =
     marked-by-requires
     sub-pass-points
     part-pass-points-start
-    -- by search: part-pass-points-end, pass-points-requires
-    (λ c. search needs) (λ c κs. search needs)
+    -- by search: part-pass-points-end
+    (λ c. search needs)
+    pass-points-requires
     sub-pass-text
     -- by search: pass-text-requires
     (λ c κs. search needs)

@@ -1,38 +1,24 @@
--- Code points of a text passed over: counted by their first bytes.
+-- Code points of a text passed over: counted by their first bytes, read by the decoder.
 use Prim.Native.Nat.{ℕ, zero, suc, _+_, _-_, _/_, _%_, _<_, _≤_}
-use mathlib.Core.Path.{_≡_, refl, sym, ap, ap₂, _∙_}
+use mathlib.Core.Path.{_≡_, refl, sym, ap, ap₂, _∙_, subst}
 use mathlib.Core.Bool.{Bool, true, false, cond}
 use mathlib.Core.List.{List, [], _∷_, _++_}
 use native.Mathlib.Omega.{arith}
 use lib.ListN.{length, getD, take, drop, length-append, length-drop, drop-of-length-le}
-use lib.Seq.{drop-append-seam, drop-drop, getD-drop}
+use lib.Seq.{drop-append-seam, drop-append-add, getD-append-add, drop-drop, getD-drop}
 use lib.Dec.{ltb}
-use borrow.Author.Tests.{ltb-true, lt-ltb, le-ltb, le-leb, lt-leb}
+use borrow.Table.Steps.{cases}
+use borrow.Author.Tests.{ltb-true, ltb-false, lt-ltb, le-ltb, le-leb, lt-leb}
 use Rattle.xliff.specs.Bytes.{gather}
 use Rattle.xliff.specs.Text.{six, utf8-1, utf8-2, utf8-3, utf8-4, utf8, utf8s}
-use Rattle.xliff.proofs.lists.Tests.{gather-append}
-use Rattle.walk.specs.Points.{lead, leads, further, sought}
-use Rattle.walk.specs.Place.{PassedOver}
-use Rattle.walk.specs.declared.Passed.{Passed}
-
-pub utf8-some : (c : ℕ) → 1 ≤ length (utf8 c)
-unfolding utf8
-utf8-some c = by (ltb c 0x80) (ltb c 0x800) (ltb c 0x10000)
-  where
-    by : (a b d : Bool) → 1 ≤ length (cond a (utf8-1 c) (cond b (utf8-2 c) (cond d (utf8-3 c) (utf8-4 c))))
-    by true b d = omega arith
-    by false true d = omega arith
-    by false false true = omega arith
-    by false false false = omega arith
-
-pub utf8s-append : (a b : List ℕ) → utf8s (a ++ b) ≡ utf8s a ++ utf8s b
-unfolding utf8s
-utf8s-append a b = gather-append utf8 a b
-
-pub no-bytes : (l : List ℕ) → length (utf8s l) ≡ 0 → l ≡ []
-unfolding utf8s gather
-no-bytes [] e = refl
-no-bytes (c ∷ l) e = absurd (let y : ⊥ = omega (arith, utf8-some c, length-append (utf8 c) (gather utf8 l)) in y)
+use Rattle.xliff.specs.Good.{Allowed, one-point}
+use Rattle.xliff.proofs.text.Utf8.{utf8-nonempty}
+use Rattle.text.specs.Utf8.{charOf}
+use Rattle.text.specs.declared.Char.the-variants.{Point, Bad}
+use Rattle.text.proofs.Utf8Laws.{width-at}
+use Rattle.text.proofs.TextLaws.{decoded-allowed, char-is}
+use Rattle.text.specs.Points.{lead, leads, further, sought, TextBytes, PassedOver}
+use Rattle.text.specs.declared.points.Points.{Points}
 
 -- a byte below 80 or from C0 on begins a code point, one that goes on with it does not
 lead-low : (b : ℕ) → b < 0x80 → lead b ≡ 1
@@ -45,7 +31,7 @@ lead-six : (n : ℕ) → lead (six n) ≡ 0
 lead-six n = rw (le-leb 0x80 (0x80 + n % 64) (omega arith), le-leb (0x80 + n % 64) 0xBF (omega arith))
 
 -- one code point begins in the bytes of one, with the first of them
-pub record Single (p t : List ℕ) : Type 0 where
+record Single (p t : List ℕ) : Type 0 where
   pub once : leads (length p) (p ++ t) ≡ 1
   pub first : lead (getD (p ++ t) 0 0) ≡ 1
 
@@ -72,7 +58,7 @@ module _ (c : ℕ) (t : List ℕ) where
       let f = lead-high (0xF0 + c / 262144) (omega arith) in
       record { once = rw (f, lead-six (c / 4096), lead-six (c / 64), lead-six c) refl; first = f }
 
-pub single : (c : ℕ) (t : List ℕ) → Single (utf8 c) t
+single : (c : ℕ) (t : List ℕ) → Single (utf8 c) t
 unfolding utf8
 single c t = by (ltb c 0x80) refl (ltb c 0x800) (ltb c 0x10000)
   where
@@ -82,15 +68,15 @@ single c t = by (ltb c 0x80) refl (ltb c 0x800) (ltb c 0x10000)
     by false e false true = single-3 c t
     by false e false false = single-4 c t
 
-pub further-zero : (p : Passed) → p ≡ further 0 p
+pub further-zero : (p : Points) → p ≡ further 0 p
 further-zero p = ap (λ (n : ℕ). record { bytes = n; left = p .left }) (let z : p .bytes ≡ 0 + p .bytes = omega arith in z)
 
-further-twice : (m n : ℕ) (p : Passed) → further m (further n p) ≡ further (m + n) p
+further-twice : (m n : ℕ) (p : Points) → further m (further n p) ≡ further (m + n) p
 further-twice m n p =
     ap (λ (k : ℕ). record { bytes = k; left = p .left }) (let z : m + (n + p .bytes) ≡ m + n + p .bytes = omega arith in z)
 
 -- n bytes further, where all code points that begin in them are to be passed over
-pub sought-past : (n : ℕ) (t : List ℕ) (k : ℕ) → n ≤ length t → leads n t ≤ k → sought t k ≡ further n (sought (drop n t) (k - leads n t))
+sought-past : (n : ℕ) (t : List ℕ) (k : ℕ) → n ≤ length t → leads n t ≤ k → sought t k ≡ further n (sought (drop n t) (k - leads n t))
 unfolding leads sought
 sought-past zero t k h l = ap (sought t) (let z : k ≡ k - 0 = omega arith in z) ∙ further-zero (sought t (k - 0))
 sought-past (suc n) [] k h l = absurd (omega arith)
@@ -102,7 +88,7 @@ sought-past (suc n) (b ∷ t) k h l =
     (let z : k - lead b - leads n t ≡ k - (lead b + leads n t) = omega arith in z))
 
 -- what is sought stands at the head
-pub sought-here : (t : List ℕ) (k : ℕ) → 0 < length t → k < lead (getD t 0 0) → sought t k ≡ record { bytes = 0; left = k }
+sought-here : (t : List ℕ) (k : ℕ) → 0 < length t → k < lead (getD t 0 0) → sought t k ≡ record { bytes = 0; left = k }
 unfolding sought
 sought-here [] k n h = absurd (omega arith)
 sought-here (b ∷ t) k n h = rw (lt-ltb k (lead b) h)
@@ -114,7 +100,7 @@ sought-is [] zero = refl
 sought-is [] (suc k) = ap (λ (n : ℕ). record { bytes = 0; left = n }) (let z : suc k ≡ suc k - 0 = omega arith in z)
 sought-is (c ∷ cs) zero =
     let s = single c (utf8s cs) in
-    sought-here (utf8 c ++ utf8s cs) 0 (omega (arith, length-append (utf8 c) (utf8s cs), utf8-some c)) (omega (arith, s .first))
+    sought-here (utf8 c ++ utf8s cs) 0 (omega (arith, length-append (utf8 c) (utf8s cs), utf8-nonempty c)) (omega (arith, s .first))
     ∙ ap (λ (n : ℕ). record { bytes = 0; left = n }) (let z : 0 ≡ 0 - suc (length cs) = omega arith in z)
 sought-is (c ∷ cs) (suc k) =
     let s = single c (utf8s cs) in
@@ -129,7 +115,7 @@ sought-is (c ∷ cs) (suc k) =
 byte-at : (t : List ℕ) (at : ℕ) → getD (drop at t) 0 0 ≡ getD t at 0
 byte-at t at = getD-drop at t 0 0 ∙ ap (λ (i : ℕ). getD t i 0) (let z : at + 0 ≡ at = omega arith in z)
 
-pub sought-on : (t : List ℕ) (at left n : ℕ) (whole : Passed) → at + n ≤ length t → leads n (drop at t) ≤ left
+pub sought-on : (t : List ℕ) (at left n : ℕ) (whole : Points) → at + n ≤ length t → leads n (drop at t) ≤ left
     → whole ≡ further at (sought (drop at t) left)
     → whole ≡ further (at + n) (sought (drop (at + n) t) (left - leads n (drop at t)))
 sought-on t at left n whole h l e =
@@ -141,14 +127,14 @@ sought-on t at left n whole h l e =
 further-none : (at left : ℕ) → further at (record { bytes = 0; left = left }) ≡ record { bytes = at; left = left }
 further-none at left = ap (λ (n : ℕ). record { bytes = n; left = left }) (let z : at + 0 ≡ at = omega arith in z)
 
-pub sought-stop : (t : List ℕ) (at left : ℕ) (whole : Passed) → at < length t → left < lead (getD t at 0)
+sought-stop : (t : List ℕ) (at left : ℕ) (whole : Points) → at < length t → left < lead (getD t at 0)
     → whole ≡ further at (sought (drop at t) left)
     → record { bytes = at; left = left } ≡ whole
 sought-stop t at left whole h l e =
     sym (e ∙ ap (further at)
     (sought-here (drop at t) left (omega (arith, length-drop at t)) (omega (arith, ap lead (byte-at t at)))) ∙ further-none at left)
 
-pub sought-end : (t : List ℕ) (at left : ℕ) (whole : Passed) → length t ≤ at → whole ≡ further at (sought (drop at t) left)
+pub sought-end : (t : List ℕ) (at left : ℕ) (whole : Points) → length t ≤ at → whole ≡ further at (sought (drop at t) left)
     → record { bytes = at; left = left } ≡ whole
 unfolding sought
 sought-end t at left whole h e =
@@ -178,12 +164,81 @@ leads-end t at i n whole l e =
     omega (arith, e, none)
 
 -- a block of one byte
-pub leads-one : (t : List ℕ) (at : ℕ) → leads 1 (drop at t) ≡ lead (getD t at 0)
+leads-one : (t : List ℕ) (at : ℕ) → leads 1 (drop at t) ≡ lead (getD t at 0)
 unfolding leads
 leads-one t at = ap (λ (b : ℕ). lead b + 0) (byte-at t at) ∙ (let z : lead (getD t at 0) + 0 ≡ lead (getD t at 0) = omega arith in z)
 
-pub passed-over : (t : List ℕ) (k : ℕ) (p : Passed) → p ≡ sought t k → PassedOver t k p
+pub passed-over : (t : List ℕ) (k : ℕ) (p : Points) → p ≡ sought t k → PassedOver t k p
 passed-over t k p e cs a u =
     let i : p ≡ record { bytes = length (utf8s (take k cs)); left = k - length cs } = e ∙ ap (λ (s : List ℕ). sought s k) (sym u)
     ∙ sought-is cs k in
-    (ap (λ (q : Passed). q .bytes) i, ap (λ (q : Passed). q .left) i)
+    (ap (λ (q : Points). q .bytes) i, ap (λ (q : Points). q .left) i)
+
+next-byte : (t : List ℕ) (i : ℕ) → getD t (suc i) 0 ≡ getD (drop 1 t) i 0
+next-byte [] i = refl
+next-byte (b ∷ t) i = refl
+
+-- a character that the decoder reads at an offset: one code point begins in its bytes, with the first of them
+one-there : (t : List ℕ) (at c w : ℕ) {a : Bool} → charOf (drop at t) ≡ Point c w a
+    → (leads w (drop at t) ≡ 1) × (lead (getD t at 0) ≡ 1)
+one-there t at c w e =
+    let d = char-is (drop at t) c w e in
+    let s = single c (drop w (drop at t)) in (
+      ap₂ leads (d .width) (d .bytes) ∙ s .once,
+      ap lead (sym (byte-at t at) ∙ ap (λ (l : List ℕ). getD l 0 0) (d .bytes)) ∙ s .first,
+    )
+
+-- where no code point begins in the first n bytes, none of them is a first byte
+none-first : (n : ℕ) (t : List ℕ) (i : ℕ) → leads n t ≡ 0 → i < n → lead (getD t i 0) ≡ 0
+unfolding leads
+none-first zero t i e h = absurd (omega arith)
+none-first (suc n) t zero e h = omega arith
+none-first (suc n) t (suc i) e h = ap lead (next-byte t i) ∙ none-first n (drop 1 t) i (omega arith) (omega arith)
+
+-- where one begins, with the first of them, none of the others is
+only-first : (n : ℕ) (t : List ℕ) (i : ℕ) → leads n t ≡ 1 → lead (getD t 0 0) ≡ 1 → suc i < n → lead (getD t (suc i) 0) ≡ 0
+unfolding leads
+only-first zero t i e f h = absurd (omega arith)
+only-first (suc n) t i e f h = ap lead (next-byte t i) ∙ none-first n (drop 1 t) i (omega arith) (omega arith)
+
+-- where the decoder reads no character in a text, no code point begins
+no-character : (cs : List ℕ) (at : ℕ) → Allowed cs → at < length (utf8s cs) → charOf (drop at (utf8s cs)) ≡ Bad
+    → lead (getD (utf8s cs) at 0) ≡ 0
+unfolding utf8s gather
+no-character [] at a h e = absurd (omega arith)
+no-character (c ∷ cs) zero (one-point p a) h e = let clash = sym (decoded-allowed c (utf8s cs) p) ∙ e in cc
+no-character (c ∷ cs) (suc i) (one-point p a) h e =
+    let s = single c (utf8s cs) in
+    cases (ltb (suc i) (length (utf8 c)))
+    (λ l. only-first (length (utf8 c)) (utf8 c ++ utf8s cs) i (s .once) (s .first) (ltb-true _ _ l))
+    (λ l.
+    let j = suc i - length (utf8 c) in
+    let at : suc i ≡ length (utf8 c) + j = omega (arith, ltb-false (suc i) (length (utf8 c)) l) in
+    let same = ap (λ (k : ℕ). drop k (utf8 c ++ utf8s cs)) at ∙ drop-append-add (utf8 c) (utf8s cs) j in
+    ap (λ (k : ℕ). lead (getD (utf8 c ++ utf8s cs) k 0)) at ∙ ap lead (getD-append-add (utf8 c) (utf8s cs) j 0)
+    ∙ no-character cs j a (omega (arith, length-append (utf8 c) (utf8s cs))) (sym (ap charOf same) ∙ e))
+
+-- For the loop by characters: the one sought stands here
+pub character-here : (t : List ℕ) (at left c w : ℕ) {a : Bool} (whole : Points) → charOf (drop at t) ≡ Point c w a → left ≡ 0
+    → whole ≡ further at (sought (drop at t) left) → record { bytes = at; left = 0 } ≡ whole
+character-here t at left c w whole e z h =
+    sought-stop t at 0 whole (omega (arith, width-at t at c w e)) (omega (arith, one-there t at c w e .1))
+    (h ∙ ap (λ (n : ℕ). further at (sought (drop at t) n)) z)
+
+-- behind a character that is passed over
+pub character-on : (t : List ℕ) (at left c w : ℕ) {a : Bool} (whole : Points) → charOf (drop at t) ≡ Point c w a → 1 ≤ left
+    → whole ≡ further at (sought (drop at t) left) → whole ≡ further (at + w) (sought (drop (at + w) t) (left - 1))
+character-on t at left c w whole e l h =
+    let one = one-there t at c w e .0 in
+    sought-on t at left w whole (width-at t at c w e .1) (omega (arith, one)) h
+    ∙ ap (λ (n : ℕ). further (at + w) (sought (drop (at + w) t) (left - n))) one
+
+-- behind a byte with which no character begins
+pub character-rest : (t : List ℕ) (at left : ℕ) (whole : Points) → TextBytes t → at < length t → charOf (drop at t) ≡ Bad
+    → whole ≡ further at (sought (drop at t) left) → whole ≡ further (at + 1) (sought (drop (at + 1) t) left)
+character-rest t at left whole (cs, a, u) l e h =
+    let none : leads 1 (drop at t) ≡ 0 =
+    leads-one t at
+    ∙ subst (λ (s : List ℕ). at < length s → charOf (drop at s) ≡ Bad → lead (getD s at 0) ≡ 0) u (no-character cs at a) l e in
+    sought-on t at left 1 whole (omega arith) (omega (arith, none)) h
+    ∙ ap (λ (n : ℕ). further (at + 1) (sought (drop (at + 1) t) n)) (let z : left - leads 1 (drop at t) ≡ left = omega (arith, none) in z)

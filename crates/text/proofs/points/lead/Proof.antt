@@ -1,6 +1,6 @@
 use native.Mathlib.Omega.{arith}
-use Rattle.walk.proofs.lead.Statement.{statement}
-use Rattle.walk.proofs.lead.Tie as tie
+use Rattle.text.proofs.points.lead.Statement.{statement}
+use Rattle.text.proofs.points.lead.Tie as tie
 
 -- a byte that goes on with a code point
 returns : tie.Need-returns

@@ -3,10 +3,10 @@ use Prim.Native.Nat.{ℕ, _+_, _-_, _≤_}
 use native.Mathlib.Omega.{arith}
 use lib.ListN.{drop}
 use borrow.Author.Needs.{needs}
-use Rattle.walk.specs.Points.{lead, leads}
-use Rattle.walk.proofs.TextLaws.{leads-start, leads-on, leads-end}
-use Rattle.walk.proofs.leads_in.Statement.{statement}
-use Rattle.walk.proofs.leads_in.Tie as tie
+use Rattle.text.specs.Points.{lead, leads}
+use Rattle.text.proofs.PointLaws.{leads-start, leads-on, leads-end}
+use Rattle.text.proofs.points.leads_in.Statement.{statement}
+use Rattle.text.proofs.points.leads_in.Tie as tie
 
 abbrev Inv-loop : tie.InvT-loop
 Inv-loop t at n₀ i₀ n i = (i ≤ 64) × (n ≤ i) × (leads 64 (drop at t) ≡ n + leads (64 - i) (drop (at + i) t))

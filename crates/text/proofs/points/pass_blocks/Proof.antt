@@ -3,10 +3,10 @@ use Prim.Native.Nat.{ℕ, _+_, _-_, _≤_}
 use native.Mathlib.Omega.{arith}
 use lib.ListN.{length, drop}
 use borrow.Author.Needs.{needs}
-use Rattle.walk.specs.Points.{further, sought}
-use Rattle.walk.proofs.TextLaws.{further-zero, sought-on}
-use Rattle.walk.proofs.pass_blocks.Statement.{statement}
-use Rattle.walk.proofs.pass_blocks.Tie as tie
+use Rattle.text.specs.Points.{further, sought}
+use Rattle.text.proofs.PointLaws.{further-zero, sought-on}
+use Rattle.text.proofs.points.pass_blocks.Statement.{statement}
+use Rattle.text.proofs.points.pass_blocks.Tie as tie
 
 abbrev Inv-loop : tie.InvT-loop
 Inv-loop t k at₀ left₀ at left = (at ≤ length t) × (sought t k ≡ further at (sought (drop at t) left))
