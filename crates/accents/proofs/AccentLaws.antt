@@ -28,13 +28,15 @@ parts-by : (k : ℕ) (xs before behind : Content) → drop k xs ≡ behind → t
 unfolding parts-accent
 parts-by k xs before behind d t = ap₂ (λ (u v : Content). first-is is-accent-item u && last-is is-text v) d t
 
-last-append : (test : Item → Bool) (xs : Content) (y : Item) (ys : Content) → last-is test (xs ++ (y ∷ ys)) ≡ last-is test (y ∷ ys)
+last-append : (test : Item → Bool) (xs : Content) (y : Item) (ys : Content)
+    → last-is test (xs ++ (y ∷ ys)) ≡ last-is test (y ∷ ys)
 unfolding last-is
 last-append test [] y ys = refl
 last-append test (x ∷ []) y ys = refl
 last-append test (x ∷ z ∷ xs) y ys = last-append test (z ∷ xs) y ys
 
-last-cons : (test : Item → Bool) (x : Item) (ys : Content) → test x ≡ false → last-is test ys ≡ false → last-is test (x ∷ ys) ≡ false
+last-cons : (test : Item → Bool) (x : Item) (ys : Content) → test x ≡ false → last-is test ys ≡ false
+    → last-is test (x ∷ ys) ≡ false
 unfolding last-is
 last-cons test x [] h e = h
 last-cons test x (y ∷ ys) h e = e
@@ -76,15 +78,18 @@ before-text : (b : Bool) (a : List Record) (cs : List ℕ) (rs : List Record) �
     → last-is is-text (items a) ≡ false
 unfolding last-is reading take-record
 before-text b [] cs rs k = refl
-before-text b (inline x ∷ a) cs rs (kept-item g k) = last-cons is-text x (items a) (not-text x g) (before-text false a cs rs k)
+before-text b (inline x ∷ a) cs rs (kept-item g k) =
+    last-cons is-text x (items a) (not-text x g) (before-text false a cs rs k)
 before-text b (text-run ds ∷ a) cs rs (kept-text h l k) = between-texts ds a cs rs k (before-text true a cs rs k)
 
 -- A CUT BETWEEN TWO RECORDS parts nothing, and so does one behind the last item
-between-records : (k : ℕ) (a : List Record) (r : Record) (rs : List Record) → Kept false (a ++ (r ∷ rs)) → length (items a) ≡ k
+between-records : (k : ℕ) (a : List Record) (r : Record) (rs : List Record) → Kept false (a ++ (r ∷ rs))
+    → length (items a) ≡ k
     → parts-accent k (items (a ++ (r ∷ rs))) ≡ false
 unfolding first-is is-accent-item reading take-record
 between-records k a r rs kept e =
-    parts-by k (items (a ++ (r ∷ rs))) (items a) (items (r ∷ rs)) (halves-dropped k a (r ∷ rs) kept e) (halves-taken k a (r ∷ rs) kept e)
+    parts-by k (items (a ++ (r ∷ rs))) (items a) (items (r ∷ rs)) (halves-dropped k a (r ∷ rs) kept e)
+    (halves-taken k a (r ∷ rs) kept e)
     ∙ by r (kept-back false a (r ∷ rs) kept .0) (kept-back false a (r ∷ rs) kept .1) kept
   where
     by : (r : Record) (b : Bool) → Kept b (r ∷ rs) → Kept false (a ++ (r ∷ rs))
@@ -100,11 +105,13 @@ behind-all k xs h = parts-by k xs (take k xs) [] (drop-of-length-le xs {i = k} h
 
 -- INSIDE A TEXT it parts an accent exactly where the code point behind it is one
 module _ (k u : ℕ) (us : List ℕ) (v : ℕ) (vs : List ℕ) (a rs : List Record)
-    (kept : Kept false (a ++ (text-run ((u ∷ us) ++ (v ∷ vs)) ∷ rs))) (count : length (items a) + length (u ∷ us) ≡ k) where
+    (kept : Kept false (a ++ (text-run ((u ∷ us) ++ (v ∷ vs)) ∷ rs)))
+    (count : length (items a) + length (u ∷ us) ≡ k) where
   inside-text : parts-accent k (items (a ++ (text-run ((u ∷ us) ++ (v ∷ vs)) ∷ rs))) ≡ is-accent v
   unfolding first-is is-accent-item
   inside-text =
-      parts-by k (items (a ++ (text-run ((u ∷ us) ++ (v ∷ vs)) ∷ rs))) (items a ++ map text (u ∷ us)) (map text (v ∷ vs) ++ items rs)
+      parts-by k (items (a ++ (text-run ((u ∷ us) ++ (v ∷ vs)) ∷ rs))) (items a ++ map text (u ∷ us))
+      (map text (v ∷ vs) ++ items rs)
       (dropped k u us v vs a rs kept count) (taken k u us v vs a rs kept count)
       ∙ ap (λ (z : Bool). is-accent v && z) (last-append is-text (items a) (text u) (map text us) ∙ texts-last u us)
       ∙ and-true (is-accent v)
@@ -116,10 +123,12 @@ module _ (k u : ℕ) (us : List ℕ) (v : ℕ) (vs : List ℕ) (a rs : List Reco
       by (kept-text h l k) = h
 
 -- the decoder there
-decoded-there : (v : ℕ) (vs s t : List ℕ) → Allowed (v ∷ vs) → t ≡ utf8s (v ∷ vs) ++ s → accentOf (charOf t) ≡ is-accent v
+decoded-there : (v : ℕ) (vs s t : List ℕ) → Allowed (v ∷ vs) → t ≡ utf8s (v ∷ vs) ++ s
+    → accentOf (charOf t) ≡ is-accent v
 unfolding utf8s gather
 decoded-there v vs s t (one-point h a) e =
-    ap (λ (l : List ℕ). accentOf (charOf l)) (e ∙ append-assoc (utf8 v) (utf8s vs) s) ∙ ap accentOf (decoded-allowed v (utf8s vs ++ s) h)
+    ap (λ (l : List ℕ). accentOf (charOf l)) (e ∙ append-assoc (utf8 v) (utf8s vs) s)
+    ∙ ap accentOf (decoded-allowed v (utf8s vs ++ s) h)
 
 -- AS THE CODE MEETS IT, by the place of the item behind the cut
 pub record PartedAt (k : ℕ) (c : List ℕ) (xs : Content) (at into : ℕ) : Type 0 where
@@ -146,7 +155,8 @@ parted-by k c at into left a b o h (within u us v vs rs e) =
       apart = λ z. absurd (let y : ⊥ = omega (arith, some-before k c at u us v vs a rs o h e) in y);
       fits = λ z. omega (arith, fits-in k c at u us v vs a rs o h e, whole-size k c at u us v vs a rs o h e);
       together = λ z.
-          decoded-there v vs (spell rs) (drop (at + 4 + length (utf8s (u ∷ us))) c) (first-allowed k u us v vs a rs (o .0) e)
+          decoded-there v vs (spell rs) (drop (at + 4 + length (utf8s (u ∷ us))) c)
+          (first-allowed k u us v vs a rs (o .0) e)
           (from-cut k c at u us v vs a rs o h e)
           ∙ sym (inside-text k u us v vs a rs (o .0) e);
     }
@@ -154,5 +164,7 @@ parted-by k c at into left a b o h (within u us v vs rs e) =
 pub parted-at : (k : ℕ) (c : List ℕ) (xs : Content) (p : Place) → Holds c xs → Parted k (content-records xs) p
     → PartedAt k c xs (p .at) (p .into)
 parted-at k c xs p o q =
-    subst (λ (l : Content). PartedAt k c l (p .at) (p .into)) (ap (λ (l : List Record). items l) (sym (q .parts)) ∙ items-of xs)
-    (parted-by k c (p .at) (p .into) (p .left) (q .before) (q .after) (subst (λ (l : List Record). Of c l) (q .parts) o) (q .offset) (q .inside))
+    subst (λ (l : Content). PartedAt k c l (p .at) (p .into)) (ap (λ (l : List Record). items l) (sym (q .parts))
+    ∙ items-of xs)
+    (parted-by k c (p .at) (p .into) (p .left) (q .before) (q .after) (subst (λ (l : List Record). Of c l) (q .parts) o)
+    (q .offset) (q .inside))

@@ -1,4 +1,4 @@
--- Whether cuts part an accent from the text before it. Stepping stones: the rule is `accent-parted` of the specification.
+-- Whether cuts part an accent from the text before it. Stepping stones: the rule is `accent-parted` (xliff/specs/Split).
 use Prim.Native.Nat.{ℕ}
 use mathlib.Core.Path.{_≡_}
 use mathlib.Core.Bool.{Bool, false}
@@ -22,11 +22,13 @@ PartsAccentIs c k r = (xs : Content) → Holds c xs → r ≡ parts-accent k xs
 
 -- and for the part at a place
 abbrev pub SourcePartedIs : List ℕ → PartPlace → ℕ → Bool → Type 0
-SourcePartedIs t place k r = (b : List Part) (p : Part) (a : List Part) → PartStands t b p a place → r ≡ parts-accent k (p .source)
+SourcePartedIs t place k r =
+    (b : List Part) (p : Part) (a : List Part) → PartStands t b p a place → r ≡ parts-accent k (p .source)
 
 abbrev pub TargetPartedIs : List ℕ → PartPlace → ℕ → Bool → Type 0
 TargetPartedIs t place k r =
-    (b : List Part) (p : Part) (a : List Part) → PartStands t b p a place → r ≡ parts-accent k (target-items (p .target))
+    (b : List Part) (p : Part) (a : List Part) → PartStands t b p a place
+    → r ≡ parts-accent k (target-items (p .target))
 
 abbrev pub AccentPartedIs : List ℕ → PartPlace → ℕ → ℕ → Bool → Type 0
 AccentPartedIs t place source-cut target-cut r =

@@ -1,5 +1,5 @@
-// 23 of split. Document 02, order 2: "A cut is refused, in source or target, if the item after it is such a mark and the
-// item before it is a code point of text."
+// 23 of split. Document 02, order 2: "A cut is refused, in source or target, if the item after it is such a mark and
+// the item before it is a code point of text."
 use part_at::PartPlace;
 use text::Char;
 ghost use mathlib.Core.Path.{_≡_};

@@ -120,7 +120,8 @@ module _ (m : Record → ℕ)
   parts-kept f [] = refl
   parts-kept f (p ∷ ps) = omega (arith, part-kept f p, parts-kept f ps)
 
-  focus-most : (ps b : List Part) (p q : Part) (a : List Part) → ps ≡ b ++ (p ∷ q ∷ a) → sum of-part (join-focus ps (here b p (q ∷ a))) ≤ sum of-part ps
+  focus-most : (ps b : List Part) (p q : Part) (a : List Part) → ps ≡ b ++ (p ∷ q ∷ a)
+      → sum of-part (join-focus ps (here b p (q ∷ a))) ≤ sum of-part ps
   unfolding join-focus
   focus-most ps b p q a e =
       let z : sum of-part ps ≡ sum of-part (b ++ (p ∷ q ∷ a)) = ap (sum of-part) e in
@@ -137,7 +138,8 @@ module _ (m : Record → ℕ)
   unfolding unit-records
   unit-pieces u = omega (arith, sum-append m (gather part-records (u .parts)) (closing ∷ []), sum-gather m part-records (u .parts))
 
-  pub unit-most : (u : XliffUnit) (b : List Part) (p q : Part) (a : List Part) → u .parts ≡ b ++ (p ∷ q ∷ a) → sum m (unit-records (joined-unit u b p q a)) ≤ sum m (unit-records u)
+  pub unit-most : (u : XliffUnit) (b : List Part) (p q : Part) (a : List Part) → u .parts ≡ b ++ (p ∷ q ∷ a)
+      → sum m (unit-records (joined-unit u b p q a)) ≤ sum m (unit-records u)
   unfolding joined-unit with-parts
   unit-most u b p q a e = omega (arith, unit-pieces (joined-unit u b p q a), unit-pieces u, focus-most (u .parts) b p q a e)
 
@@ -159,10 +161,12 @@ head-sizes (ignorable i) (segment g) = omega arith
 head-sizes (segment f) (ignorable j) = omega arith
 head-sizes (segment f) (segment g) = omega arith
 
-text-sizes : (cs ds : List ℕ) → length (record-bytes (text-run (cs ++ ds))) ≤ length (record-bytes (text-run cs)) + length (record-bytes (text-run ds))
+text-sizes : (cs ds : List ℕ)
+    → length (record-bytes (text-run (cs ++ ds))) ≤ length (record-bytes (text-run cs)) + length (record-bytes (text-run ds))
 unfolding record-bytes two
 text-sizes cs ds =
-    let z : length (utf8s (cs ++ ds)) ≡ length (utf8s cs) + length (utf8s ds) = ap length (utf8s-append cs ds) ∙ length-append (utf8s cs) (utf8s ds) in
+    let z : length (utf8s (cs ++ ds)) ≡ length (utf8s cs) + length (utf8s ds) = ap length (utf8s-append cs ds)
+    ∙ length-append (utf8s cs) (utf8s ds) in
     omega arith
 
 module _ (u : XliffUnit) (b : List Part) (p q : Part) (a : List Part) (e : u .parts ≡ b ++ (p ∷ q ∷ a)) where

@@ -54,7 +54,9 @@ module _ (t : List ℕ) (n source-cut target-cut id room : ℕ) (e : table-refus
     abbrev taken : Bool
     taken = id-taken (unit t .parts) id
 
-    chain : asked ≡ unless (applies 12 closed then (applies 13 bad then (applies 23 parted then (applies 14 taken then applies 15 large)))) bytes
+    chain : asked
+        ≡ unless (applies 12 closed then (applies 13 bad
+        then (applies 23 parted then (applies 14 taken then applies 15 large)))) bytes
     unfolding split-refusal
     chain =
         on-focus (here b p a) h
@@ -62,12 +64,14 @@ module _ (t : List ℕ) (n source-cut target-cut id room : ℕ) (e : table-refus
         (then-assoc (applies 12 closed) (applies 13 bad then applies 23 parted then applies 14 taken) (applies 15 large)
         ∙ ap (λ (o : Option Refusal). applies 12 closed then o)
         (then-assoc (applies 13 bad) (applies 23 parted then applies 14 taken) (applies 15 large)
-        ∙ ap (λ (o : Option Refusal). applies 13 bad then o) (then-assoc (applies 23 parted) (applies 14 taken) (applies 15 large))))
+        ∙ ap (λ (o : Option Refusal). applies 13 bad then o)
+        (then-assoc (applies 23 parted) (applies 14 taken) (applies 15 large))))
 
     pub refused-12 : closed ≡ true → asked ≡ refuse (record { number = 12; place = 0 })
     refused-12 x = chain ∙ applied 12 closed _ bytes x
 
-    after-12 : closed ≡ false → asked ≡ unless (applies 13 bad then (applies 23 parted then (applies 14 taken then applies 15 large))) bytes
+    after-12 : closed ≡ false
+        → asked ≡ unless (applies 13 bad then (applies 23 parted then (applies 14 taken then applies 15 large))) bytes
     after-12 x = chain ∙ ap (λ (o : Option Refusal). unless o bytes) (passed 12 closed _ x)
 
     pub refused-13 : closed ≡ false → bad ≡ true → asked ≡ refuse (record { number = 13; place = 0 })

@@ -76,7 +76,8 @@ some-bytes : (u : ℕ) (us : List ℕ) → 1 ≤ length (utf8s (u ∷ us))
 unfolding utf8s gather
 some-bytes u us = omega (arith, length-append (utf8 u) (gather utf8 us), utf8-nonempty u)
 
-halved-by : (k into left : ℕ) (a b : List Record) → Kept false (a ++ b) → Inside k (length (items a)) into left b → Halved k (a ++ b) (one-if into)
+halved-by : (k into left : ℕ) (a b : List Record) → Kept false (a ++ b) → Inside k (length (items a)) into left b
+    → Halved k (a ++ b) (one-if into)
 unfolding reading
 halved-by k into left a b kp (over e) =
     let z : items (a ++ []) ≡ items a = ap (λ (l : List Record). items l) (append-nil a) in
@@ -100,7 +101,8 @@ halved-by k into left a b kp (between {r} {rs} e) =
       count = omega (arith, length-append a (r ∷ rs));
     }
 halved-by k into left a b kp (within u us v vs rs e) =
-    subst (λ (n : ℕ). Halved k (a ++ (text-run ((u ∷ us) ++ (v ∷ vs)) ∷ rs)) n) (sym (some-one (length (utf8s (u ∷ us))) (some-bytes u us))) (halved-within k u us v vs a rs kp e)
+    subst (λ (n : ℕ). Halved k (a ++ (text-run ((u ∷ us) ++ (v ∷ vs)) ∷ rs)) n) (sym (some-one (length (utf8s (u ∷ us))) (some-bytes u us)))
+    (halved-within k u us v vs a rs kp e)
 
 -- turning the marks keeps the number of records
 length-cut : (ys : Content) (rs : List Record) → length (cut-records ys rs) ≡ length rs
@@ -117,20 +119,26 @@ halved-count : (k : ℕ) (all : List Record) (n : ℕ) → Halved k all n
 unfolding first-items second-items
 halved-count k all n h =
     let x : length (content-records (map (cut-item (drop k (items all))) (take k (items all)))) ≡ length (h .firsts) =
-    ap (λ (l : Content). length (content-records (map (cut-item (drop k (items all))) l))) (h .taken) ∙ cut-count (drop k (items all)) (h .firsts) (h .kept-first) in
+    ap (λ (l : Content). length (content-records (map (cut-item (drop k (items all))) l))) (h .taken)
+    ∙ cut-count (drop k (items all)) (h .firsts) (h .kept-first) in
     let y : length (content-records (map (cut-item (take k (items all))) (drop k (items all)))) ≡ length (h .seconds) =
-    ap (λ (l : Content). length (content-records (map (cut-item (take k (items all))) l))) (h .dropped) ∙ cut-count (take k (items all)) (h .seconds) (h .kept-second) in
+    ap (λ (l : Content). length (content-records (map (cut-item (take k (items all))) l))) (h .dropped)
+    ∙ cut-count (take k (items all)) (h .seconds) (h .kept-second) in
     ap₂ _+_ x y ∙ h .count
 
 module _ (k : ℕ) (c : List ℕ) (xs : Content) (p : Place) (o : Holds c xs) (q : Parted k (content-records xs) p) where
-  content-count : length (content-records (first-items k xs)) + length (content-records (second-items k xs)) ≡ length (content-records xs) + one-if (p .into)
+  content-count : length (content-records (first-items k xs)) + length (content-records (second-items k xs))
+      ≡ length (content-records xs) + one-if (p .into)
   content-count =
-      subst (λ (l : Content). length (content-records (first-items k l)) + length (content-records (second-items k l)) ≡ length (content-records xs) + one-if (p .into)) (items-of xs)
+      subst (λ (l : Content).
+      length (content-records (first-items k l)) + length (content-records (second-items k l))
+      ≡ length (content-records xs) + one-if (p .into)) (items-of xs)
       (halved-count k (content-records xs) (one-if (p .into))
       (subst (λ (l : List Record). Halved k l (one-if (p .into))) (sym (q .parts))
       (halved-by k (p .into) (p .left) (q .before) (q .after) (subst (λ (l : List Record). Kept false l) (q .parts) (o .0)) (q .inside))))
 
-  content-long : (m : ℕ) → p .into ≡ m → length (content-bytes (first-items k xs)) + length (content-bytes (second-items k xs)) ≡ length c + 4 * one-if m
+  content-long : (m : ℕ) → p .into ≡ m
+      → length (content-bytes (first-items k xs)) + length (content-bytes (second-items k xs)) ≡ length c + 4 * one-if m
   content-long zero e =
       let s = sides k c xs p o q in
       omega (arith, first-size-0 k c xs p s e, second-size-0 k c xs p s e, s .fit)
@@ -159,7 +167,8 @@ unfolding target-records first-target second-target spell gather
 nothing-added k = record { bytes = refl; records = refl; few = omega arith }
 
 module _ (t : List ℕ) (place : PartPlace) (k : ℕ) where
-  pub grown-there : (g : Target) (n : ℕ) → TargetStands t place g → place .«has_target» ≡ true → ContentAdded k (target-items g) n → TargetAdded k g (1 + n)
+  pub grown-there : (g : Target) (n : ℕ) → TargetStands t place g → place .«has_target» ≡ true → ContentAdded k (target-items g) n
+      → TargetAdded k g (1 + n)
   unfolding target-items
   grown-there no-target n (x, o, e) z h = absurd (let y : _≡_ {A = ℕ} 0 1 = cc in let w : ⊥ = omega arith in w)
   grown-there (target q xs) n s z h = target-added k q xs n h
@@ -169,7 +178,9 @@ module _ (t : List ℕ) (place : PartPlace) (k : ℕ) where
   nothing-grown (target q xs) (x, o, hs, ts) z = absurd (let y : _≡_ {A = ℕ} 0 1 = cc in let w : ⊥ = omega arith in w)
 
 -- a part
-part-long : (p : Part) → length (spell (part-records p)) ≡ length (head-bytes (p .head)) + length (content-bytes (p .source)) + length (spell (target-records (p .target)))
+part-long : (p : Part)
+    → length (spell (part-records p))
+    ≡ length (head-bytes (p .head)) + length (content-bytes (p .source)) + length (spell (target-records (p .target)))
 part-long p =
     ap length (part-bytes p) ∙ length-append (head-bytes (p .head) ++ content-bytes (p .source)) (spell (target-records (p .target)))
     ∙ ap (λ (n : ℕ). n + length (spell (target-records (p .target)))) (length-append (head-bytes (p .head)) (content-bytes (p .source)))
@@ -179,9 +190,21 @@ unfolding content-bytes part-records first-half second-half
 part-added k j p m n x y =
     record {
       bytes = λ id.
-          let z : length (halves k j id p) ≡ length (spell (part-records (first-half k j p))) + length (spell (part-records (second-half k j id p))) =
-          ap length (halves-are k j p id) ∙ length-append (spell (part-records (first-half k j p))) (spell (part-records (second-half k j id p))) in
-          omega (arith, z, part-long (first-half k j p), part-long (second-half k j id p), part-long p, id-long id (p .head), x .bytes, y .bytes);
+          let z : length (halves k j id p) ≡ length (spell (part-records (first-half k j p))) + length
+          (spell (part-records (second-half k j id p))) =
+          ap length (halves-are k j p id)
+          ∙ length-append (spell (part-records (first-half k j p))) (spell (part-records (second-half k j id p))) in
+          omega (
+            arith,
+            z,
+            part-long (first-half k j p),
+            part-long (second-half k j id p),
+            part-long p,
+            id-long id
+                (p .head),
+            x .bytes,
+            y .bytes,
+          );
       records = λ id.
           omega (
             arith,

@@ -25,7 +25,8 @@ pub record Passes (f : List ℕ → Bool) (Owed : ℕ → List ℕ → Type 0) (
 
 -- where the characters end whose first k bytes pass the test
 run : {f : List ℕ → Bool} {Owed : ℕ → List ℕ → Type 0} {ahead : List ℕ → ℕ} → Passes f Owed ahead
-    → (k j : ℕ) (l : List ℕ) → k ≤ length l → allFit f k l ≡ true → Owed j l → textOk (drop j l) ≡ textOk (drop (ahead (drop k l)) (drop k l))
+    → (k j : ℕ) (l : List ℕ) → k ≤ length l → allFit f k l ≡ true → Owed j l
+    → textOk (drop j l) ≡ textOk (drop (ahead (drop k l)) (drop k l))
 unfolding allFit
 run p zero j l n e o = ap (λ (i : ℕ). textOk (drop i l)) (p .counted j l o)
 run p (suc k) j [] n e o = absurd (omega arith)
@@ -61,9 +62,11 @@ fits-on f t at n i whole ok r l e h =
     ∙ ap (λ (b : Bool). ok && (b && allFit f (n - (i + 1)) (drop (at + (i + 1)) t))) (sym h)
     ∙ sym (and-assoc ok r (allFit f (n - (i + 1)) (drop (at + (i + 1)) t)))
 
-pub fits-end : (f : List ℕ → Bool) (t : List ℕ) (at n i : ℕ) (whole ok : Bool) → n ≤ i → whole ≡ (ok && allFit f (n - i) (drop (at + i) t)) → ok ≡ whole
+pub fits-end : (f : List ℕ → Bool) (t : List ℕ) (at n i : ℕ) (whole ok : Bool) → n ≤ i → whole ≡ (ok && allFit f (n - i) (drop (at + i) t))
+    → ok ≡ whole
 unfolding allFit
-fits-end f t at n i whole ok l e = sym (e ∙ ap (λ (k : ℕ). ok && allFit f k (drop (at + i) t)) (let z : n - i ≡ 0 = omega arith in z) ∙ and-true ok)
+fits-end f t at n i whole ok l e =
+    sym (e ∙ ap (λ (k : ℕ). ok && allFit f k (drop (at + i) t)) (let z : n - i ≡ 0 = omega arith in z) ∙ and-true ok)
 
 -- the byte at the head of what begins at an offset
 pub head-is : (n : ℕ) (t : List ℕ) → getD (drop n t) 0 0 ≡ getD t n 0
@@ -118,7 +121,8 @@ two-more c (d ∷ l) a b h =
     )
 
 -- a plain character at an offset
-pub plain-on : (t : List ℕ) (at : ℕ) → at < length t → (leb 32 (getD t at 0) && leb (getD t at 0) 127) ≡ true → textOk (drop at t) ≡ textOk (drop (at + 1) t)
+pub plain-on : (t : List ℕ) (at : ℕ) → at < length t → (leb 32 (getD t at 0) && leb (getD t at 0) 127) ≡ true
+    → textOk (drop at t) ≡ textOk (drop (at + 1) t)
 plain-on t at n h =
     by (drop at t) refl (omega (arith, length-drop at t))
     ∙ ap textOk (drop-drop 1 at t)

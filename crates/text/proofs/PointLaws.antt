@@ -5,7 +5,7 @@ use mathlib.Core.Bool.{Bool, true, false, cond}
 use mathlib.Core.List.{List, [], _∷_, _++_}
 use native.Mathlib.Omega.{arith}
 use lib.ListN.{length, getD, take, drop, length-append, length-drop, drop-of-length-le}
-use lib.Seq.{drop-append-seam, drop-append-add, getD-append-add, drop-drop, getD-drop}
+use lib.Seq.{drop-append-seam, drop-append-add, getD-append-add, drop-drop}
 use lib.Dec.{ltb}
 use borrow.Table.Steps.{cases}
 use borrow.Author.Tests.{ltb-true, ltb-false, lt-ltb, le-ltb, le-leb, lt-leb}
@@ -16,6 +16,7 @@ use Rattle.xliff.proofs.text.Utf8.{utf8-nonempty}
 use Rattle.text.specs.Utf8.{charOf}
 use Rattle.text.specs.declared.Char.the-variants.{Point, Bad}
 use Rattle.text.proofs.Utf8Laws.{width-at}
+use Rattle.text.proofs.BlockLaws.{head-is}
 use Rattle.text.proofs.TextLaws.{decoded-allowed, char-is}
 use Rattle.text.specs.Points.{lead, leads, further, sought, TextBytes, PassedOver}
 use Rattle.text.specs.declared.points.Points.{Points}
@@ -62,21 +63,25 @@ single : (c : ℕ) (t : List ℕ) → Single (utf8 c) t
 unfolding utf8
 single c t = by (ltb c 0x80) refl (ltb c 0x800) (ltb c 0x10000)
   where
-    by : (a : Bool) → ltb c 0x80 ≡ a → (b d : Bool) → Single (cond a (utf8-1 c) (cond b (utf8-2 c) (cond d (utf8-3 c) (utf8-4 c)))) t
+    by : (a : Bool) → ltb c 0x80 ≡ a → (b d : Bool)
+        → Single (cond a (utf8-1 c) (cond b (utf8-2 c) (cond d (utf8-3 c) (utf8-4 c)))) t
     by true e b d = single-1 c t (ltb-true c 0x80 e)
     by false e true d = single-2 c t
     by false e false true = single-3 c t
     by false e false false = single-4 c t
 
 pub further-zero : (p : Points) → p ≡ further 0 p
-further-zero p = ap (λ (n : ℕ). record { bytes = n; left = p .left }) (let z : p .bytes ≡ 0 + p .bytes = omega arith in z)
+further-zero p =
+    ap (λ (n : ℕ). record { bytes = n; left = p .left }) (let z : p .bytes ≡ 0 + p .bytes = omega arith in z)
 
 further-twice : (m n : ℕ) (p : Points) → further m (further n p) ≡ further (m + n) p
 further-twice m n p =
-    ap (λ (k : ℕ). record { bytes = k; left = p .left }) (let z : m + (n + p .bytes) ≡ m + n + p .bytes = omega arith in z)
+    ap (λ (k : ℕ). record { bytes = k; left = p .left })
+    (let z : m + (n + p .bytes) ≡ m + n + p .bytes = omega arith in z)
 
 -- n bytes further, where all code points that begin in them are to be passed over
-sought-past : (n : ℕ) (t : List ℕ) (k : ℕ) → n ≤ length t → leads n t ≤ k → sought t k ≡ further n (sought (drop n t) (k - leads n t))
+sought-past : (n : ℕ) (t : List ℕ) (k : ℕ) → n ≤ length t → leads n t ≤ k
+    → sought t k ≡ further n (sought (drop n t) (k - leads n t))
 unfolding leads sought
 sought-past zero t k h l = ap (sought t) (let z : k ≡ k - 0 = omega arith in z) ∙ further-zero (sought t (k - 0))
 sought-past (suc n) [] k h l = absurd (omega arith)
@@ -94,27 +99,28 @@ sought-here [] k n h = absurd (omega arith)
 sought-here (b ∷ t) k n h = rw (lt-ltb k (lead b) h)
 
 -- in a text: the bytes of the first k code points
-pub sought-is : (cs : List ℕ) (k : ℕ) → sought (utf8s cs) k ≡ record { bytes = length (utf8s (take k cs)); left = k - length cs }
+pub sought-is : (cs : List ℕ) (k : ℕ)
+    → sought (utf8s cs) k ≡ record { bytes = length (utf8s (take k cs)); left = k - length cs }
 unfolding utf8s gather sought
 sought-is [] zero = refl
 sought-is [] (suc k) = ap (λ (n : ℕ). record { bytes = 0; left = n }) (let z : suc k ≡ suc k - 0 = omega arith in z)
 sought-is (c ∷ cs) zero =
     let s = single c (utf8s cs) in
-    sought-here (utf8 c ++ utf8s cs) 0 (omega (arith, length-append (utf8 c) (utf8s cs), utf8-nonempty c)) (omega (arith, s .first))
+    sought-here (utf8 c ++ utf8s cs) 0 (omega (arith, length-append (utf8 c) (utf8s cs), utf8-nonempty c))
+    (omega (arith, s .first))
     ∙ ap (λ (n : ℕ). record { bytes = 0; left = n }) (let z : 0 ≡ 0 - suc (length cs) = omega arith in z)
 sought-is (c ∷ cs) (suc k) =
     let s = single c (utf8s cs) in
-    sought-past (length (utf8 c)) (utf8 c ++ utf8s cs) (suc k) (omega (arith, length-append (utf8 c) (utf8s cs))) (omega (arith, s .once))
-    ∙ ap₂ (λ (l : List ℕ) (n : ℕ). further (length (utf8 c)) (sought l (suc k - n))) (drop-append-seam (utf8 c) (utf8s cs)) (s .once)
+    sought-past (length (utf8 c)) (utf8 c ++ utf8s cs) (suc k) (omega (arith, length-append (utf8 c) (utf8s cs)))
+    (omega (arith, s .once))
+    ∙ ap₂ (λ (l : List ℕ) (n : ℕ). further (length (utf8 c)) (sought l (suc k - n)))
+    (drop-append-seam (utf8 c) (utf8s cs)) (s .once)
     ∙ ap (λ (n : ℕ). further (length (utf8 c)) (sought (utf8s cs) n)) (let z : suc k - 1 ≡ k = omega arith in z)
     ∙ ap (further (length (utf8 c))) (sought-is cs k)
     ∙ ap₂ (λ (n m : ℕ). record { bytes = n; left = m }) (sym (length-append (utf8 c) (utf8s (take k cs))))
     (let z : k - length cs ≡ suc k - suc (length cs) = omega arith in z)
 
 -- For the code: from an offset on.
-byte-at : (t : List ℕ) (at : ℕ) → getD (drop at t) 0 0 ≡ getD t at 0
-byte-at t at = getD-drop at t 0 0 ∙ ap (λ (i : ℕ). getD t i 0) (let z : at + 0 ≡ at = omega arith in z)
-
 pub sought-on : (t : List ℕ) (at left n : ℕ) (whole : Points) → at + n ≤ length t → leads n (drop at t) ≤ left
     → whole ≡ further at (sought (drop at t) left)
     → whole ≡ further (at + n) (sought (drop (at + n) t) (left - leads n (drop at t)))
@@ -132,9 +138,11 @@ sought-stop : (t : List ℕ) (at left : ℕ) (whole : Points) → at < length t 
     → record { bytes = at; left = left } ≡ whole
 sought-stop t at left whole h l e =
     sym (e ∙ ap (further at)
-    (sought-here (drop at t) left (omega (arith, length-drop at t)) (omega (arith, ap lead (byte-at t at)))) ∙ further-none at left)
+    (sought-here (drop at t) left (omega (arith, length-drop at t)) (omega (arith, ap lead (head-is at t))))
+    ∙ further-none at left)
 
-pub sought-end : (t : List ℕ) (at left : ℕ) (whole : Points) → length t ≤ at → whole ≡ further at (sought (drop at t) left)
+pub sought-end : (t : List ℕ) (at left : ℕ) (whole : Points) → length t ≤ at
+    → whole ≡ further at (sought (drop at t) left)
     → record { bytes = at; left = left } ≡ whole
 unfolding sought
 sought-end t at left whole h e =
@@ -142,7 +150,8 @@ sought-end t at left whole h e =
 
 -- a block counted: nothing yet
 pub leads-start : (t : List ℕ) (at : ℕ) → leads 64 (drop at t) ≡ 0 + leads 64 (drop (at + 0) t)
-leads-start t at = let e = ap (λ (k : ℕ). leads 64 (drop k t)) (let z : at ≡ at + 0 = omega arith in z) in omega (arith, e)
+leads-start t at =
+    let e = ap (λ (k : ℕ). leads 64 (drop k t)) (let z : at ≡ at + 0 = omega arith in z) in omega (arith, e)
 
 -- one byte further
 pub leads-on : (t : List ℕ) (at i n whole : ℕ) → i < 64 → whole ≡ n + leads (64 - i) (drop (at + i) t)
@@ -152,25 +161,29 @@ leads-on t at i n whole l e =
     let size : 64 - i ≡ suc (64 - (i + 1)) = omega arith in
     let rest : drop 1 (drop (at + i) t) ≡ drop (at + (i + 1)) t = drop-drop 1 (at + i) t
     ∙ ap (λ (k : ℕ). drop k t) (let z : at + i + 1 ≡ at + (i + 1) = omega arith in z) in
-    let one : leads (64 - i) (drop (at + i) t) ≡ lead (getD t (at + i) 0) + leads (64 - (i + 1)) (drop (at + (i + 1)) t) =
+    let one : leads (64 - i) (drop (at + i) t)
+    ≡ lead (getD t (at + i) 0) + leads (64 - (i + 1)) (drop (at + (i + 1)) t) =
     ap (λ (k : ℕ). leads k (drop (at + i) t)) size
-    ∙ ap₂ (λ (b : ℕ) (s : List ℕ). lead b + leads (64 - (i + 1)) s) (byte-at t (at + i)) rest in
+    ∙ ap₂ (λ (b : ℕ) (s : List ℕ). lead b + leads (64 - (i + 1)) s) (head-is (at + i) t) rest in
     omega (arith, e, one)
 
 pub leads-end : (t : List ℕ) (at i n whole : ℕ) → 64 ≤ i → whole ≡ n + leads (64 - i) (drop (at + i) t) → n ≡ whole
 unfolding leads
 leads-end t at i n whole l e =
-    let none : leads (64 - i) (drop (at + i) t) ≡ 0 = ap (λ (k : ℕ). leads k (drop (at + i) t)) (let z : 64 - i ≡ 0 = omega arith in z) in
+    let none : leads (64 - i) (drop (at + i) t) ≡ 0 = ap (λ (k : ℕ). leads k (drop (at + i) t))
+    (let z : 64 - i ≡ 0 = omega arith in z) in
     omega (arith, e, none)
 
 -- a block of one byte
 leads-one : (t : List ℕ) (at : ℕ) → leads 1 (drop at t) ≡ lead (getD t at 0)
 unfolding leads
-leads-one t at = ap (λ (b : ℕ). lead b + 0) (byte-at t at) ∙ (let z : lead (getD t at 0) + 0 ≡ lead (getD t at 0) = omega arith in z)
+leads-one t at =
+    ap (λ (b : ℕ). lead b + 0) (head-is at t) ∙ (let z : lead (getD t at 0) + 0 ≡ lead (getD t at 0) = omega arith in z)
 
 pub passed-over : (t : List ℕ) (k : ℕ) (p : Points) → p ≡ sought t k → PassedOver t k p
 passed-over t k p e cs a u =
-    let i : p ≡ record { bytes = length (utf8s (take k cs)); left = k - length cs } = e ∙ ap (λ (s : List ℕ). sought s k) (sym u)
+    let i : p ≡ record { bytes = length (utf8s (take k cs)); left = k - length cs } = e
+    ∙ ap (λ (s : List ℕ). sought s k) (sym u)
     ∙ sought-is cs k in
     (ap (λ (q : Points). q .bytes) i, ap (λ (q : Points). q .left) i)
 
@@ -185,7 +198,7 @@ one-there t at c w e =
     let d = char-is (drop at t) c w e in
     let s = single c (drop w (drop at t)) in (
       ap₂ leads (d .width) (d .bytes) ∙ s .once,
-      ap lead (sym (byte-at t at) ∙ ap (λ (l : List ℕ). getD l 0 0) (d .bytes)) ∙ s .first,
+      ap lead (sym (head-is at t) ∙ ap (λ (l : List ℕ). getD l 0 0) (d .bytes)) ∙ s .first,
     )
 
 -- where no code point begins in the first n bytes, none of them is a first byte
@@ -196,7 +209,8 @@ none-first (suc n) t zero e h = omega arith
 none-first (suc n) t (suc i) e h = ap lead (next-byte t i) ∙ none-first n (drop 1 t) i (omega arith) (omega arith)
 
 -- where one begins, with the first of them, none of the others is
-only-first : (n : ℕ) (t : List ℕ) (i : ℕ) → leads n t ≡ 1 → lead (getD t 0 0) ≡ 1 → suc i < n → lead (getD t (suc i) 0) ≡ 0
+only-first : (n : ℕ) (t : List ℕ) (i : ℕ) → leads n t ≡ 1 → lead (getD t 0 0) ≡ 1 → suc i < n
+    → lead (getD t (suc i) 0) ≡ 0
 unfolding leads
 only-first zero t i e f h = absurd (omega arith)
 only-first (suc n) t i e f h = ap lead (next-byte t i) ∙ none-first n (drop 1 t) i (omega arith) (omega arith)
@@ -219,14 +233,16 @@ no-character (c ∷ cs) (suc i) (one-point p a) h e =
     ∙ no-character cs j a (omega (arith, length-append (utf8 c) (utf8s cs))) (sym (ap charOf same) ∙ e))
 
 -- For the loop by characters: the one sought stands here
-pub character-here : (t : List ℕ) (at left c w : ℕ) {a : Bool} (whole : Points) → charOf (drop at t) ≡ Point c w a → left ≡ 0
+pub character-here : (t : List ℕ) (at left c w : ℕ) {a : Bool} (whole : Points) → charOf (drop at t) ≡ Point c w a
+    → left ≡ 0
     → whole ≡ further at (sought (drop at t) left) → record { bytes = at; left = 0 } ≡ whole
 character-here t at left c w whole e z h =
     sought-stop t at 0 whole (omega (arith, width-at t at c w e)) (omega (arith, one-there t at c w e .1))
     (h ∙ ap (λ (n : ℕ). further at (sought (drop at t) n)) z)
 
 -- behind a character that is passed over
-pub character-on : (t : List ℕ) (at left c w : ℕ) {a : Bool} (whole : Points) → charOf (drop at t) ≡ Point c w a → 1 ≤ left
+pub character-on : (t : List ℕ) (at left c w : ℕ) {a : Bool} (whole : Points) → charOf (drop at t) ≡ Point c w a
+    → 1 ≤ left
     → whole ≡ further at (sought (drop at t) left) → whole ≡ further (at + w) (sought (drop (at + w) t) (left - 1))
 character-on t at left c w whole e l h =
     let one = one-there t at c w e .0 in
@@ -234,11 +250,14 @@ character-on t at left c w whole e l h =
     ∙ ap (λ (n : ℕ). further (at + w) (sought (drop (at + w) t) (left - n))) one
 
 -- behind a byte with which no character begins
-pub character-rest : (t : List ℕ) (at left : ℕ) (whole : Points) → TextBytes t → at < length t → charOf (drop at t) ≡ Bad
+pub character-rest : (t : List ℕ) (at left : ℕ) (whole : Points) → TextBytes t → at < length t
+    → charOf (drop at t) ≡ Bad
     → whole ≡ further at (sought (drop at t) left) → whole ≡ further (at + 1) (sought (drop (at + 1) t) left)
 character-rest t at left whole (cs, a, u) l e h =
     let none : leads 1 (drop at t) ≡ 0 =
     leads-one t at
-    ∙ subst (λ (s : List ℕ). at < length s → charOf (drop at s) ≡ Bad → lead (getD s at 0) ≡ 0) u (no-character cs at a) l e in
+    ∙ subst (λ (s : List ℕ). at < length s → charOf (drop at s) ≡ Bad → lead (getD s at 0) ≡ 0) u
+    (no-character cs at a) l e in
     sought-on t at left 1 whole (omega arith) (omega (arith, none)) h
-    ∙ ap (λ (n : ℕ). further (at + 1) (sought (drop (at + 1) t) n)) (let z : left - leads 1 (drop at t) ≡ left = omega (arith, none) in z)
+    ∙ ap (λ (n : ℕ). further (at + 1) (sought (drop (at + 1) t) n))
+    (let z : left - leads 1 (drop at t) ≡ left = omega (arith, none) in z)

@@ -62,7 +62,8 @@ data Allowed (v : ℕ) : Type 0 where
   above : 0xE000 ≤ v → v ≤ 0xFFFD → Allowed v
 
 -- the code point of three such bytes is one of them
-code-allowed : (c d e : ℕ) → 224 ≤ c → c ≤ 239 → trail d ≡ true → trail e ≡ true → Second c d → Allowed (c % 16 * 4096 + d % 64 * 64 + e % 64)
+code-allowed : (c d e : ℕ) → 224 ≤ c → c ≤ 239 → trail d ≡ true → trail e ≡ true → Second c d
+    → Allowed (c % 16 * 4096 + d % 64 * 64 + e % 64)
 code-allowed c d e a b h k s =
     let d-low = behind-low d h in
     let d-high = behind-high d h in
@@ -88,7 +89,15 @@ code-good v (under low high) = (
 )
 code-good v (above low high) = (
   simp (le-leb 0x800 v (omega arith), le-leb 0xD800 v (omega arith), lt-leb v 0xDFFF (omega arith)),
-  simp (ne-eqb v 9 (omega arith), ne-eqb v 10 (omega arith), ne-eqb v 13 (omega arith), le-leb 0x20 v (omega arith), lt-leb v 0xD7FF (omega arith), le-leb 0xE000 v low, le-leb v 0xFFFD high),
+  simp (
+    ne-eqb v 9 (omega arith),
+    ne-eqb v 10 (omega arith),
+    ne-eqb v 13 (omega arith),
+    le-leb 0x20 v (omega arith),
+    lt-leb v 0xD7FF (omega arith),
+    le-leb 0xE000 v low,
+    le-leb v 0xFFFD high,
+  ),
 )
 
 -- one character of three bytes
@@ -133,7 +142,8 @@ after c d b e l = e ∙ ap (λ (x : Bool). leb 194 d || x) (lt-leb 224 c l) ∙ 
 behind-leads-none : (d : ℕ) → trail d ≡ true → leb 194 d ≡ false
 behind-leads-none d h = let high = behind-high d h in lt-leb 194 d (omega arith)
 
-triple-begins : (c : ℕ) (l : List ℕ) → TripleOwed 0 (c ∷ l) → tripleAt (c ∷ l) ≡ true → (j : ℕ) × TripleOwed j l × (textOk (c ∷ l) ≡ textOk (drop j l))
+triple-begins : (c : ℕ) (l : List ℕ) → TripleOwed 0 (c ∷ l) → tripleAt (c ∷ l) ≡ true
+    → (j : ℕ) × TripleOwed j l × (textOk (c ∷ l) ≡ textOk (drop j l))
 triple-begins c l o h =
     let f = fitting c (getD l 0 0) (getD l 1 0) h in
     cases (leb 224 c)
@@ -146,7 +156,8 @@ triple-begins c l o h =
     let under = leb-false 224 c p in
     let next = after c (getD l 0 0) (trail (getD l 1 0)) (f .leads) under in
     cases (leb 194 c)
-    (λ q. let behind = o .1 ∙ q in (1, (behind, next ∙ behind-leads-none (getD l 0 0) behind), two-more c l (leb-true 194 c q) (omega arith) behind))
+    (λ q. let behind = o .1 ∙ q in
+    (1, (behind, next ∙ behind-leads-none (getD l 0 0) behind), two-more c l (leb-true 194 c q) (omega arith) behind))
     (λ q. (0, (o .1 ∙ q, next), one-more c l (f .low) (plain-byte c (f .somewhere) (o .0) (leb-false 194 c q)))))
 
 triple-goes-on : (j c : ℕ) (l : List ℕ) → TripleOwed (suc j) (c ∷ l) → tripleAt (c ∷ l) ≡ true → TripleOwed j l
@@ -174,17 +185,21 @@ opened : (t : List ℕ) (at : ℕ) → opensBlock (getD t at 0) (getD t (at + 1)
 unfolding opensBlock
 opened t at h = (
   ap trail (head-is at t) ∙ not-true _ (and-left (not (trail (getD t at 0))) _ h),
-  ap trail (getD-drop at t 1 0) ∙ alike-is (leb 194 (getD t at 0)) _ (and-right (not (trail (getD t at 0))) _ h) ∙ ap (leb 194) (sym (head-is at t)),
+  ap trail (getD-drop at t 1 0) ∙ alike-is (leb 194 (getD t at 0)) _ (and-right (not (trail (getD t at 0))) _ h)
+      ∙ ap (leb 194) (sym (head-is at t)),
 )
 
 -- a block of sixteen bytes that the test passes, and the two bytes behind it
-pub triple-past : (t : List ℕ) (at : ℕ) (o r b d : Bool) → at + 16 ≤ length t → o ≡ opensBlock (getD t at 0) (getD t (at + 1) 0) → r ≡ allFit tripleAt 16 (drop at t)
-    → (o && r) ≡ true → trail (getD t (at + 16) 0) ≡ b → trail (getD t (at + 17) 0) ≡ d → textOk (drop at t) ≡ textOk (drop (at + cond b (cond d 18 17) 16) t)
+pub triple-past : (t : List ℕ) (at : ℕ) (o r b d : Bool) → at + 16 ≤ length t → o ≡ opensBlock (getD t at 0) (getD t (at + 1) 0)
+    → r ≡ allFit tripleAt 16 (drop at t)
+    → (o && r) ≡ true → trail (getD t (at + 16) 0) ≡ b → trail (getD t (at + 17) 0) ≡ d
+    → textOk (drop at t) ≡ textOk (drop (at + cond b (cond d 18 17) 16) t)
 triple-past t at o r b d n p e h f g =
     let next : getD (drop (at + 16) t) 1 0 ≡ getD t (at + 17) 0 =
     getD-drop (at + 16) t 1 0 ∙ ap (λ (k : ℕ). getD t k 0) (let z : at + 16 + 1 ≡ at + 17 = omega arith in z) in
     block-on triple-passes t at 16 n (sym e ∙ and-right o r h) (opened t at (sym p ∙ and-left o r h))
-    ∙ ap (λ (x : Bool). textOk (drop (at + 16 + cond x (cond (trail (getD (drop (at + 16) t) 1 0)) 2 1) 0) t)) (ap trail (head-is (at + 16) t) ∙ f)
+    ∙ ap (λ (x : Bool). textOk (drop (at + 16 + cond x (cond (trail (getD (drop (at + 16) t) 1 0)) 2 1) 0) t))
+    (ap trail (head-is (at + 16) t) ∙ f)
     ∙ ap (λ (x : Bool). textOk (drop (at + 16 + cond b (cond x 2 1) 0) t)) (ap trail next ∙ g)
     ∙ ap (λ (k : ℕ). textOk (drop k t)) (sum b d)
   where

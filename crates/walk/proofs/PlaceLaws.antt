@@ -46,12 +46,15 @@ pub record IsText (r : Record) : Type 0 where
   pub is : r ≡ text-run points
   pub allowed : Allowed points
 
-pub is-text : (r : Record) (t s : List ℕ) → Inline r → t ≡ record-bytes r ++ s → marked t (84 ∷ 88 ∷ []) ≡ true → IsText r
-is-text (inline x) t s (an-item g) e m = absurd (true≢false (sym m ∙ ap (λ (l : List ℕ). marked l (84 ∷ 88 ∷ [])) e ∙ not-marked x s g))
+pub is-text : (r : Record) (t s : List ℕ) → Inline r → t ≡ record-bytes r ++ s → marked t (84 ∷ 88 ∷ []) ≡ true
+    → IsText r
+is-text (inline x) t s (an-item g) e m =
+    absurd (true≢false (sym m ∙ ap (λ (l : List ℕ). marked l (84 ∷ 88 ∷ [])) e ∙ not-marked x s g))
 is-text (text-run cs) t s (a-text a l) e m = record { points = cs; is = refl; allowed = a }
 
 -- the bytes of a text
-text-bytes : (t cs : List ℕ) → t ≡ record-bytes (text-run cs) → (utf8s cs ≡ drop 4 t) × (length t - 4 ≡ length (utf8s cs))
+text-bytes : (t cs : List ℕ) → t ≡ record-bytes (text-run cs)
+    → (utf8s cs ≡ drop 4 t) × (length t - 4 ≡ length (utf8s cs))
 unfolding record-bytes two
 text-bytes t cs e = (sym (ap (drop 4) e), let l = ap length e in omega arith)
 
@@ -68,7 +71,8 @@ pub pass-item : (r : Record) (t : List ℕ) (k : ℕ) → Inline r → t ≡ rec
     → passOf r k ≡ passItem k
 unfolding record-bytes
 pass-item (inline x) t k (an-item g) e m = refl
-pass-item (text-run cs) t k (a-text a l) e m = let z : true ≡ false = ap (λ (l : List ℕ). marked l (84 ∷ 88 ∷ [])) (sym e)
+pass-item (text-run cs) t k (a-text a l) e m =
+    let z : true ≡ false = ap (λ (l : List ℕ). marked l (84 ∷ 88 ∷ [])) (sym e)
     ∙ m in absurd (true≢false z)
 
 -- items of kept records, one list behind the other
@@ -77,7 +81,8 @@ unfolding reading take-record
 kept-items b [] qs k = refl
 kept-items b (inline x ∷ rs) qs (kept-item g k) = ap {B = Content} (λ l. x ∷ l) (kept-items false rs qs k)
 kept-items b (text-run cs ∷ rs) qs (kept-text a l k) =
-    ap (λ (l : Content). map text cs ++ l) (kept-items true rs qs k) ∙ sym (append-assoc (map text cs) (items rs) (items qs))
+    ap (λ (l : Content). map text cs ++ l) (kept-items true rs qs k)
+    ∙ sym (append-assoc (map text cs) (items rs) (items qs))
 
 -- at the offset at of c, with left of k items to pass over
 pub record Along (c : List ℕ) (k : ℕ) (rs : List Record) (at left : ℕ) : Type 0 where
@@ -107,19 +112,23 @@ no-bytes (c ∷ l) e = absurd (let y : ⊥ = omega (arith, utf8-nonempty c, leng
 
 utf8s-cut : (k : ℕ) (cs : List ℕ) → length (utf8s cs) ≡ length (utf8s (take k cs)) + length (utf8s (drop k cs))
 utf8s-cut k cs =
-    ap (λ (l : List ℕ). length (utf8s l)) (sym (take-append-drop k cs)) ∙ ap length (utf8s-append (take k cs) (drop k cs))
+    ap (λ (l : List ℕ). length (utf8s l)) (sym (take-append-drop k cs))
+    ∙ ap length (utf8s-append (take k cs) (drop k cs))
     ∙ length-append (utf8s (take k cs)) (utf8s (drop k cs))
 
 -- the items of a record that is passed over
-passed-text : (cs : List ℕ) (left l : ℕ) → passOf (text-run cs) left ≡ On l → length (items (text-run cs ∷ [])) + l ≡ left
+passed-text : (cs : List ℕ) (left l : ℕ) → passOf (text-run cs) left ≡ On l
+    → length (items (text-run cs ∷ [])) + l ≡ left
 unfolding reading take-record
 passed-text cs left l e = by (ltb (length (utf8s (take left cs))) (length (utf8s cs))) refl e
   where
     by : (b : Bool) → ltb (length (utf8s (take left cs))) (length (utf8s cs)) ≡ b
-        → cond b (Stop (length (utf8s (take left cs)))) (On (left - length cs)) ≡ On l → length (items (text-run cs ∷ [])) + l ≡ left
+        → cond b (Stop (length (utf8s (take left cs)))) (On (left - length cs)) ≡ On l
+        → length (items (text-run cs ∷ [])) + l ≡ left
     by true q f = absurd (stop-on f)
     by false q f =
-        let h : length (utf8s cs) ≤ length (utf8s (take left cs)) = ltb-false (length (utf8s (take left cs))) (length (utf8s cs)) q in
+        let h : length (utf8s cs) ≤ length (utf8s (take left cs)) =
+        ltb-false (length (utf8s (take left cs))) (length (utf8s cs)) q in
         let z : drop left cs ≡ [] =
         no-bytes (drop left cs) (let y : length (utf8s (drop left cs)) ≡ 0 = omega (arith, utf8s-cut left cs) in y) in
         let n : length (drop left cs) ≡ 0 = ap length z in
@@ -145,7 +154,8 @@ kept-back b (text-run cs ∷ rs) qs (kept-text a l k) = kept-back true rs qs k
 kept-part : (rs : List Record) (r : Record) (qs : List Record) → Kept false (rs ++ (r ∷ qs))
     → items (rs ++ (r ∷ [])) ≡ items rs ++ items (r ∷ [])
 kept-part rs r qs k =
-    kept-items false rs (r ∷ []) (kept-front false (rs ++ (r ∷ [])) qs (subst (Kept false) (sym (append-assoc rs (r ∷ []) qs)) k))
+    kept-items false rs (r ∷ [])
+    (kept-front false (rs ++ (r ∷ [])) qs (subst (Kept false) (sym (append-assoc rs (r ∷ []) qs)) k))
 
 -- what a stop says
 stop-stop : {a b : ℕ} → Stop a ≡ Stop b → a ≡ b
@@ -156,7 +166,8 @@ on-stop e = stop-on (sym e)
 
 stopped-item : (k n : ℕ) (x : Item) (rs : List Record) (left into : ℕ) → n + left ≡ k → passItem left ≡ Stop into
     → Inside k n into 0 (inline x ∷ rs)
-stopped-item k n x rs zero into h e = subst (λ (i : ℕ). Inside k n i 0 (inline x ∷ rs)) (stop-stop e) (between (omega arith))
+stopped-item k n x rs zero into h e =
+    subst (λ (i : ℕ). Inside k n i 0 (inline x ∷ rs)) (stop-stop e) (between (omega arith))
 stopped-item k n x rs (suc l) into h e = absurd (on-stop e)
 
 short : (k : ℕ) (cs : List ℕ) → length (utf8s (take k cs)) < length (utf8s cs) → k ≤ length cs
@@ -170,7 +181,8 @@ short k cs h = by (leb k (length cs)) refl
         absurd (let y : ⊥ = omega arith in y)
 
 -- the text in two, at left code points
-stopped-at : (k n : ℕ) (xs ys : List ℕ) (rs : List Record) → n + length xs ≡ k → length (utf8s xs) < length (utf8s (xs ++ ys))
+stopped-at : (k n : ℕ) (xs ys : List ℕ) (rs : List Record) → n + length xs ≡ k
+    → length (utf8s xs) < length (utf8s (xs ++ ys))
     → Inside k n (length (utf8s xs)) 0 (text-run (xs ++ ys) ∷ rs)
 unfolding utf8s gather
 stopped-at k n [] ys rs h l = between (omega arith)
@@ -178,12 +190,14 @@ stopped-at k n (x ∷ xs) [] rs h l =
     absurd (let z = ap (λ (l : List ℕ). length (utf8s (x ∷ l))) (append-nil xs) in let y : ⊥ = omega arith in y)
 stopped-at k n (x ∷ xs) (y ∷ ys) rs h l = within x xs y ys rs h
 
-stopped-text : (k n : ℕ) (cs : List ℕ) (rs : List Record) (left into : ℕ) → n + left ≡ k → passOf (text-run cs) left ≡ Stop into
+stopped-text : (k n : ℕ) (cs : List ℕ) (rs : List Record) (left into : ℕ) → n + left ≡ k
+    → passOf (text-run cs) left ≡ Stop into
     → Inside k n into 0 (text-run cs ∷ rs)
 stopped-text k n cs rs left into h e = by (ltb (length (utf8s (take left cs))) (length (utf8s cs))) refl e
   where
     by : (b : Bool) → ltb (length (utf8s (take left cs))) (length (utf8s cs)) ≡ b
-        → cond b (Stop (length (utf8s (take left cs)))) (On (left - length cs)) ≡ Stop into → Inside k n into 0 (text-run cs ∷ rs)
+        → cond b (Stop (length (utf8s (take left cs)))) (On (left - length cs)) ≡ Stop into
+        → Inside k n into 0 (text-run cs ∷ rs)
     by true q f =
         let l : length (utf8s (take left cs)) < length (utf8s cs) = ltb-true _ _ q in
         let d : take left cs ++ drop left cs ≡ cs = take-append-drop left cs in
@@ -194,7 +208,8 @@ stopped-text k n cs rs left into h e = by (ltb (length (utf8s (take left cs))) (
         (subst (λ (l : List ℕ). length (utf8s (take left cs)) < length (utf8s l)) (sym d) l)))
     by false q f = absurd (on-stop f)
 
-stopped : (k n : ℕ) (r : Record) (rs : List Record) (left into : ℕ) → n + left ≡ k → Inline r → passOf r left ≡ Stop into
+stopped : (k n : ℕ) (r : Record) (rs : List Record) (left into : ℕ) → n + left ≡ k → Inline r
+    → passOf r left ≡ Stop into
     → Inside k n into 0 (r ∷ rs)
 stopped k n (inline x) rs left into h (an-item g) e = stopped-item k n x rs left into h e
 stopped k n (text-run cs) rs left into h (a-text a l) e = stopped-text k n cs rs left into h e
@@ -232,7 +247,8 @@ along-end c k rs at left h m =
     record {
       before = m .upto .before;
       after = [];
-      parts = m .upto .all ∙ ap (λ (l : List Record). m .upto .before ++ l) (rest-end c at (m .upto .after) h (m .upto .rest));
+      parts = m .upto .all ∙ ap (λ (l : List Record). m .upto .before ++ l)
+          (rest-end c at (m .upto .after) h (m .upto .rest));
       offset = m .upto .offset;
       inside = over (m .count);
     }
@@ -245,7 +261,8 @@ begins-least t (r, s, g, e) = let l : length t ≡ length (record-bytes r ++ s) 
 pub one-least : (t : List ℕ) → One t → 4 ≤ length t
 one-least t (r, g, e) = let l : length t ≡ length (record-bytes r) = ap length e in omega (arith, inline-least r g)
 
-text-passed : (p : Points) (n k : ℕ) (cs : List ℕ) → p .bytes ≡ length (utf8s (take k cs)) → p .left ≡ k - length cs → n ≡ length (utf8s cs)
+text-passed : (p : Points) (n k : ℕ) (cs : List ℕ) → p .bytes ≡ length (utf8s (take k cs)) → p .left ≡ k - length cs
+    → n ≡ length (utf8s cs)
     → passText p n ≡ passOf (text-run cs) k
 text-passed p n k cs a b e = rw (a, b, e)
 
@@ -254,7 +271,8 @@ pub text-behind : (t : List ℕ) → One t → marked t (84 ∷ 88 ∷ []) ≡ t
 text-behind t (r, g, e) m = let (x, bytes, size) = marked-text r t g e m in (x .points, x .allowed, bytes)
 
 -- the record t met: a text, by what is passed over of it; an item
-pub met-text : (r : Record) (t : List ℕ) (k : ℕ) (p : Points) → Inline r → t ≡ record-bytes r → marked t (84 ∷ 88 ∷ []) ≡ true
+pub met-text : (r : Record) (t : List ℕ) (k : ℕ) (p : Points) → Inline r → t ≡ record-bytes r
+    → marked t (84 ∷ 88 ∷ []) ≡ true
     → PassedOver (drop 4 t) k p → passText p (length t - 4) ≡ passOf r k
 met-text r t k p g e m passes =
     let (x, bytes, size) = marked-text r t g e m in

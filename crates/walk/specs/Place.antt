@@ -27,7 +27,8 @@ passOf (opening c) k = Stop 0
 passOf closing k = Stop 0
 passOf (part-head h) k = Stop 0
 passOf (target-head q) k = Stop 0
-passOf (text-run cs) k = passText (record { bytes = length (utf8s (take k cs)); left = k - length cs }) (length (utf8s cs))
+passOf (text-run cs) k =
+    passText (record { bytes = length (utf8s (take k cs)); left = k - length cs }) (length (utf8s cs))
 passOf (inline x) k = passItem k
 passOf ill-text k = Stop 0
 passOf (broken b) k = Stop 0

@@ -1,3 +1,4 @@
+use Prim.Native.Nat.{_+_, _≤_}
 use native.Mathlib.Omega.{arith}
 use mathlib.Core.Path.{ap, _∙_}
 use lib.ListN.{length}
@@ -24,45 +25,33 @@ returns c =
     parted-at (args .cut) (args .c .now) xs (place-of .result) o (place-of .ensures (content-records xs) o)
     .apart (c .if1 .taken)
 
--- place.at + marks::TEXT_WIDTH
-add-behind : tie.Need-add-behind
-add-behind c =
+-- where the item behind the cut stands inside a text, its bytes begin within the content
+behind-fits : (c : tie.After-struct-known2)
+    → c .before .before .before .place-of .result .at + 4 + c .before .before .before .place-of .result .into
+    ≤ length (c .before .before .before .before .before .args .c .now)
+behind-fits c =
     let start = c .before .before .before .before .before in
     let args = start .args in
     let (xs, o) = start .pre in
     let place-of = c .before .before .before .place-of in
-    let parted = parted-at (args .cut) (args .c .now) xs (place-of .result) o (place-of .ensures (content-records xs) o) in
-    omega (arith, parted .fits (omega arith))
+    parted-at (args .cut) (args .c .now) xs (place-of .result) o (place-of .ensures (content-records xs) o)
+    .fits (omega arith)
+
+-- place.at + marks::TEXT_WIDTH
+add-behind : tie.Need-add-behind
+add-behind c = omega (arith, behind-fits c)
 
 -- .. + place.into
 add-behind-2 : tie.Need-add-behind-2
-add-behind-2 c =
-    let start = c .before .before .before .before .before .before in
-    let args = start .args in
-    let (xs, o) = start .pre in
-    let place-of = c .before .before .before .before .place-of in
-    let parted = parted-at (args .cut) (args .c .now) xs (place-of .result) o (place-of .ensures (content-records xs) o) in
-    omega (arith, parted .fits (omega arith))
+add-behind-2 c = omega (arith, behind-fits (c .before))
 
 -- &c[behind..]
 sub-char-of : tie.Need-sub-char-of
-sub-char-of c =
-    let start = c .before .before .before .before .before .before in
-    let args = start .args in
-    let (xs, o) = start .pre in
-    let place-of = c .before .before .before .before .place-of in
-    let parted = parted-at (args .cut) (args .c .now) xs (place-of .result) o (place-of .ensures (content-records xs) o) in
-    omega (arith, parted .fits (omega arith))
+sub-char-of c = omega (arith, behind-fits (c .before))
 
 -- the same
 part-char-of-start : tie.Need-part-char-of-start
-part-char-of-start c =
-    let start = c .before .before .before .before .before .before in
-    let args = start .args in
-    let (xs, o) = start .pre in
-    let place-of = c .before .before .before .before .place-of in
-    let parted = parted-at (args .cut) (args .c .now) xs (place-of .result) o (place-of .ensures (content-records xs) o) in
-    omega (arith, parted .fits (omega arith))
+part-char-of-start c = omega (arith, behind-fits (c .before))
 
 -- is_accent(text::char_of(&c[behind..]))
 returns-2 : tie.Need-returns-2
@@ -72,8 +61,10 @@ returns-2 c =
     let args = start .args in
     let place-of = after-if1 .before .before .place-of in
     λ xs o.
-    let parted = parted-at (args .cut) (args .c .now) xs (place-of .result) o (place-of .ensures (content-records xs) o) in
-    c .is-accent .ensures ∙ ap accentOf (simp tail-is at (c .before .char-of .ensures)) ∙ parted .together (omega arith)
+    c .is-accent .ensures
+    ∙ ap accentOf (simp tail-is at (c .before .char-of .ensures))
+    ∙ parted-at (args .cut) (args .c .now) xs (place-of .result) o (place-of .ensures (content-records xs) o)
+    .together (omega arith)
 
 pub parts-accent-spec : {M : Type 1} → statement M
 parts-accent-spec =

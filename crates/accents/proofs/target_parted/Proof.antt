@@ -41,8 +41,11 @@ parts-accent-requires c κs =
     let t = args .t .now in
     let known = c .before .before .before .shared-slice-known .given in
     let (v, st) = start .pre in
-    let (b, p, a, s) = st in
-    (target-items (p .target), target-there t (bytes-known t known) b p a (args .place) s (c .before .before .if1 .taken) .holds)
+    let (b, p, a, s) = st in (
+      target-items (p .target),
+      target-there t (bytes-known t known) b p a (args .place) s
+          (c .before .before .if1 .taken) .holds,
+    )
 
 -- return parts_accent(&t[from..to], cut)
 returns : tie.Need-returns

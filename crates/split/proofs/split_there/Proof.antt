@@ -15,12 +15,17 @@ returns : tie.Need-returns
 returns c =
     let start = c .before .before .before .before in
     let args = start .args in
+    let table = args .table .now in
+    let n = args .n in
+    let source-cut = args .source-cut in
+    let target-cut = args .target-cut in
+    let id = args .id in
     let out = args .out .now in
     let (v, st) = start .pre in
     let (b, p, a, h, s) = st in
     let closed = sym (c .before .is-closed .ensures b p a s) ∙ c .if1 .taken in
     answers-refused _ 12 0 out
-    (refused-12 (args .table .now) (args .n) (args .source-cut) (args .target-cut) (args .id) (length out) v b p a h closed)
+    (refused-12 table n source-cut target-cut id (length out) v b p a h closed)
 
 -- return Answer::Refused(13, 0)
 returns-2 : tie.Need-returns-2
@@ -28,13 +33,18 @@ returns-2 c =
     let after-closed = c .before .before in
     let start = after-closed .before .before .before .before in
     let args = start .args in
+    let table = args .table .now in
+    let n = args .n in
+    let source-cut = args .source-cut in
+    let target-cut = args .target-cut in
+    let id = args .id in
     let out = args .out .now in
     let (v, st) = start .pre in
     let (b, p, a, h, s) = st in
     let not-closed = sym (after-closed .before .is-closed .ensures b p a s) ∙ after-closed .if1 .left in
     let bad = sym (c .before .is-bad-cut .ensures b p a s) ∙ c .if2 .taken in
     answers-refused _ 13 0 out
-    (refused-13 (args .table .now) (args .n) (args .source-cut) (args .target-cut) (args .id) (length out) v b p a h not-closed bad)
+    (refused-13 table n source-cut target-cut id (length out) v b p a h not-closed bad)
 
 -- part_refusals::is_taken(table, id)
 is-taken-requires : tie.Need-is-taken-requires
@@ -52,6 +62,11 @@ returns-3 c =
     let after-closed = after-cuts .before .before in
     let start = after-closed .before .before .before .before in
     let args = start .args in
+    let table = args .table .now in
+    let n = args .n in
+    let source-cut = args .source-cut in
+    let target-cut = args .target-cut in
+    let id = args .id in
     let out = args .out .now in
     let (v, st) = start .pre in
     let (b, p, a, h, s) = st in
@@ -59,7 +74,7 @@ returns-3 c =
     let cuts = sym (after-cuts .before .is-bad-cut .ensures b p a s) ∙ after-cuts .if2 .left in
     let parted = sym (c .before .before .is-accent-parted .ensures b p a s) ∙ c .if3 .taken in
     answers-refused _ 23 0 out
-    (refused-23 (args .table .now) (args .n) (args .source-cut) (args .target-cut) (args .id) (length out) v b p a h not-closed cuts parted)
+    (refused-23 table n source-cut target-cut id (length out) v b p a h not-closed cuts parted)
 
 -- return Answer::Refused(14, 0)
 returns-4 : tie.Need-returns-4
@@ -69,6 +84,11 @@ returns-4 c =
     let after-closed = after-cuts .before .before in
     let start = after-closed .before .before .before .before in
     let args = start .args in
+    let table = args .table .now in
+    let n = args .n in
+    let source-cut = args .source-cut in
+    let target-cut = args .target-cut in
+    let id = args .id in
     let out = args .out .now in
     let (v, st) = start .pre in
     let (b, p, a, h, s) = st in
@@ -77,8 +97,7 @@ returns-4 c =
     let whole = sym (after-parted .before .before .is-accent-parted .ensures b p a s) ∙ after-parted .if3 .left in
     let taken = sym (after-parted .before .is-taken .ensures) ∙ c .if4 .taken in
     answers-refused _ 14 0 out
-    (refused-14 (args .table .now) (args .n) (args .source-cut) (args .target-cut) (args .id) (length out) v b p a h not-closed cuts
-    whole taken)
+    (refused-14 table n source-cut target-cut id (length out) v b p a h not-closed cuts whole taken)
 
 -- return Answer::Refused(15, 0)
 returns-5 : tie.Need-returns-5
@@ -89,6 +108,11 @@ returns-5 c =
     let after-closed = after-cuts .before .before in
     let start = after-closed .before .before .before .before in
     let args = start .args in
+    let table = args .table .now in
+    let n = args .n in
+    let source-cut = args .source-cut in
+    let target-cut = args .target-cut in
+    let id = args .id in
     let out = args .out .now in
     let (v, st) = start .pre in
     let (b, p, a, h, s) = st in
@@ -98,8 +122,7 @@ returns-5 c =
     let free = sym (after-parted .before .is-taken .ensures) ∙ after-taken .if4 .left in
     let large = sym (c .before .is-too-large .ensures) ∙ c .if5 .taken in
     answers-refused _ 15 0 out
-    (refused-15 (args .table .now) (args .n) (args .source-cut) (args .target-cut) (args .id) (length out) v b p a h not-closed cuts
-    whole free large)
+    (refused-15 table n source-cut target-cut id (length out) v b p a h not-closed cuts whole free large)
 
 -- split_result::put_split(out, table, place, source_cut, target_cut, id)
 put-split-requires : tie.Need-put-split-requires
@@ -110,7 +133,8 @@ put-split-requires c κs =
     let n = args .n in (
       n,
       start .pre,
-      fits (length (args .out .now)) (split-unit (unit (args .table .now)) n (args .source-cut) (args .target-cut) (args .id))
+      fits (length (args .out .now))
+          (split-unit (unit (args .table .now)) n (args .source-cut) (args .target-cut) (args .id))
           (sym (c .before .before .is-too-large .ensures) ∙ c .before .if5 .left),
     )
 
@@ -124,6 +148,11 @@ returns-6 c =
     let after-closed = after-cuts .before .before in
     let start = after-closed .before .before .before .before in
     let args = start .args in
+    let table = args .table .now in
+    let n = args .n in
+    let source-cut = args .source-cut in
+    let target-cut = args .target-cut in
+    let id = args .id in
     let out = args .out .now in
     let put-split = c .before .before .put-split in
     let (v, st) = start .pre in
@@ -133,11 +162,10 @@ returns-6 c =
     let whole = sym (after-parted .before .before .is-accent-parted .ensures b p a s) ∙ after-parted .if3 .left in
     let free = sym (after-parted .before .is-taken .ensures) ∙ after-taken .if4 .left in
     let small = sym (after-large .before .is-too-large .ensures) ∙ after-large .if5 .left in
-    let written = put-split .ensures (args .n) (start .pre) in
-    answers-result _ (encode (split-unit (unit (args .table .now)) (args .n) (args .source-cut) (args .target-cut) (args .id)))
-    (put-split .result) out (put-split .last .0)
-    (done (args .table .now) (args .n) (args .source-cut) (args .target-cut) (args .id) (length out) v b p a h not-closed cuts whole
-    free small) (written .0) (written .1)
+    let written = put-split .ensures n (start .pre) in
+    answers-result _ (encode (split-unit (unit table) n source-cut target-cut id)) (put-split .result) out (put-split .last .0)
+    (done table n source-cut target-cut id (length out) v b p a h not-closed cuts whole free small)
+    (written .0) (written .1)
 
 pub split-there-spec : {M : Type 1} → statement M
 split-there-spec =

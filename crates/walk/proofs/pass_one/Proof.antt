@@ -75,7 +75,8 @@ returns-3 c =
     let args = c .before .before .before .before .before .args in
     let marked-by = c .before .before .marked-by in
     let if1 = c .before .if1 .left in
-    λ r g e. sym (pass-item r (args .t .now) (args .k) g e (sym (marked-by .ensures) ∙ if1) ∙ pass-some (args .k) (omega arith))
+    λ r g e. sym (pass-item r (args .t .now) (args .k) g e (sym (marked-by .ensures) ∙ if1)
+    ∙ pass-some (args .k) (omega arith))
 
 pub pass-one-spec : {M : Type 1} → statement M
 pass-one-spec =

@@ -102,7 +102,8 @@ one-more i new ps f a z t = by (eqb new 0) (eqb new i) refl t
     by false false e k = omega arith
     by false true e k = let q : sum (f i) ps ≡ 0 = subst (λ (j : ℕ). sum (f j) ps ≡ 0) (eqb-true new i e) (z k) in omega arith
 
-split-6 : (source-cut target-cut new : ℕ) (b : List Part) (p : Part) (a : List Part) → id-taken (b ++ (p ∷ a)) new ≡ false → Rule6 (b ++ (p ∷ a))
+split-6 : (source-cut target-cut new : ℕ) (b : List Part) (p : Part) (a : List Part) → id-taken (b ++ (p ∷ a)) new ≡ false
+    → Rule6 (b ++ (p ∷ a))
     → Rule6 (split-focus source-cut target-cut new (b ++ (p ∷ a)) (here b p a))
 unfolding split-focus first-half second-half
 split-6 source-cut target-cut new b p a t r =
@@ -166,7 +167,8 @@ split-good source-cut target-cut new b p a h =
     (orders-good f a ga)))
 
 -- An accepted split
-pub split-accepted : (t : List ℕ) (n source-cut target-cut new room : ℕ) (r : List ℕ) → Bytes t → split t n source-cut target-cut new room ≡ result r
+pub split-accepted : (t : List ℕ) (n source-cut target-cut new room : ℕ) (r : List ℕ) → Bytes t
+    → split t n source-cut target-cut new room ≡ result r
     → Accepted t (split-unit (unit t) n source-cut target-cut new) r
 unfolding split split-unit split-focus with-parts split-refusal fault-6-to-10 Valid
 split-accepted t n source-cut target-cut new room r bt e =
@@ -183,7 +185,8 @@ split-accepted t n source-cut target-cut new room r bt e =
     v : Focus → XliffUnit
     v f = with-parts u (split-focus source-cut target-cut new (u .parts) f)
 
-    whole : (b : List Part) (p : Part) (a : List Part) → u .parts ≡ b ++ (p ∷ a) → focus (u .parts) n ≡ here b p a → id-taken (u .parts) new ≡ false
+    whole : (b : List Part) (p : Part) (a : List Part) → u .parts ≡ b ++ (p ∷ a) → focus (u .parts) n ≡ here b p a
+        → id-taken (u .parts) new ≡ false
         → Sent u → Sent (v (here b p a))
     whole b p a at k taken h =
         let ps : List Part = u .parts in
@@ -224,7 +227,8 @@ split-accepted t n source-cut target-cut new room r bt e =
       where
         listed : (b : List Part) (p : Part) (a : List Part) (x : Part) (xs : List Part)
             → order-parts (split-order (p .target)) b ++
-            (first-half source-cut target-cut p ∷ second-half source-cut target-cut new p ∷ order-parts (split-order (p .target)) a) ≡ x ∷ xs
+            (first-half source-cut target-cut p ∷ second-half source-cut target-cut new p ∷ order-parts
+            (split-order (p .target)) a) ≡ x ∷ xs
             → split-focus source-cut target-cut new (u .parts) (here b p a) ≡ x ∷ xs
         listed b p a x xs e = e
 

@@ -51,10 +51,18 @@ spelled-utf8 c t h = one (ltb c 0x80) refl
     three : (b : Bool) → ltb c 0x10000 ≡ b → 0x800 ≤ c → spelled (cond b (utf8-3 c) (utf8-4 c) ++ t) ≡ c
     three true e l =
         let u : c < 0x10000 = ltb-true c 0x10000 e in
-        rw (le-ltb (0xE0 + c / 4096) 0x80 (omega arith), le-ltb (0xE0 + c / 4096) 0xE0 (omega arith), lt-ltb (0xE0 + c / 4096) 0xF0 (omega arith)) (omega arith)
+        rw (
+          le-ltb (0xE0 + c / 4096) 0x80 (omega arith),
+          le-ltb (0xE0 + c / 4096) 0xE0 (omega arith),
+          lt-ltb (0xE0 + c / 4096) 0xF0 (omega arith),
+        ) (omega arith)
     three false e l =
         let u : 0x10000 ≤ c = ltb-false c 0x10000 e in
-        rw (le-ltb (0xF0 + c / 262144) 0x80 (omega arith), le-ltb (0xF0 + c / 262144) 0xE0 (omega arith), le-ltb (0xF0 + c / 262144) 0xF0 (omega arith)) (omega (arith, sixes c))
+        rw (
+          le-ltb (0xF0 + c / 262144) 0x80 (omega arith),
+          le-ltb (0xF0 + c / 262144) 0xE0 (omega arith),
+          le-ltb (0xF0 + c / 262144) 0xF0 (omega arith),
+        ) (omega (arith, sixes c))
 
     two : (b : Bool) → ltb c 0x800 ≡ b → 0x80 ≤ c → spelled (cond b (utf8-2 c) (cond (ltb c 0x10000) (utf8-3 c) (utf8-4 c)) ++ t) ≡ c
     two true e l =
@@ -72,7 +80,8 @@ unfolding allowed-first begins-with
 allowed-first-utf8 c t p = rw (spelled-utf8 c t (allowed-bound c p), p, take-append-seam (utf8 c) t, equal-refl (utf8 c))
 
 -- one step of reading a text
-code-points-step : (n c : ℕ) (s : List ℕ) → allowed-first s ≡ some c → code-points (suc n) s ≡ prepend c (code-points n (drop (length (utf8 c)) s))
+code-points-step : (n c : ℕ) (s : List ℕ) → allowed-first s ≡ some c
+    → code-points (suc n) s ≡ prepend c (code-points n (drop (length (utf8 c)) s))
 unfolding code-points allowed-first begins-with xml-allows spelled between
 code-points-step n c [] e = absurd (none-some e)
 code-points-step n c (b ∷ s) e = rw (e, code-points)
@@ -114,13 +123,15 @@ pub allowed-first-some : (s : List ℕ) (c : ℕ) → allowed-first s ≡ some c
 unfolding allowed-first begins-with
 allowed-first-some s c e = by (begins-with s (spelled s)) refl e
   where
-    by : (b : Bool) → begins-with s (spelled s) ≡ b → cond b (some (spelled s)) none ≡ some c → (xml-allows c ≡ true) × (s ≡ utf8 c ++ drop (length (utf8 c)) s)
+    by : (b : Bool) → begins-with s (spelled s) ≡ b → cond b (some (spelled s)) none ≡ some c
+        → (xml-allows c ≡ true) × (s ≡ utf8 c ++ drop (length (utf8 c)) s)
     by true t f =
         let q : spelled s ≡ c = cc in
         let t′ : xml-allows c && equal (utf8 c) (take (length (utf8 c)) s) ≡ true = rw q at t in (
           and-left _ _ t′,
           sym (take-append-drop (length (utf8 c)) s)
-              ∙ ap (λ (l : List ℕ). l ++ drop (length (utf8 c)) s) (sym (equal-true (utf8 c) (take (length (utf8 c)) s) (and-right (xml-allows c) _ t′))),
+              ∙ ap (λ (l : List ℕ). l ++ drop (length (utf8 c)) s)
+              (sym (equal-true (utf8 c) (take (length (utf8 c)) s) (and-right (xml-allows c) _ t′))),
         )
     by false t f = let z : Path (Option ℕ) none (some c) = f in absurd (none-some z)
 
@@ -142,7 +153,8 @@ code-points-some (suc n) (b ∷ s) cs e = by (λ t ds p. code-points-some n t ds
     IH : Type 0
     IH = (t ds : List ℕ) → code-points n t ≡ some ds → (utf8s ds ≡ t) × Allowed ds
 
-    more : IH → (c : ℕ) → allowed-first (b ∷ s) ≡ some c → (o : Option (List ℕ)) → code-points n (rest c) ≡ o → prepend c o ≡ some cs → (utf8s cs ≡ b ∷ s) × Allowed cs
+    more : IH → (c : ℕ) → allowed-first (b ∷ s) ≡ some c → (o : Option (List ℕ)) → code-points n (rest c) ≡ o
+        → prepend c o ≡ some cs → (utf8s cs ≡ b ∷ s) × Allowed cs
     more ih c q none p f = absurd (none-some f)
     more ih c q (some ds) p f =
         let r : cs ≡ c ∷ ds = cc in

@@ -31,7 +31,8 @@ loop-again c =
       omega arith,
       omega (arith, byte),
       more
-          ∙ ap (λ (b : ℕ). loop .n + b + leads (64 - (loop .i + 1)) (drop (args .at + (loop .i + 1)) (args .t .now))) (sym (byte .0)),
+          ∙ ap (λ (b : ℕ). loop .n + b + leads (64 - (loop .i + 1)) (drop (args .at + (loop .i + 1)) (args .t .now)))
+          (sym (byte .0)),
     )
 
 -- `n as usize`
@@ -39,7 +40,8 @@ returns : tie.Need-returns Inv-loop μ-loop
 returns c =
     let args = c .before .before .before .args in
     let loop = c .before .loop in
-    leads-end (args .t .now) (args .at) (loop .i) (loop .n) (leads 64 (drop (args .at) (args .t .now))) (c .loop-test .left) (loop .inv .2)
+    leads-end (args .t .now) (args .at) (loop .i) (loop .n) (leads 64 (drop (args .at) (args .t .now)))
+    (c .loop-test .left) (loop .inv .2)
 
 pub leads-in-spec : {M : Type 1} → statement M
 leads-in-spec =

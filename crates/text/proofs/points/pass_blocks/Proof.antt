@@ -29,7 +29,8 @@ loop-again c =
     let count = c .before .leads-in .ensures in (
       omega arith,
       sought-on (args .t .now) (loop .at) (loop .left) 64 _ (omega arith) (omega (arith, count)) (loop .inv .1)
-          ∙ ap (λ (n : ℕ). further (loop .at + 64) (sought (drop (loop .at + 64) (args .t .now)) (loop .left - n))) (sym count),
+          ∙ ap (λ (n : ℕ). further (loop .at + 64) (sought (drop (loop .at + 64) (args .t .now)) (loop .left - n)))
+          (sym count),
     )
 
 -- fewer than 64 bytes are left

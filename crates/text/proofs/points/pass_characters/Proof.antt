@@ -11,7 +11,8 @@ use Rattle.text.proofs.points.pass_characters.Statement.{statement}
 use Rattle.text.proofs.points.pass_characters.Tie as tie
 
 abbrev Inv-loop : tie.InvT-loop
-Inv-loop t from k at₀ left₀ at left = (at ≤ length t) × (further from (sought (drop from t) k) ≡ further at (sought (drop at t) left))
+Inv-loop t from k at₀ left₀ at left =
+    (at ≤ length t) × (further from (sought (drop from t) k) ≡ further at (sought (drop at t) left))
 
 abbrev μ-loop : tie.MeasureT-loop
 μ-loop t from k at₀ left₀ at left = length t - at
