@@ -1,5 +1,5 @@
 -- What a cut at a place of a content parts.
-use Prim.Native.Nat.{ℕ, zero, suc, _+_, _<_, _≤_}
+use Prim.Native.Nat.{ℕ, _+_, _≤_}
 use mathlib.Core.Path.{_≡_, refl, sym, ap, ap₂, _∙_, subst}
 use mathlib.Core.Bool.{Bool, true, false, _&&_}
 use mathlib.Core.List.{List, [], _∷_, _++_, map, append-nil, append-assoc}
@@ -10,7 +10,7 @@ use Rattle.xliff.specs.Text.{is-accent, utf8, utf8s}
 use Rattle.xliff.specs.Item.{Item, Content, text, character, standalone, isolated, pair, annotation-start, annotation-end}
 use Rattle.xliff.specs.Encode.{Record, text-run, inline, spell, content-records}
 use Rattle.xliff.specs.Parse.{reading, take-record}
-use Rattle.xliff.specs.Split.{is-text, is-accent-item, first-is, last-is, parts-accent, accent-parted}
+use Rattle.xliff.specs.Split.{is-text, is-accent-item, first-is, last-is, cuts-off-accent}
 use Rattle.xliff.specs.Good.{Allowed, one-point, GoodItem}
 use Rattle.xliff.proofs.lists.Tests.{and-true, and-false}
 use Rattle.text.specs.Utf8.{charOf}
@@ -23,10 +23,10 @@ use Rattle.cut.proofs.HalfLaws.{items-of, halves-taken, halves-dropped, taken, 
 use Rattle.accents.specs.Accents.{accentOf}
 
 -- the first items, and the last ones
-parts-by : (k : ℕ) (xs before behind : Content) → drop k xs ≡ behind → take k xs ≡ before
-    → parts-accent k xs ≡ first-is is-accent-item behind && last-is is-text before
-unfolding parts-accent
-parts-by k xs before behind d t = ap₂ (λ (u v : Content). first-is is-accent-item u && last-is is-text v) d t
+cuts-off-by : (k : ℕ) (xs before behind : Content) → drop k xs ≡ behind → take k xs ≡ before
+    → cuts-off-accent k xs ≡ first-is is-accent-item behind && last-is is-text before
+unfolding cuts-off-accent
+cuts-off-by k xs before behind d t = ap₂ (λ (u v : Content). first-is is-accent-item u && last-is is-text v) d t
 
 last-append : (test : Item → Bool) (xs : Content) (y : Item) (ys : Content)
     → last-is test (xs ++ (y ∷ ys)) ≡ last-is test (y ∷ ys)
@@ -85,10 +85,10 @@ before-text b (text-run ds ∷ a) cs rs (kept-text h l k) = between-texts ds a c
 -- A CUT BETWEEN TWO RECORDS parts nothing, and so does one behind the last item
 between-records : (k : ℕ) (a : List Record) (r : Record) (rs : List Record) → Kept false (a ++ (r ∷ rs))
     → length (items a) ≡ k
-    → parts-accent k (items (a ++ (r ∷ rs))) ≡ false
+    → cuts-off-accent k (items (a ++ (r ∷ rs))) ≡ false
 unfolding first-is is-accent-item reading take-record
 between-records k a r rs kept e =
-    parts-by k (items (a ++ (r ∷ rs))) (items a) (items (r ∷ rs)) (halves-dropped k a (r ∷ rs) kept e)
+    cuts-off-by k (items (a ++ (r ∷ rs))) (items a) (items (r ∷ rs)) (halves-dropped k a (r ∷ rs) kept e)
     (halves-taken k a (r ∷ rs) kept e)
     ∙ by r (kept-back false a (r ∷ rs) kept .0) (kept-back false a (r ∷ rs) kept .1) kept
   where
@@ -99,18 +99,18 @@ between-records k a r rs kept e =
         ap (λ (z : Bool). first-is is-accent-item (items (text-run cs ∷ rs)) && z) (before-text false a cs rs kept)
         ∙ and-false (first-is is-accent-item (items (text-run cs ∷ rs)))
 
-pub behind-all : (k : ℕ) (xs : Content) → length xs ≤ k → parts-accent k xs ≡ false
+pub behind-all : (k : ℕ) (xs : Content) → length xs ≤ k → cuts-off-accent k xs ≡ false
 unfolding first-is
-behind-all k xs h = parts-by k xs (take k xs) [] (drop-of-length-le xs {i = k} h) refl
+behind-all k xs h = cuts-off-by k xs (take k xs) [] (drop-of-length-le xs {i = k} h) refl
 
 -- INSIDE A TEXT it parts an accent exactly where the code point behind it is one
 module _ (k u : ℕ) (us : List ℕ) (v : ℕ) (vs : List ℕ) (a rs : List Record)
     (kept : Kept false (a ++ (text-run ((u ∷ us) ++ (v ∷ vs)) ∷ rs)))
     (count : length (items a) + length (u ∷ us) ≡ k) where
-  inside-text : parts-accent k (items (a ++ (text-run ((u ∷ us) ++ (v ∷ vs)) ∷ rs))) ≡ is-accent v
+  inside-text : cuts-off-accent k (items (a ++ (text-run ((u ∷ us) ++ (v ∷ vs)) ∷ rs))) ≡ is-accent v
   unfolding first-is is-accent-item
   inside-text =
-      parts-by k (items (a ++ (text-run ((u ∷ us) ++ (v ∷ vs)) ∷ rs))) (items a ++ map text (u ∷ us))
+      cuts-off-by k (items (a ++ (text-run ((u ∷ us) ++ (v ∷ vs)) ∷ rs))) (items a ++ map text (u ∷ us))
       (map text (v ∷ vs) ++ items rs)
       (dropped k u us v vs a rs kept count) (taken k u us v vs a rs kept count)
       ∙ ap (λ (z : Bool). is-accent v && z) (last-append is-text (items a) (text u) (map text us) ∙ texts-last u us)
@@ -132,9 +132,9 @@ decoded-there v vs s t (one-point h a) e =
 
 -- AS THE CODE MEETS IT, by the place of the item behind the cut
 pub record PartedAt (k : ℕ) (c : List ℕ) (xs : Content) (at into : ℕ) : Type 0 where
-  pub apart : into ≡ 0 → false ≡ parts-accent k xs
+  pub apart : into ≡ 0 → false ≡ cuts-off-accent k xs
   pub fits : 1 ≤ into → at + 4 + into ≤ length c
-  pub together : 1 ≤ into → accentOf (charOf (drop (at + 4 + into) c)) ≡ parts-accent k xs
+  pub together : 1 ≤ into → accentOf (charOf (drop (at + 4 + into) c)) ≡ cuts-off-accent k xs
 
 parted-by : (k : ℕ) (c : List ℕ) (at into left : ℕ) (a b : List Record) → Of c (a ++ b) → at ≡ length (spell a)
     → Inside k (length (items a)) into left b → PartedAt k c (items (a ++ b)) at into

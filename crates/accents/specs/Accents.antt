@@ -5,7 +5,7 @@ use mathlib.Core.Bool.{Bool, false}
 use mathlib.Core.List.{List}
 use Rattle.xliff.specs.Item.{Content}
 use Rattle.xliff.specs.Unit.{Part, target-items}
-use Rattle.xliff.specs.Split.{parts-accent, accent-parted}
+use Rattle.xliff.specs.Split.{cuts-off-accent, accent-parted}
 use Rattle.text.specs.declared.Char.{Char}
 use Rattle.text.specs.declared.Char.the-variants.{Point, Bad}
 use Rattle.walk.specs.Kept.{Holds}
@@ -17,18 +17,18 @@ accentOf (Point c w a) = a
 accentOf Bad = false
 
 -- the answer for bytes c, whatever content they are of
-abbrev pub PartsAccentIs : List ℕ → ℕ → Bool → Type 0
-PartsAccentIs c k r = (xs : Content) → Holds c xs → r ≡ parts-accent k xs
+abbrev pub CutsOffAccentIs : List ℕ → ℕ → Bool → Type 0
+CutsOffAccentIs c k r = (xs : Content) → Holds c xs → r ≡ cuts-off-accent k xs
 
 -- and for the part at a place
 abbrev pub SourcePartedIs : List ℕ → PartPlace → ℕ → Bool → Type 0
 SourcePartedIs t place k r =
-    (b : List Part) (p : Part) (a : List Part) → PartStands t b p a place → r ≡ parts-accent k (p .source)
+    (b : List Part) (p : Part) (a : List Part) → PartStands t b p a place → r ≡ cuts-off-accent k (p .source)
 
 abbrev pub TargetPartedIs : List ℕ → PartPlace → ℕ → Bool → Type 0
 TargetPartedIs t place k r =
     (b : List Part) (p : Part) (a : List Part) → PartStands t b p a place
-    → r ≡ parts-accent k (target-items (p .target))
+    → r ≡ cuts-off-accent k (target-items (p .target))
 
 abbrev pub AccentPartedIs : List ℕ → PartPlace → ℕ → ℕ → Bool → Type 0
 AccentPartedIs t place source-cut target-cut r =

@@ -5,7 +5,7 @@ use text::Char;
 ghost use mathlib.Core.Path.{_≡_};
 ghost use Rattle.cut.specs.Halves.{Some};
 ghost use Rattle.part_at.specs.Stands.{Checked};
-ghost use Rattle.accents.specs.Accents.{accentOf, PartsAccentIs, SourcePartedIs, TargetPartedIs, AccentPartedIs};
+ghost use Rattle.accents.specs.Accents.{accentOf, CutsOffAccentIs, SourcePartedIs, TargetPartedIs, AccentPartedIs};
 
 // Whether what the decoder found is an accent.
 fn is_accent(found: Char) -> bool
@@ -19,9 +19,9 @@ fn is_accent(found: Char) -> bool
 
 // Whether a cut of a content parts an accent from the text before it. Both then stand in one text: no text stands
 // directly behind another.
-fn parts_accent(c: &[u8], cut: usize) -> bool
+fn cuts_off_accent(c: &[u8], cut: usize) -> bool
     requires { ⌜ Some (now c) ⌝ }
-    ensures { λ r. ⌜ PartsAccentIs (now (c .entry)) cut r ⌝ }
+    ensures { λ r. ⌜ CutsOffAccentIs (now (c .entry)) cut r ⌝ }
 {
     let place = walk::place_of(c, cut);
     if place.into == 0 {
@@ -37,7 +37,7 @@ fn source_parted(t: &[u8], place: PartPlace, cut: usize) -> bool
 {
     let from = place.source;
     let to = place.target;
-    parts_accent(&t[from..to], cut)
+    cuts_off_accent(&t[from..to], cut)
 }
 
 // The target is looked at only where there is one.
@@ -48,7 +48,7 @@ fn target_parted(t: &[u8], place: PartPlace, cut: usize) -> bool
     if place.has_target {
         let from = place.target + marks::TARGET_WIDTH;
         let to = place.end;
-        return parts_accent(&t[from..to], cut);
+        return cuts_off_accent(&t[from..to], cut);
     }
     false
 }

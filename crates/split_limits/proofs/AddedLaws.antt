@@ -1,28 +1,26 @@
 -- The records that a cut adds to a content, to a target and to a part.
 use Prim.Native.Nat.{ℕ, zero, suc, _+_, _*_, _≤_}
 use mathlib.Core.Path.{_≡_, refl, sym, ap, ap₂, _∙_, subst}
-use mathlib.Core.Bool.{Bool, true, false}
-use mathlib.Core.List.{List, [], _∷_, _++_, map, append-assoc, append-nil}
+use mathlib.Core.Bool.{true, false}
+use mathlib.Core.List.{List, [], _∷_, _++_, map, append-nil}
 use native.Mathlib.Omega.{arith}
 use lib.ListN.{length, take, drop, length-append, drop-of-length-le}
-use lib.Seq.{take-at, drop-at, take-all}
+use lib.Seq.{take-all}
 use Rattle.xliff.specs.Bytes.{two, gather}
 use Rattle.xliff.specs.Text.{utf8, utf8s}
 use Rattle.xliff.specs.Item.{Content, text}
 use Rattle.xliff.specs.Unit.{Target, no-target, target, Part, target-items}
-use Rattle.xliff.specs.Encode.{Record, text-run, inline, record-bytes, head-bytes, spell, content-records, content-bytes, target-records, part-records}
+use Rattle.xliff.specs.Encode.{Record, text-run, record-bytes, head-bytes, spell, content-records, content-bytes, target-records, part-records}
 use Rattle.xliff.specs.Parse.{reading, take-record}
 use Rattle.xliff.specs.Split.{cut-item, first-items, second-items, first-target, second-target, first-half, second-half}
-use Rattle.xliff.proofs.lists.Tests.{map-append}
-use Rattle.xliff.specs.Good.{Allowed, no-text, one-point}
-use Rattle.walk.specs.Kept.{Kept, kept-end, kept-item, kept-text, Holds, items}
+use Rattle.walk.specs.Kept.{Kept, kept-end, Holds, items}
 use Rattle.walk.specs.Place.{Inside, over, between, within, Parted}
 use Rattle.walk.specs.declared.Place.{Place}
-use Rattle.xliff.proofs.text.Utf8.{utf8s-append, utf8-nonempty}
-use Rattle.walk.proofs.PlaceLaws.{kept-items, kept-front, kept-back}
+use Rattle.xliff.proofs.text.Utf8.{utf8-nonempty}
+use Rattle.walk.proofs.PlaceLaws.{kept-front, kept-back}
 use Rattle.cut.specs.Turned.{cut-records}
 use Rattle.cut.proofs.CutLaws.{cut-kept, cut-items, kept-records}
-use Rattle.cut.proofs.HalfLaws.{items-of, weaken, halves-taken, halves-dropped, taken, dropped, kept-text-front, kept-text-back, front-items, sides, first-size-0, first-size-1, second-size-0, second-size-1, length-texts}
+use Rattle.cut.proofs.HalfLaws.{items-of, weaken, halves-taken, halves-dropped, taken, dropped, kept-text-front, kept-text-back, front-items, sides, first-size-0, first-size-1, second-size-0, second-size-1}
 use Rattle.halves_of_part.specs.Parts.{halves}
 use Rattle.xliff.proofs.unit.Pieces.{part-bytes}
 use Rattle.heads.proofs.HeadLaws.{id-long}

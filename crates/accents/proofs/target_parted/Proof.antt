@@ -1,9 +1,8 @@
 use native.Mathlib.Omega.{arith}
 use mathlib.Core.Path.{sym, ap, _∙_}
 use mathlib.Core.List.{[]}
-use Rattle.xliff.specs.Item.{Content}
 use Rattle.xliff.specs.Unit.{target-items}
-use Rattle.xliff.specs.Split.{parts-accent}
+use Rattle.xliff.specs.Split.{cuts-off-accent}
 use Rattle.part_at.proofs.HoldLaws.{target-there, nothing-there}
 use Rattle.table.proofs.WidthLaws.{bytes-known}
 use Rattle.accents.proofs.AccentLaws.{behind-all}
@@ -12,8 +11,8 @@ use Rattle.accents.proofs.target_parted.Statement.{statement}
 use Rattle.accents.proofs.target_parted.Tie as tie
 
 -- &t[from..to]
-sub-parts-accent : tie.Need-sub-parts-accent
-sub-parts-accent c =
+sub-cuts-off-accent : tie.Need-sub-cuts-off-accent
+sub-cuts-off-accent c =
     let start = c .before .before .before in
     let args = start .args in
     let t = args .t .now in
@@ -23,8 +22,8 @@ sub-parts-accent c =
     omega (arith, target-there t (bytes-known t known) b p a (args .place) s (c .before .if1 .taken) .ordered)
 
 -- the same
-part-parts-accent-start : tie.Need-part-parts-accent-start
-part-parts-accent-start c =
+part-cuts-off-accent-start : tie.Need-part-cuts-off-accent-start
+part-cuts-off-accent-start c =
     let start = c .before .before .before in
     let args = start .args in
     let t = args .t .now in
@@ -33,9 +32,9 @@ part-parts-accent-start c =
     let (b, p, a, s) = st in
     omega (arith, target-there t (bytes-known t known) b p a (args .place) s (c .before .if1 .taken) .ordered)
 
--- parts_accent(&t[from..to], cut)
-parts-accent-requires : tie.Need-parts-accent-requires
-parts-accent-requires c κs =
+-- cuts_off_accent(&t[from..to], cut)
+cuts-off-accent-requires : tie.Need-cuts-off-accent-requires
+cuts-off-accent-requires c κs =
     let start = c .before .before .before .before in
     let args = start .args in
     let t = args .t .now in
@@ -47,7 +46,7 @@ parts-accent-requires c κs =
           (c .before .before .if1 .taken) .holds,
     )
 
--- return parts_accent(&t[from..to], cut)
+-- return cuts_off_accent(&t[from..to], cut)
 returns : tie.Need-returns
 returns c =
     let args = c .before .before .before .before .before .args in
@@ -55,7 +54,7 @@ returns c =
     let known = c .before .before .before .before .shared-slice-known .given in
     let if1 = c .before .before .before .if1 in
     λ b p a s.
-    c .parts-accent .ensures (target-items (p .target))
+    c .cuts-off-accent .ensures (target-items (p .target))
     (target-there t (bytes-known t known) b p a (args .place) s (if1 .taken) .holds)
 
 -- false
@@ -65,7 +64,7 @@ returns-2 c =
     let cut = args .cut in
     λ b p a s.
     let nothing = nothing-there (args .t .now) (args .place) (p .target) (s .target) (c .if1 .left) in
-    sym (ap (parts-accent cut) nothing ∙ behind-all cut [] (omega arith))
+    sym (ap (cuts-off-accent cut) nothing ∙ behind-all cut [] (omega arith))
 
 pub target-parted-spec : {M : Type 1} → statement M
 target-parted-spec =
@@ -73,10 +72,10 @@ target-parted-spec =
     (tie.spec
     -- by search: add-from
     (λ c. search needs)
-    sub-parts-accent
-    part-parts-accent-start
-    -- by search: part-parts-accent-end
+    sub-cuts-off-accent
+    part-cuts-off-accent-start
+    -- by search: part-cuts-off-accent-end
     (λ c. search needs)
-    parts-accent-requires
+    cuts-off-accent-requires
     returns
     returns-2)

@@ -7,8 +7,8 @@ use Rattle.xliff.proofs.lists.Slices.{tail-is}
 use Rattle.accents.specs.Accents.{accentOf}
 use Rattle.accents.proofs.AccentLaws.{parted-at}
 use borrow.Author.Needs.{needs}
-use Rattle.accents.proofs.parts_accent.Statement.{statement}
-use Rattle.accents.proofs.parts_accent.Tie as tie
+use Rattle.accents.proofs.cuts_off_accent.Statement.{statement}
+use Rattle.accents.proofs.cuts_off_accent.Tie as tie
 
 -- walk::place_of(c, cut)
 place-of-requires : tie.Need-place-of-requires
@@ -66,8 +66,8 @@ returns-2 c =
     ∙ parted-at (args .cut) (args .c .now) xs (place-of .result) o (place-of .ensures (content-records xs) o)
     .together (omega arith)
 
-pub parts-accent-spec : {M : Type 1} → statement M
-parts-accent-spec =
+pub cuts-off-accent-spec : {M : Type 1} → statement M
+cuts-off-accent-spec =
     tie.close
     (tie.spec
     place-of-requires
