@@ -13,13 +13,14 @@ use Rattle.xliff.specs.Parse.{reading, take-record}
 use Rattle.xliff.specs.Split.{is-text, is-accent-item, first-is, last-is, cuts-off-accent}
 use Rattle.xliff.specs.Good.{Allowed, one-point, GoodItem}
 use Rattle.xliff.proofs.lists.Tests.{and-true, and-false}
+use Rattle.xliff.proofs.text.Utf8.{utf8s-nonempty}
 use Rattle.text.specs.Utf8.{charOf}
 use Rattle.text.proofs.TextLaws.{decoded-allowed}
 use Rattle.walk.specs.Kept.{Kept, kept-item, kept-text, Of, Holds, items}
 use Rattle.walk.specs.Place.{Inside, over, between, within, Parted}
 use Rattle.walk.specs.declared.Place.{Place}
 use Rattle.walk.proofs.PlaceLaws.{kept-back}
-use Rattle.cut.proofs.HalfLaws.{items-of, halves-taken, halves-dropped, taken, dropped, kept-text-back, from-cut, fits-in, whole-size, some-before}
+use Rattle.cut.proofs.HalfLaws.{items-of, halves-taken, halves-dropped, taken, dropped, kept-text-back, from-cut, fits-in, whole-size}
 use Rattle.accents.specs.Accents.{accentOf}
 
 -- the first items, and the last ones
@@ -152,7 +153,7 @@ parted-by k c at into left a b o h (between {r} {rs} e) =
     }
 parted-by k c at into left a b o h (within u us v vs rs e) =
     record {
-      apart = λ z. absurd (let y : ⊥ = omega (arith, some-before k c at u us v vs a rs o h e) in y);
+      apart = λ z. absurd (let y : ⊥ = omega (arith, utf8s-nonempty u us) in y);
       fits = λ z. omega (arith, fits-in k c at u us v vs a rs o h e, whole-size k c at u us v vs a rs o h e);
       together = λ z.
           decoded-there v vs (spell rs) (drop (at + 4 + length (utf8s (u ∷ us))) c)

@@ -7,7 +7,7 @@ use native.Mathlib.Omega.{arith}
 use lib.ListN.{length, take, drop, length-append, length-drop, drop-of-length-le}
 use lib.Seq.{take-at, drop-at, drop-drop, take-all, length-take-le}
 use Rattle.xliff.specs.Bytes.{two, gather, any}
-use Rattle.xliff.specs.Text.{utf8s, utf8}
+use Rattle.xliff.specs.Text.{utf8s}
 use Rattle.xliff.specs.Item.{Item, Content, text, in-form, form-S, id-of}
 use Rattle.xliff.specs.Encode.{Record, text-run, inline, record-bytes, spell, content-records, content-bytes}
 use Rattle.xliff.specs.Parse.{Reading, reading, take-record}
@@ -22,7 +22,7 @@ use Rattle.walk.specs.Place.{Inside, over, between, within, Parted}
 use Rattle.walk.specs.declared.Place.{Place}
 use Rattle.walk.proofs.RecordLaws.{width-there}
 use Rattle.walk.proofs.WalkLaws.{texts-other}
-use Rattle.xliff.proofs.text.Utf8.{utf8s-append, utf8-nonempty}
+use Rattle.xliff.proofs.text.Utf8.{utf8s-append, utf8s-nonempty}
 use Rattle.xliff.proofs.unit.Pieces.{spell-append}
 use Rattle.walk.proofs.PlaceLaws.{kept-items, kept-front, kept-back}
 use Rattle.cut.specs.Turned.{cut-record, cut-records, textPiece}
@@ -288,14 +288,6 @@ module _ (k : ℕ) (c : List ℕ) (at u : ℕ) (us : List ℕ) (v : ℕ) (vs : L
       let f = the-fit k c at a (text-run ((u ∷ us) ++ (v ∷ vs)) ∷ rs) o h in
       omega (arith, length-drop at c, record-size)
 
-  pub some-more : 1 ≤ length vs′
-  unfolding utf8s gather
-  some-more = omega (arith, length-append (utf8 v) (gather utf8 vs), utf8-nonempty v)
-
-  pub some-before : 1 ≤ length us′
-  unfolding utf8s gather
-  some-before = omega (arith, length-append (utf8 u) (gather utf8 us), utf8-nonempty u)
-
   pub the-inner : Inner k c (items (a ++ (text-run ((u ∷ us) ++ (v ∷ vs)) ∷ rs)))
       (record { at = at; into = length us′; left = 0 }) a (text-run ((u ∷ us) ++ (v ∷ vs)) ∷ rs)
   the-inner =
@@ -305,7 +297,7 @@ module _ (k : ℕ) (c : List ℕ) (at u : ℕ) (us : List ℕ) (v : ℕ) (vs : L
         others = rs;
         width = λ w h. width-there c at w h (text-run ((u ∷ us) ++ (v ∷ vs))) (spell rs)
             (text-in (kept .allowed) (kept .small)) from-record ∙ record-size;
-        less = omega (arith, whole-size, some-more);
+        less = omega (arith, whole-size, utf8s-nonempty v vs);
         small = kept .small;
         fit = fits-in;
         rest = (weaken true rs (kept .others), sym from-rest);
@@ -353,8 +345,8 @@ sides-by k c at into left a b o h (within u us v vs rs e) =
       front = the-front k c at a b o h;
       back = the-back k c at a b o h;
       fit = the-fit k c at a b o h;
-      first = λ z. absurd (let y : ⊥ = omega (arith, some-before k c at u us v vs a rs o h e) in y);
-      second = λ z. absurd (let y : ⊥ = omega (arith, some-before k c at u us v vs a rs o h e) in y);
+      first = λ z. absurd (let y : ⊥ = omega (arith, utf8s-nonempty u us) in y);
+      second = λ z. absurd (let y : ⊥ = omega (arith, utf8s-nonempty u us) in y);
       inner = λ z. the-inner k c at u us v vs a rs o h e;
     }
 

@@ -7,7 +7,7 @@ use native.Mathlib.Omega.{arith}
 use lib.ListN.{length, take, drop, length-append, drop-of-length-le}
 use lib.Seq.{take-all}
 use Rattle.xliff.specs.Bytes.{two, gather}
-use Rattle.xliff.specs.Text.{utf8, utf8s}
+use Rattle.xliff.specs.Text.{utf8s}
 use Rattle.xliff.specs.Item.{Content, text}
 use Rattle.xliff.specs.Unit.{Target, no-target, target, Part, target-items}
 use Rattle.xliff.specs.Encode.{Record, text-run, record-bytes, head-bytes, spell, content-records, content-bytes, target-records, part-records}
@@ -16,7 +16,7 @@ use Rattle.xliff.specs.Split.{cut-item, first-items, second-items, first-target
 use Rattle.walk.specs.Kept.{Kept, kept-end, Holds, items}
 use Rattle.walk.specs.Place.{Inside, over, between, within, Parted}
 use Rattle.walk.specs.declared.Place.{Place}
-use Rattle.xliff.proofs.text.Utf8.{utf8-nonempty}
+use Rattle.xliff.proofs.text.Utf8.{utf8s-nonempty}
 use Rattle.walk.proofs.PlaceLaws.{kept-front, kept-back}
 use Rattle.cut.specs.Turned.{cut-records}
 use Rattle.cut.proofs.CutLaws.{cut-kept, cut-items, kept-records}
@@ -70,10 +70,6 @@ halved-within k u us v vs a rs kept count =
       count = omega (arith, length-append a (text-run (u ∷ us) ∷ []), length-append a (text-run ((u ∷ us) ++ (v ∷ vs)) ∷ rs));
     }
 
-some-bytes : (u : ℕ) (us : List ℕ) → 1 ≤ length (utf8s (u ∷ us))
-unfolding utf8s gather
-some-bytes u us = omega (arith, length-append (utf8 u) (gather utf8 us), utf8-nonempty u)
-
 halved-by : (k into left : ℕ) (a b : List Record) → Kept false (a ++ b) → Inside k (length (items a)) into left b
     → Halved k (a ++ b) (one-if into)
 unfolding reading
@@ -99,7 +95,8 @@ halved-by k into left a b kp (between {r} {rs} e) =
       count = omega (arith, length-append a (r ∷ rs));
     }
 halved-by k into left a b kp (within u us v vs rs e) =
-    subst (λ (n : ℕ). Halved k (a ++ (text-run ((u ∷ us) ++ (v ∷ vs)) ∷ rs)) n) (sym (some-one (length (utf8s (u ∷ us))) (some-bytes u us)))
+    subst (λ (n : ℕ). Halved k (a ++ (text-run ((u ∷ us) ++ (v ∷ vs)) ∷ rs)) n)
+    (sym (some-one (length (utf8s (u ∷ us))) (utf8s-nonempty u us)))
     (halved-within k u us v vs a rs kp e)
 
 -- turning the marks keeps the number of records

@@ -14,7 +14,7 @@ use Rattle.xliff.specs.Encode.{Record, text-run, record-bytes, spell}
 use Rattle.xliff.specs.Good.{part-heads}
 use Rattle.xliff.specs.Parse.{is-part, most-bytes}
 use Rattle.xliff.proofs.lists.Tests.{gather-append}
-use Rattle.xliff.proofs.text.Utf8.{utf8-nonempty}
+use Rattle.xliff.proofs.text.Utf8.{utf8s-nonempty}
 use Rattle.writer.specs.Pieces.{lead, overlay, numberBytes}
 use Rattle.writer.proofs.PieceLaws.{lead-length, over-lead}
 use Rattle.table_builder.specs.declared.Built.{Built}
@@ -34,10 +34,6 @@ utf8s-more run c = gather-append utf8 run (c ∷ []) ∙ ap (λ (l : List ℕ). 
 
 utf8s-size : (run : List ℕ) (c : ℕ) → length (utf8s (run ++ (c ∷ []))) ≡ length (utf8s run) + length (utf8 c)
 utf8s-size run c = ap length (utf8s-more run c) ∙ length-append (utf8s run) (utf8 c)
-
-some-bytes : (d : ℕ) (ds : List ℕ) → 1 ≤ length (utf8s (d ∷ ds))
-unfolding utf8s gather
-some-bytes d ds = omega (arith, length-append (utf8 d) (gather utf8 ds), utf8-nonempty d)
 
 -- the record of an open run, and with one code point more
 with-open : (done : List Record) (run : List ℕ) → 1 ≤ length (utf8s run) → with-run done run ≡ done ++ (text-run run ∷ [])
@@ -120,7 +116,7 @@ run-larger done [] c =
     (subst (Larger done) (sym (with-more done [] c)) (one-larger done (text-run (c ∷ []))))
 run-larger done (d ∷ ds) c =
     stretched-larger (with-run done (d ∷ ds)) (with-run done ((d ∷ ds) ++ (c ∷ []))) (length (utf8 c))
-    (stretched done (d ∷ ds) c (some-bytes d ds))
+    (stretched done (d ∷ ds) c (utf8s-nonempty d ds))
 
 pub text-beyond : {t : List ℕ} {built : Built} {done : List Record} {run : List ℕ} → Holds t built done run
     → built .over ≡ true
@@ -166,7 +162,7 @@ pub first-held : {t : List ℕ} {put : Built} (done : List Record) (run : List �
     → Holds t
     (record { used = put .used; records = put .records; parts = put .parts; text = wide; over = put .over })
     done (run ++ (c ∷ []))
-first-held done (d ∷ ds) c e h w = absurd (omega (arith, e, some-bytes d ds))
+first-held done (d ∷ ds) c e h w = absurd (omega (arith, e, utf8s-nonempty d ds))
 first-held done [] c e h w =
     let same = first-run done c in
     record {

@@ -10,11 +10,11 @@ use lib.Seq.{take-all, length-take-le}
 use lib.Dec.{leb, ltb}
 use borrow.Author.Tests.{ltb-true, ltb-false, leb-true, leb-false}
 use Rattle.xliff.specs.Bytes.{two, gather}
-use Rattle.xliff.specs.Text.{utf8, utf8s}
+use Rattle.xliff.specs.Text.{utf8s}
 use Rattle.xliff.specs.Item.{Item, Content, start, end, form-P, form-S, text, character, standalone, isolated, pair, annotation-start, annotation-end, mark}
 use Rattle.xliff.specs.Encode.{Record, text-run, inline, record-bytes}
 use Rattle.xliff.specs.Parse.{reading, take-record}
-use Rattle.xliff.proofs.text.Utf8.{utf8-nonempty, utf8s-append}
+use Rattle.xliff.proofs.text.Utf8.{utf8s-nonempty, utf8s-append}
 use Rattle.text.specs.Points.{TextBytes, PassedOver}
 use Rattle.text.specs.declared.points.Points.{Points}
 use Rattle.walk.specs.Kept.{Kept, kept-end, kept-item, kept-text, Of, items, Inline, an-item, a-text, InContent}
@@ -108,7 +108,7 @@ length-texts (c ∷ cs) = ap suc (length-texts cs)
 no-bytes : (l : List ℕ) → length (utf8s l) ≡ 0 → l ≡ []
 unfolding utf8s gather
 no-bytes [] e = refl
-no-bytes (c ∷ l) e = absurd (let y : ⊥ = omega (arith, utf8-nonempty c, length-append (utf8 c) (gather utf8 l)) in y)
+no-bytes (c ∷ l) e = absurd (let y : ⊥ = omega (arith, e, utf8s-nonempty c l) in y)
 
 utf8s-cut : (k : ℕ) (cs : List ℕ) → length (utf8s cs) ≡ length (utf8s (take k cs)) + length (utf8s (drop k cs))
 utf8s-cut k cs =

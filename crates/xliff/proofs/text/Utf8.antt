@@ -96,6 +96,10 @@ utf8-nonempty c = by (ltb c 0x80) (ltb c 0x800) (ltb c 0x10000)
     by false false true = omega arith
     by false false false = omega arith
 
+pub utf8s-nonempty : (c : ℕ) (cs : List ℕ) → 1 ≤ length (utf8s (c ∷ cs))
+unfolding utf8s gather
+utf8s-nonempty c cs = omega (arith, length-append (utf8 c) (gather utf8 cs), utf8-nonempty c)
+
 pub utf8s-append : (a b : List ℕ) → utf8s (a ++ b) ≡ utf8s a ++ utf8s b
 unfolding utf8s
 utf8s-append a b = gather-append utf8 a b
