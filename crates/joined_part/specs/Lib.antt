@@ -1,2 +1,3 @@
+pub mod States
 pub mod Heads
 pub mod Joined

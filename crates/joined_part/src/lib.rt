@@ -1,9 +1,11 @@
 // Two parts joined.
+mod states;
+
 use part_at::PartPlace;
 use table::Segment;
 ghost use mathlib.Core.Path.{_≡_};
-ghost use Rattle.xliff.specs.Join.{rank, earliest, dash};
-ghost use Rattle.joined_part.specs.Heads.{JoinedSegment, RoomHeads, WroteHeads};
+ghost use Rattle.xliff.specs.Join.{dash};
+ghost use Rattle.joined_part.specs.Heads.{JoinedSegment, JoinedWithIgnorable, RoomHeads, WroteHeads};
 ghost use Rattle.joined_part.specs.Joined.{RoomTargets, WroteTargets, RoomJoinedPart, WroteJoinedPart};
 
 fn dash_if(all: bool) -> u8
@@ -12,37 +14,27 @@ fn dash_if(all: bool) -> u8
     if all { b'-' } else { b'Y' }
 }
 
-fn rank_of(s: u8) -> u8
-    ensures { λ r. ⌜ r ≡ rank s ⌝ }
-{
-    if s == b'I' {
-        return 0;
-    }
-    if s == b'T' {
-        return 1;
-    }
-    if s == b'R' {
-        return 2;
-    }
-    3
-}
-
-fn earliest_of(s: u8, t: u8) -> u8
-    ensures { λ r. ⌜ r ≡ earliest s t ⌝ }
-{
-    if rank_of(s) <= rank_of(t) { s } else { t }
-}
-
-// Two segments in one. A segment joined with an ignorable is as if it were joined with itself.
+// Two segments in one.
 fn joined_segment(x: Segment, y: Segment) -> Segment
     ensures { λ r. ⌜ JoinedSegment x y r ⌝ }
 {
     let dash = dash_if((x.can_resegment == b'-') & (y.can_resegment == b'-'));
-    let state = earliest_of(x.state, y.state);
+    let state = states::join_states(x.state, y.state);
     Segment {
         id: x.id,
         can_resegment: dash,
         state: state,
+    }
+}
+
+// A segment and an ignorable in one.
+fn joined_with_ignorable(s: Segment) -> Segment
+    ensures { λ r. ⌜ JoinedWithIgnorable s r ⌝ }
+{
+    Segment {
+        id: s.id,
+        can_resegment: dash_if(s.can_resegment == b'-'),
+        state: s.state,
     }
 }
 
@@ -57,11 +49,11 @@ fn put_joined_head(out: &mut [u8], h: &[u8], i: &[u8]) -> usize
             let y = heads::segment_of(i);
             return heads::put_segment(out, joined_segment(x, y));
         }
-        return heads::put_segment(out, joined_segment(x, x));
+        return heads::put_segment(out, joined_with_ignorable(x));
     }
     if heads::is_segment(i) {
         let y = heads::segment_of(i);
-        return heads::put_segment(out, joined_segment(y, y));
+        return heads::put_segment(out, joined_with_ignorable(y));
     }
     writer::put(out, h)
 }

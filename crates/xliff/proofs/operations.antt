@@ -9,6 +9,7 @@ pub mod Cut
 pub mod Rewrite
 pub mod RewriteSides
 pub mod JoinSeven
+pub mod JoinStates
 pub mod SetValid
 pub mod JoinRules
 pub mod JoinValid

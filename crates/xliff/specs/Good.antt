@@ -6,7 +6,8 @@ use mathlib.Core.Path.{_≡_}
 use mathlib.Core.Bool.{true, false, cond}
 use mathlib.Core.List.{List, [], _∷_}
 use lib.ListN.{getD}
-use Rattle.xliff.specs.Bytes.{'-', 'F', 'I', 'N', 'R', 'T', 'Y', among, gather}
+use Rattle.xliff.specs.Bytes.{'-', 'N', 'Y', among, gather}
+use Rattle.xliff.specs.State.{state-letters}
 use Rattle.xliff.specs.Text.{xml-allows}
 use Rattle.xliff.specs.Item.{Item, Content, text, character, standalone, isolated, pair, annotation-start, annotation-end}
 use Rattle.xliff.specs.Unit.{Head, segment, ignorable, Target, no-target, target, Part, XliffUnit}
@@ -34,7 +35,8 @@ GoodItem (annotation-start w i t) = (good-id i ≡ true) × (among t ('Y' ∷ 'N
 GoodItem (annotation-end w i) = good-id i ≡ true
 
 abbrev pub GoodHead : Head → Type 0
-GoodHead (segment f) = (among (f .canResegment) ('Y' ∷ 'N' ∷ '-' ∷ []) ≡ true) × (among (f .state) ('I' ∷ 'T' ∷ 'R' ∷ 'F' ∷ []) ≡ true)
+GoodHead (segment f) =
+    (among (f .canResegment) ('Y' ∷ 'N' ∷ '-' ∷ []) ≡ true) × (among (f .state) state-letters ≡ true)
 GoodHead (ignorable i) = Unit {0}
 
 abbrev pub GoodRecord : Record → Type 0

@@ -8,6 +8,7 @@
 pub mod Bytes
 pub mod Text
 pub mod Answer
+pub mod State
 pub mod Item
 pub mod Unit
 pub mod Encode

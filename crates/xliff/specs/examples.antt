@@ -6,3 +6,4 @@ pub mod Limits
 pub mod Desk
 pub mod Rejoin
 pub mod Accents
+pub mod States

@@ -78,7 +78,7 @@ returns c =
     (joined-segment .result) (segment-of .ensures) (segment-of2 .ensures) (joined-segment .ensures))
     (args .out .now) (put-segment .last .0) (put-segment .result) (put-segment .ensures)
 
--- heads::put_segment(out, joined_segment(x, x))
+-- heads::put_segment(out, joined_with_ignorable(x))
 put-segment-requires-2 : tie.Need-put-segment-requires-2
 put-segment-requires-2 c κs =
     let after-if1 = c .before .before .before .before .before in
@@ -89,12 +89,12 @@ put-segment-requires-2 c κs =
     let segment-of = c .before .before .before .before .segment-of in
     let is-segment2 = c .before .before .before .is-segment2 in
     let (a, b, ea, eb, room) = start .pre in
-    segment-room a b (c .joined-segment2 .result)
+    segment-room a b (c .joined-with-ignorable .result)
     (first-segment (args .h .now) (args .i .now) a b ea (sym (is-segment .ensures a ea) ∙ if1 .taken)
     (sym (is-segment2 .ensures b eb) ∙ c .before .before .if2 .left) (segment-of .result)
-    (c .joined-segment2 .result) (segment-of .ensures) (c .joined-segment2 .ensures)) (args .out .now) room
+    (c .joined-with-ignorable .result) (segment-of .ensures) (c .joined-with-ignorable .ensures)) (args .out .now) room
 
--- return heads::put_segment(out, joined_segment(x, x))
+-- return heads::put_segment(out, joined_with_ignorable(x))
 returns-2 : tie.Need-returns-2
 returns-2 c =
     let after-if2 = c .before .before .before .before .before in
@@ -104,13 +104,13 @@ returns-2 c =
     let segment-of = after-if2 .before .before .segment-of in
     let is-segment2 = after-if2 .before .is-segment2 in
     let if2 = after-if2 .if2 in
-    let joined-segment2 = c .before .before .before .joined-segment2 in
+    let joined-with-ignorable = c .before .before .before .joined-with-ignorable in
     let put-segment2 = c .before .before .put-segment2 in
     λ a b ea eb.
-    segment-wrote a b (joined-segment2 .result)
+    segment-wrote a b (joined-with-ignorable .result)
     (first-segment (args .h .now) (args .i .now) a b ea (sym (is-segment .ensures a ea) ∙ if1 .taken)
-    (sym (is-segment2 .ensures b eb) ∙ if2 .left) (segment-of .result) (joined-segment2 .result)
-    (segment-of .ensures) (joined-segment2 .ensures)) (args .out .now) (put-segment2 .last .0)
+    (sym (is-segment2 .ensures b eb) ∙ if2 .left) (segment-of .result) (joined-with-ignorable .result)
+    (segment-of .ensures) (joined-with-ignorable .ensures)) (args .out .now) (put-segment2 .last .0)
     (put-segment2 .result) (put-segment2 .ensures)
 
 -- heads::is_segment(i)
@@ -127,7 +127,7 @@ segment-of-requires-3 c κs =
     let (a, b, ea, eb, room) = start .pre in
     some-segment (start .args .i .now) b eb (sym (c .before .is-segment3 .ensures b eb) ∙ c .if3 .taken)
 
--- heads::put_segment(out, joined_segment(y, y))
+-- heads::put_segment(out, joined_with_ignorable(y))
 put-segment-requires-3 : tie.Need-put-segment-requires-3
 put-segment-requires-3 c κs =
     let after-if1 = c .before .before .before .before .before in
@@ -139,12 +139,12 @@ put-segment-requires-3 c κs =
     let if3 = c .before .before .before .if3 in
     let segment-of3 = c .before .before .segment-of3 in
     let (a, b, ea, eb, room) = start .pre in
-    segment-room a b (c .joined-segment3 .result)
+    segment-room a b (c .joined-with-ignorable2 .result)
     (second-segment (args .h .now) (args .i .now) a b eb (sym (is-segment .ensures a ea) ∙ if1 .left)
-    (sym (is-segment3 .ensures b eb) ∙ if3 .taken) (segment-of3 .result) (c .joined-segment3 .result)
-    (segment-of3 .ensures) (c .joined-segment3 .ensures)) (args .out .now) room
+    (sym (is-segment3 .ensures b eb) ∙ if3 .taken) (segment-of3 .result) (c .joined-with-ignorable2 .result)
+    (segment-of3 .ensures) (c .joined-with-ignorable2 .ensures)) (args .out .now) room
 
--- return heads::put_segment(out, joined_segment(y, y))
+-- return heads::put_segment(out, joined_with_ignorable(y))
 returns-3 : tie.Need-returns-3
 returns-3 c =
     let after-segment-of3 = c .before .before .before .before .before in
@@ -154,13 +154,13 @@ returns-3 c =
     let is-segment3 = after-segment-of3 .before .before .is-segment3 in
     let if3 = after-segment-of3 .before .if3 in
     let segment-of3 = after-segment-of3 .segment-of3 in
-    let joined-segment3 = c .before .before .before .joined-segment3 in
+    let joined-with-ignorable2 = c .before .before .before .joined-with-ignorable2 in
     let put-segment3 = c .before .before .put-segment3 in
     λ a b ea eb.
-    segment-wrote a b (joined-segment3 .result)
+    segment-wrote a b (joined-with-ignorable2 .result)
     (second-segment (args .h .now) (args .i .now) a b eb (sym (is-segment .ensures a ea) ∙ if1 .left)
-    (sym (is-segment3 .ensures b eb) ∙ if3 .taken) (segment-of3 .result) (joined-segment3 .result)
-    (segment-of3 .ensures) (joined-segment3 .ensures)) (args .out .now) (put-segment3 .last .0)
+    (sym (is-segment3 .ensures b eb) ∙ if3 .taken) (segment-of3 .result) (joined-with-ignorable2 .result)
+    (segment-of3 .ensures) (joined-with-ignorable2 .ensures)) (args .out .now) (put-segment3 .last .0)
     (put-segment3 .result) (put-segment3 .ensures)
 
 -- writer::put(out, h)
@@ -206,7 +206,7 @@ put-joined-head-spec =
     -- by search: same-length
     (λ c. search needs)
     returns
-    -- by search: joined-segment-requires-2
+    -- by search: joined-with-ignorable-requires
     (λ c κs. search needs)
     put-segment-requires-2
     -- by search: same-length-2
@@ -214,7 +214,7 @@ put-joined-head-spec =
     returns-2
     is-segment-requires-3
     segment-of-requires-3
-    -- by search: joined-segment-requires-3
+    -- by search: joined-with-ignorable-requires-2
     (λ c κs. search needs)
     put-segment-requires-3
     -- by search: same-length-3

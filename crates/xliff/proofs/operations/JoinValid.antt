@@ -1,10 +1,10 @@
 -- An accepted join leaves a valid table.
-use Prim.Native.Nat.{ℕ, _+_}
+use Prim.Native.Nat.{ℕ}
 use mathlib.Core.Path.{_≡_, refl, sym, ap, _∙_, subst}
-use mathlib.Core.Bool.{Bool, true, false, _&&_, _||_, cond, true≢false}
+use mathlib.Core.Bool.{Bool, true, false, _&&_, _||_, true≢false}
 use mathlib.Core.List.{List, [], _∷_, _++_, map}
 use mathlib.Core.Option.{Option, none, some}
-use lib.Dec.{eqb, leb}
+use lib.Dec.{eqb}
 use Rattle.xliff.specs.Bytes.{'-', 'N', 'Y', Bytes, among}
 use Rattle.xliff.specs.Answer.{Refusal, applies, is-fault, result}
 use Rattle.xliff.specs.Unit.{Head, segment, ignorable, Target, no-target, target, Part, XliffUnit, is-closed, source-sequence}
@@ -12,7 +12,7 @@ use Rattle.xliff.specs.Parse.{unit}
 use Rattle.xliff.specs.Rules.{fault-5, fault-6, fault-7, fault-8, fault-9, fault-6-to-10}
 use Rattle.xliff.specs.Check.{Valid, too-large}
 use Rattle.xliff.specs.Focus.{Focus, nowhere, here, focus, order-target, order-part, order-parts, with-parts}
-use Rattle.xliff.specs.Join.{rank, earliest, dash, join-heads, join-targets, join-parts, join-order, join-focus, join-unit, bad-orders, join-refusal, join}
+use Rattle.xliff.specs.Join.{dash, join-heads, join-targets, join-parts, join-order, join-focus, join-unit, bad-orders, join-refusal, join}
 use Rattle.xliff.specs.Good.{each-nil, each-cons, GoodHead, GoodTarget, GoodPart, GoodParts}
 use Rattle.xliff.proofs.lists.Each.{each-append, each-apart}
 use Rattle.xliff.proofs.operations.Sources.{focus-here, join-source}
@@ -20,6 +20,7 @@ use Rattle.xliff.proofs.unit.Result.{then-left, then-right, then-none, 
 use Rattle.xliff.proofs.unit.Accepted.{Accepted, accepted-valid}
 use Rattle.xliff.proofs.operations.SetValid.{some-part}
 use Rattle.xliff.proofs.operations.JoinTarget.{join-target}
+use Rattle.xliff.proofs.operations.JoinStates.{join-states-good}
 use Rattle.xliff.proofs.operations.JoinRules.{join-6, join-8, join-9, join-10}
 use Rattle.xliff.proofs.operations.JoinOrders.{join-5}
 
@@ -29,21 +30,13 @@ unfolding dash among
 dash-good true = refl
 dash-good false = refl
 
-earliest-good : (s t : ℕ) (l : List ℕ) → among s l ≡ true → among t l ≡ true → among (earliest s t) l ≡ true
-unfolding earliest
-earliest-good s t l a b = by (leb (rank s) (rank t))
-  where
-    by : (c : Bool) → among (cond c s t) l ≡ true
-    by true = a
-    by false = b
-
 head-good : (g h : Head) → GoodHead g → GoodHead h → GoodHead (join-heads g h)
 unfolding join-heads
 head-good (ignorable i) (ignorable k) a b = tt
 head-good (ignorable i) (segment g) a b = (dash-good (eqb (g .canResegment) '-'), b .1)
 head-good (segment f) (ignorable k) a b = (dash-good (eqb (f .canResegment) '-'), a .1)
 head-good (segment f) (segment g) a b =
-    (dash-good (eqb (f .canResegment) '-' && eqb (g .canResegment) '-'), earliest-good (f .state) (g .state) _ (a .1) (b .1))
+    (dash-good (eqb (f .canResegment) '-' && eqb (g .canResegment) '-'), join-states-good (f .state) (g .state))
 
 target-good : (g h : Target) → GoodTarget g → GoodTarget h → GoodTarget (join-targets g h)
 unfolding join-targets
@@ -64,13 +57,15 @@ part-good p q a b =
 pub orders-good : (f : ℕ → ℕ) (ps : List Part) → GoodParts ps → GoodParts (order-parts f ps)
 unfolding order-parts order-part order-target
 orders-good f [] each-nil = each-nil
-orders-good f (p ∷ ps) (each-cons g h) = each-cons (record { head = g .head; source = g .source; target = by (p .target) (g .target) }) (orders-good f ps h)
+orders-good f (p ∷ ps) (each-cons g h) =
+    each-cons (record { head = g .head; source = g .source; target = by (p .target) (g .target) }) (orders-good f ps h)
   where
     by : (t : Target) → GoodTarget t → GoodTarget (order-target f t)
     by no-target k = tt
     by (target q xs) k = k
 
-nonempty : (f : ℕ → ℕ) (ps : List Part) (x : Part) (xs : List Part) → ps ≡ x ∷ xs → (y : Part) × (ys : List Part) × (order-parts f ps ≡ y ∷ ys)
+nonempty : (f : ℕ → ℕ) (ps : List Part) (x : Part) (xs : List Part) → ps ≡ x ∷ xs
+    → (y : Part) × (ys : List Part) × (order-parts f ps ≡ y ∷ ys)
 unfolding order-parts
 nonempty f ps x xs e = (order-part f x, map (order-part f) xs, ap (map (order-part f)) e)
 
@@ -80,12 +75,14 @@ no-fault none e = refl
 no-fault (some r) e = absurd (true≢false e)
 
 -- An accepted join
-pub join-accepted : (t : List ℕ) (n room : ℕ) (r : List ℕ) → Bytes t → join t n room ≡ result r → Accepted t (join-unit (unit t) n) r
+pub join-accepted : (t : List ℕ) (n room : ℕ) (r : List ℕ) → Bytes t → join t n room ≡ result r
+    → Accepted t (join-unit (unit t) n) r
 unfolding join join-unit with-parts join-focus join-refusal fault-6-to-10 Valid
 join-accepted t n room r bt e =
     let (valid, own, same) = operation-result t _ _ r e in
-    let first = then-left (join-refusal (unit t) n (focus (unit t .parts) n)) _ own in
-    let small = applies-none 15 (too-large room (join-unit (unit t) n)) (then-right (join-refusal (unit t) n (focus (unit t .parts) n)) _ own) in
+    let refusal : Option Refusal = join-refusal (unit t) n (focus (unit t .parts) n) in
+    let first = then-left refusal _ own in
+    let small = applies-none 15 (too-large room (join-unit (unit t) n)) (then-right refusal _ own) in
     let h = sent t bt valid in
     record { was = h; now = by (focus (unit t .parts) n) refl first h; bytes = same; room = room; fits = small }
   where
@@ -95,29 +92,35 @@ join-accepted t n room r bt e =
     v : Focus → XliffUnit
     v f = with-parts u (join-focus (u .parts) f)
 
-    whole : (b : List Part) (p q : Part) (a : List Part) → u .parts ≡ b ++ (p ∷ q ∷ a) → focus (u .parts) n ≡ here b p (q ∷ a) → bad-orders (p .target) (q .target) ≡ false
+    whole : (b : List Part) (p q : Part) (a : List Part) → u .parts ≡ b ++ (p ∷ q ∷ a)
+        → focus (u .parts) n ≡ here b p (q ∷ a) → bad-orders (p .target) (q .target) ≡ false
         → fault-7 (join-focus (u .parts) (here b p (q ∷ a))) ≡ none → Sent u → Sent (v (here b p (q ∷ a)))
     whole b p q a at k bo seven h =
         let ps : List Part = u .parts in
         let qs : List Part = join-focus (u .parts) (here b p (q ∷ a)) in
-        let source-same = subst (λ (f : Focus). source-sequence (join-focus (u .parts) f) ≡ source-sequence (u .parts)) k (join-source (u .parts) n) in
+        let same-source : Focus → Type 0 = λ f. source-sequence (join-focus (u .parts) f) ≡ source-sequence (u .parts) in
+        let source-same = subst same-source k (join-source (u .parts) n) in
         let target-same = join-target (u .parts) b p q a at (h .rule-5) bo in
         let r7 = then-right (fault-6 (u .parts)) _ (h .rules) in
         let r8 = then-right (fault-7 (u .parts)) _ r7 in
         let r9 = then-right (fault-8 (u .parts)) _ r8 in
         let (gb, gp, gr) = each-apart b p (q ∷ a) (subst GoodParts at (h .good)) in
         let (x, xs, shown) = some-part b (join-parts p q) a in
-        let (y, ys, listed) = nonempty (join-order (u .parts) (p .target) (q .target)) (b ++ (join-parts p q ∷ a)) x xs shown in
+        let order : ℕ → ℕ = join-order (u .parts) (p .target) (q .target) in
+        let (y, ys, listed) = nonempty order (b ++ (join-parts p q ∷ a)) x xs shown in
         record {
           letter = h .letter;
           first = y;
           others = ys;
           parts = listed;
-          good = orders-good (join-order (u .parts) (p .target) (q .target)) (b ++ (join-parts p q ∷ a)) (each-append b (join-parts p q ∷ a) gb (joined p q a gp gr));
-          rule-5 = subst (λ (l : List Part). fault-5 (join-focus l (here b p (q ∷ a))) ≡ none) (sym at) (join-5 b p q a (ap fault-5 (sym at) ∙ h .rule-5) bo);
+          good = orders-good order (b ++ (join-parts p q ∷ a))
+              (each-append b (join-parts p q ∷ a) gb (joined p q a gp gr));
+          rule-5 = subst (λ (l : List Part). fault-5 (join-focus l (here b p (q ∷ a))) ≡ none) (sym at)
+              (join-5 b p q a (ap fault-5 (sym at) ∙ h .rule-5) bo);
           rules = then-none _ _ (join-6 (u .parts) b p q a at (then-left _ _ (h .rules)))
               (then-none _ _ seven (then-none _ _ (join-8 (u .parts) qs source-same target-same (then-left _ _ r8))
-              (then-none _ _ (join-9 (u .parts) qs source-same target-same (then-left _ _ r9)) (join-10 (u .parts) qs source-same target-same (then-right (fault-9 (u .parts)) _ r9)))));
+              (then-none _ _ (join-9 (u .parts) qs source-same target-same (then-left _ _ r9))
+              (join-10 (u .parts) qs source-same target-same (then-right (fault-9 (u .parts)) _ r9)))));
         }
       where
         joined : (p q : Part) (a : List Part) → GoodPart p → GoodParts (q ∷ a) → GoodParts (join-parts p q ∷ a)
@@ -128,10 +131,12 @@ join-accepted t n room r bt e =
     by (here b p []) k o h = absurd (true≢false (applies-none 11 true o))
     by (here b p (q ∷ a)) k o h =
         let at : u .parts ≡ b ++ (p ∷ q ∷ a) = focus-here (u .parts) n b p (q ∷ a) k in
-        let o2 = then-right (applies 12 (is-closed (u .opening .canResegment) p || is-closed (u .opening .canResegment) q)) _ o in
-        let bo : bad-orders (p .target) (q .target) ≡ false = applies-none 16 (bad-orders (p .target) (q .target)) (then-left _ _ o2) in
-        let seven : fault-7 (join-focus (u .parts) (focus (u .parts) n)) ≡ none
-        = no-fault _ (applies-none 17 (is-fault (fault-7 (join-focus (u .parts) (focus (u .parts) n)))) (then-right (applies 16 (bad-orders (p .target) (q .target))) _ o2)) in
+        let letter = u .opening .canResegment in
+        let orders = bad-orders (p .target) (q .target) in
+        let faults = fault-7 (join-focus (u .parts) (focus (u .parts) n)) in
+        let o2 = then-right (applies 12 (is-closed letter p || is-closed letter q)) _ o in
+        let bo : orders ≡ false = applies-none 16 orders (then-left _ _ o2) in
+        let seven : faults ≡ none = no-fault _ (applies-none 17 (is-fault faults) (then-right (applies 16 orders) _ o2)) in
         whole b p q a at k bo (subst (λ (f : Focus). fault-7 (join-focus (u .parts) f) ≡ none) k seven) h
 
 -- An accepted join leaves a valid table

@@ -5,20 +5,17 @@ use mathlib.Core.Path.{_≡_, refl, sym, ap, ap₂, _∙_}
 use mathlib.Core.Bool.{Bool, true, false, _&&_, _||_, cond, true≢false, false≢true}
 use mathlib.Core.List.{List, [], _∷_, _++_}
 use lib.Dec.{eqb, ltb}
-use borrow.Author.Tests.{eqb-true, eq-eqb, ltb-true, lt-ltb, le-leb}
+use borrow.Author.Tests.{eqb-true, eq-eqb, ltb-true, lt-ltb}
 use Rattle.xliff.specs.Bytes.{'-', 'N', 'Y', gather, among}
 use Rattle.xliff.specs.Unit.{Head, segment, ignorable, Target, no-target, target, Part, with-id, resolved, order-list, orders}
 use Rattle.xliff.specs.Focus.{order-target, order-part, order-parts}
 use Rattle.xliff.specs.Split.{first-target, second-target, raise-above, split-order}
-use Rattle.xliff.specs.Join.{rank, earliest, dash, join-heads, highest-unused, lower-above, bad-orders}
+use Rattle.xliff.specs.Join.{dash, join-heads, highest-unused, lower-above, bad-orders}
 use Rattle.xliff.specs.Good.{GoodHead}
+use Rattle.xliff.proofs.operations.JoinStates.{same-state}
 use Rattle.xliff.proofs.lists.Tests.{or-left, or-right, map-stays, map-map}
 
 -- THE HEAD: both halves have the state of the part, and its canResegment, Y or - in a part that is not closed
-same-state : (s : ℕ) → earliest s s ≡ s
-unfolding earliest
-same-state s = rw (le-leb (rank s) (rank s) (omega arith))
-
 open-letter : (c d : ℕ) → among d ('Y' ∷ 'N' ∷ '-' ∷ []) ≡ true → eqb (cond (eqb d '-') c d) 'N' ≡ false
     → dash (eqb d '-' && eqb d '-') ≡ d
 unfolding dash among
@@ -40,7 +37,7 @@ unfolding join-heads with-id resolved
 head-back c new (ignorable i) g o = refl
 head-back c new (segment f) g o =
     ap₂ (λ (d s : ℕ). segment (record { id = f .id; canResegment = d; state = s }))
-    (open-letter c (f .canResegment) (g .0) o) (same-state (f .state))
+    (open-letter c (f .canResegment) (g .0) o) (same-state (f .state) (g .1))
 
 -- THE ORDERS of the two halves follow each other
 pub halves-follow : (n : ℕ) (g : Target) → bad-orders (first-target n g) (second-target n g) ≡ false
@@ -54,11 +51,14 @@ unfolding lower-above raise-above
 raise-lower q r = by (ltb q r) refl
   where
     by : (b : Bool) → ltb q r ≡ b → cond (ltb q (cond b (suc r) r)) (cond b (suc r) r - 1) (cond b (suc r) r) ≡ r
-    by true e = let h : q < r = ltb-true q r e in rw (lt-ltb q (suc r) (let l : q < suc r = omega arith in l)) (omega arith)
+    by true e =
+        let h : q < r = ltb-true q r e in
+        rw (lt-ltb q (suc r) (let l : q < suc r = omega arith in l)) (omega arith)
     by false e = rw e
 
 -- Orders that stay, and orders changed and changed back, part by part
-own-target : (p : Part) (t : Target) → t ≡ p .target → _≡_ {A = Part} (record { head = p .head; source = p .source; target = t }) p
+own-target : (p : Part) (t : Target) → t ≡ p .target
+    → _≡_ {A = Part} (record { head = p .head; source = p .source; target = t }) p
 own-target p t e = ap (λ (g : Target). record { head = p .head; source = p .source; target = g }) e
 
 orders-stay : (f : ℕ → ℕ) → ((t : Target) → order-target f t ≡ t) → (l : List Part) → order-parts f l ≡ l
@@ -70,7 +70,8 @@ orders-back : (f g : ℕ → ℕ) → ((t : Target) → order-target g (order-ta
 unfolding order-parts order-part
 orders-back f g back l =
     map-map (order-part g) (order-part f) l
-    ∙ map-stays (λ p. order-part g (order-part f p)) (λ p. own-target p (order-target g (order-target f (p .target))) (back (p .target))) l
+    ∙ map-stays (λ p. order-part g (order-part f p))
+    (λ p. own-target p (order-target g (order-target f (p .target))) (back (p .target))) l
 
 pub fall-back : (q : ℕ) (l : List Part) → order-parts (lower-above q) (order-parts (raise-above q) l) ≡ l
 unfolding order-target
@@ -93,7 +94,8 @@ pub top-unused : (n : ℕ) (used : List ℕ) → among (suc n) used ≡ false �
 unfolding highest-unused
 top-unused n used e = rw e
 
-pub stay-low : (h : ℕ) (l : List Part) → ((k : ℕ) → h < k → among k (orders l) ≡ false) → order-parts (lower-above h) l ≡ l
+pub stay-low : (h : ℕ) (l : List Part) → ((k : ℕ) → h < k → among k (orders l) ≡ false)
+    → order-parts (lower-above h) l ≡ l
 unfolding order-parts order-part order-target orders order-list gather lower-above among
 stay-low h [] low = refl
 stay-low h (p ∷ l) low =
@@ -104,7 +106,8 @@ stay-low h (p ∷ l) low =
     rest no-target k e = e
     rest (target o xs) k e = or-right (eqb k o) _ e
 
-    by : (t : Target) → ((k : ℕ) → h < k → among k (order-list t ++ orders l) ≡ false) → order-target (lower-above h) t ≡ t
+    by : (t : Target) → ((k : ℕ) → h < k → among k (order-list t ++ orders l) ≡ false)
+        → order-target (lower-above h) t ≡ t
     by no-target w = refl
     by (target o xs) w = ap (λ (z : ℕ). target z xs) (pick (ltb h o) refl)
       where
