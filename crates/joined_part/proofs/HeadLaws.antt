@@ -17,22 +17,25 @@ use Rattle.table.specs.declared.Segment.{Segment}
 use Rattle.heads.specs.Heads.{is-segment, FieldsAre}
 use Rattle.joined_part.specs.Heads.{JoinedSegment, JoinedWithIgnorable}
 
+-- a segment told field by field
+by-fields : (r : Segment) (i d s : ℕ) → r .id ≡ i → r .«can_resegment» ≡ d → r .state ≡ s
+    → segment (segment-meaning r) ≡ segment (record { id = i; canResegment = d; state = s })
+by-fields r i d s same-id same-letter same-state =
+    ap (λ (n : ℕ). segment (record { id = n; canResegment = r .«can_resegment»; state = r .state })) same-id
+    ∙ ap₂ (λ (e t : ℕ). segment (record { id = i; canResegment = e; state = t })) same-letter same-state
+
 -- two segments
 pub two-joined : (x y r : Segment) → r .id ≡ x .id
     → r .«can_resegment» ≡ dash (eqb (x .«can_resegment») '-' && eqb (y .«can_resegment») '-')
     → r .state ≡ join-states (x .state) (y .state) → JoinedSegment x y r
 unfolding join-heads
-two-joined x y r i d s =
-    ap (λ (n : ℕ). segment (record { id = n; canResegment = r .«can_resegment»; state = r .state })) i
-    ∙ ap₂ (λ (e t : ℕ). segment (record { id = x .id; canResegment = e; state = t })) d s
+two-joined x y r same-id same-letter same-state = by-fields r (x .id) _ _ same-id same-letter same-state
 
 -- a segment and an ignorable
 pub one-joined : (x r : Segment) → r .id ≡ x .id → r .«can_resegment» ≡ dash (eqb (x .«can_resegment») '-')
     → r .state ≡ x .state → JoinedWithIgnorable x r
 unfolding join-heads
-one-joined x r i d s n =
-    ap (λ (n : ℕ). segment (record { id = n; canResegment = r .«can_resegment»; state = r .state })) i
-    ∙ ap₂ (λ (e t : ℕ). segment (record { id = x .id; canResegment = e; state = t })) d s
+one-joined x r same-id same-letter same-state n = by-fields r (x .id) _ _ same-id same-letter same-state
 
 ignored-first : (f : unit.Segment) (j : ℕ) → join-heads (segment f) (ignorable j) ≡ join-heads (ignorable j) (segment f)
 unfolding join-heads
