@@ -1,16 +1,18 @@
 -- The attributes that the writer writes are read as the fields that they were written from.
 use Prim.Native.Nat.{ℕ, zero, suc, _≤_, _<_}
-use mathlib.Core.Path.{_≡_, refl, sym, subst}
-use mathlib.Core.Bool.{Bool, true, false, _&&_, _||_, cond, false≢true}
+use mathlib.Core.Path.{_≡_, refl}
+use mathlib.Core.Bool.{Bool, true, false, _&&_, cond}
 use mathlib.Core.List.{List, [], _∷_, _++_}
 use mathlib.Core.Option.{Option, none, some}
 use native.Mathlib.Omega.{arith}
 use lib.Dec.{eqb}
-use borrow.Author.Tests.{eqb-true}
-use Rattle.xliff.specs.Bytes.{'-', 'F', 'I', 'N', 'R', 'T', 'Y', equal, any, among}
+use Rattle.xliff.specs.Bytes.{'-', 'F', 'N', 'Y', equal, any, among}
+use Rattle.xliff.specs.State.{state-letters}
+use Rattle.xliff.specs.Good.{each-nil, each-cons}
 use Rattle.xliff.specs.Item.{Fields}
 use Rattle.xliff.specs.Desk.{decimal}
 use Rattle.xliff.proofs.lists.Tests.{and-left, and-right}
+use Rattle.xliff.proofs.lists.Each.{each-among}
 use Rattle.xml.specs.Words.{'id', 'copyOf', 'dataRef', 'dataRefStart', 'dataRefEnd', 'startRef', 'canCopy', 'canDelete', 'canOverlap', 'canReorder', 'isolated', Words·all}
 use Rattle.xml.specs.Tokens.{Attribute, doubled}
 use Rattle.xml.specs.Attributes.{with, named, only, value-of, required, optional, Word, yes-no, yes-first-no, states, letter-of, choice}
@@ -25,7 +27,8 @@ abbrev pub shown : ℕ → Option (List ℕ)
 shown zero = none
 shown (suc k) = some (decimal (suc k))
 
-pub optional-shown : (n : List ℕ) (ats : List Attribute) (c : ℕ) → c < 65536 → value-of n ats ≡ shown c → optional n ats ≡ some c
+pub optional-shown : (n : List ℕ) (ats : List Attribute) (c : ℕ) → c < 65536 → value-of n ats ≡ shown c
+    → optional n ats ≡ some c
 unfolding optional
 optional-shown n ats zero h e = rw (e, optional)
 optional-shown n ats (suc c) h e = rw (e, optional) (number-decimal (suc c) (omega arith) (omega arith))
@@ -46,50 +49,36 @@ pub choice-absent : (n : List ℕ) (ws : List Word) (d : ℕ) (ats : List Attrib
 unfolding choice
 choice-absent n ws d ats e = rw (e, choice)
 
--- a letter that is among some: one of them
-one-of : (P : ℕ → Type 0) (l a : ℕ) (rest : List ℕ) → P a → (among l rest ≡ true → P l) → among l (a ∷ rest) ≡ true → P l
-unfolding among
-one-of P l a rest p q e = by (eqb l a) refl e
-  where
-    by : (b : Bool) → eqb l a ≡ b → b || among l rest ≡ true → P l
-    by true f k = subst P (sym (eqb-true l a f)) p
-    by false f k = q k
-
-none-of : (l : ℕ) → among l [] ≡ true → ⊥
-unfolding among
-none-of l e = false≢true e
+-- the word of a letter gives the letter back
+abbrev WordBack : List Word → ℕ → Type 0
+WordBack ws l = letter-of ws (word-of ws l) ≡ some l
 
 pub yes-no-back : (l : ℕ) → among l ('Y' ∷ 'N' ∷ []) ≡ true → letter-of yes-no (word-of yes-no l) ≡ some l
 unfolding letter-of word-of yes-no equal Words·all
-yes-no-back l e =
-    one-of (λ x. letter-of yes-no (word-of yes-no x) ≡ some x) l 'Y' ('N' ∷ []) refl
-    (one-of (λ x. letter-of yes-no (word-of yes-no x) ≡ some x) l 'N' [] refl (λ k. absurd (none-of l k))) e
+yes-no-back l e = each-among (WordBack yes-no) ('Y' ∷ 'N' ∷ []) (each-cons refl (each-cons refl each-nil)) l e
 
-pub yes-first-no-back : (l : ℕ) → among l ('Y' ∷ 'F' ∷ 'N' ∷ []) ≡ true → letter-of yes-first-no (word-of yes-first-no l) ≡ some l
+pub yes-first-no-back : (l : ℕ) → among l ('Y' ∷ 'F' ∷ 'N' ∷ []) ≡ true
+    → letter-of yes-first-no (word-of yes-first-no l) ≡ some l
 unfolding letter-of word-of yes-first-no equal Words·all
 yes-first-no-back l e =
-    one-of (λ x. letter-of yes-first-no (word-of yes-first-no x) ≡ some x) l 'Y' ('F' ∷ 'N' ∷ []) refl
-    (one-of (λ x. letter-of yes-first-no (word-of yes-first-no x) ≡ some x) l 'F' ('N' ∷ []) refl
-    (one-of (λ x. letter-of yes-first-no (word-of yes-first-no x) ≡ some x) l 'N' [] refl (λ k. absurd (none-of l k)))) e
+    each-among (WordBack yes-first-no) ('Y' ∷ 'F' ∷ 'N' ∷ [])
+    (each-cons refl (each-cons refl (each-cons refl each-nil))) l e
 
-pub states-back : (l : ℕ) → among l ('I' ∷ 'T' ∷ 'R' ∷ 'F' ∷ []) ≡ true → letter-of states (word-of states l) ≡ some l
+pub states-back : (l : ℕ) → among l state-letters ≡ true → letter-of states (word-of states l) ≡ some l
 unfolding letter-of word-of states equal Words·all
 states-back l e =
-    one-of (λ x. letter-of states (word-of states x) ≡ some x) l 'I' ('T' ∷ 'R' ∷ 'F' ∷ []) refl
-    (one-of (λ x. letter-of states (word-of states x) ≡ some x) l 'T' ('R' ∷ 'F' ∷ []) refl
-    (one-of (λ x. letter-of states (word-of states x) ≡ some x) l 'R' ('F' ∷ []) refl
-    (one-of (λ x. letter-of states (word-of states x) ≡ some x) l 'F' [] refl (λ k. absurd (none-of l k))))) e
+    each-among (WordBack states) state-letters
+    (each-cons refl (each-cons refl (each-cons refl (each-cons refl each-nil)))) l e
 
 -- Y, N or -, where - is written by nothing
 pub hyphen-back : (n : List ℕ) (ats : List Attribute) (l : ℕ) → among l ('Y' ∷ 'N' ∷ '-' ∷ []) ≡ true
     → value-of n ats ≡ cond (eqb l '-') none (some (word-of yes-no l)) → choice n yes-no '-' ats ≡ some l
-hyphen-back n ats l e v =
-    one-of (λ x. value-of n ats ≡ cond (eqb x '-') none (some (word-of yes-no x)) → choice n yes-no '-' ats ≡ some x) l 'Y'
-    ('N' ∷ '-' ∷ []) (λ k. choice-word n yes-no '-' ats 'Y' k (yes-no-back 'Y' (unfold among in refl)))
-    (one-of (λ x. value-of n ats ≡ cond (eqb x '-') none (some (word-of yes-no x)) → choice n yes-no '-' ats ≡ some x) l 'N'
-    ('-' ∷ []) (λ k. choice-word n yes-no '-' ats 'N' k (yes-no-back 'N' (unfold among in refl)))
-    (one-of (λ x. value-of n ats ≡ cond (eqb x '-') none (some (word-of yes-no x)) → choice n yes-no '-' ats ≡ some x) l '-'
-    [] (λ k. choice-absent n yes-no '-' ats k) (λ k. absurd (none-of l k)))) e v
+hyphen-back n ats =
+    each-among (λ x. value-of n ats ≡ cond (eqb x '-') none (some (word-of yes-no x)) → choice n yes-no '-' ats ≡ some x)
+    ('Y' ∷ 'N' ∷ '-' ∷ [])
+    (each-cons (λ k. choice-word n yes-no '-' ats 'Y' k (yes-no-back 'Y' (unfold among in refl)))
+    (each-cons (λ k. choice-word n yes-no '-' ats 'N' k (yes-no-back 'N' (unfold among in refl)))
+    (each-cons (λ k. choice-absent n yes-no '-' ats k) each-nil)))
 
 -- words are plain
 unfoldable plain-words : List Word → Bool
@@ -170,7 +159,8 @@ code-of o t i c r a b e =
     }
 
 abbrev fields-of : ℕ → ℕ → ℕ → ℕ → ℕ → ℕ → ℕ → Fields
-fields-of i c r a b o e = record { id = i; copyOf = c; dataRef = r; canCopy = a; canDelete = b; canOverlap = o; canReorder = e }
+fields-of i c r a b o e =
+    record { id = i; copyOf = c; dataRef = r; canCopy = a; canDelete = b; canOverlap = o; canReorder = e }
 
 ph-code : (i c r a b o e : ℕ)
     → Code ('id' ∷ 'copyOf' ∷ 'dataRef' ∷ 'canCopy' ∷ 'canDelete' ∷ 'canReorder' ∷ []) 'id' 'dataRef'
@@ -204,7 +194,8 @@ half-by-id i (suc c) (suc r) a b o e w =
     record { code = code-of refl refl refl refl refl refl refl refl; can-overlap = refl; is-isolated = refl }
 
 pub half-id-read : (f : Fields) (w : List ℕ) → Half 'id' w (half-attributes 'id' w f) f
-half-id-read f w = half-by-id (f .id) (f .copyOf) (f .dataRef) (f .canCopy) (f .canDelete) (f .canOverlap) (f .canReorder) w
+half-id-read f w =
+    half-by-id (f .id) (f .copyOf) (f .dataRef) (f .canCopy) (f .canDelete) (f .canOverlap) (f .canReorder) w
 
 half-by-ref : (i c r a b o e : ℕ) (w : List ℕ)
     → Half 'startRef' w (half-attributes 'startRef' w (fields-of i c r a b o e)) (fields-of i c r a b o e)
@@ -219,7 +210,8 @@ half-by-ref i (suc c) (suc r) a b o e w =
     record { code = code-of refl refl refl refl refl refl refl refl; can-overlap = refl; is-isolated = refl }
 
 pub half-ref-read : (f : Fields) (w : List ℕ) → Half 'startRef' w (half-attributes 'startRef' w f) f
-half-ref-read f w = half-by-ref (f .id) (f .copyOf) (f .dataRef) (f .canCopy) (f .canDelete) (f .canOverlap) (f .canReorder) w
+half-ref-read f w =
+    half-by-ref (f .id) (f .copyOf) (f .dataRef) (f .canCopy) (f .canDelete) (f .canOverlap) (f .canReorder) w
 
 -- pc: with canOverlap and the dataRef of its end
 pub record Nested (ats : List Attribute) (f : Fields) (d : ℕ) : Type 0 where

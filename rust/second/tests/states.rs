@@ -3,7 +3,7 @@
 use std::collections::BTreeMap;
 
 use second::desk::{desk, from_hexadecimal, hexadecimal, read_request, table_length, Request};
-use second::generate::job;
+use second::generate::{job, JOBS, SEED};
 use second::rules::check;
 use second::table::{Part, PartKind};
 use second::MOST_BYTES;
@@ -85,11 +85,11 @@ fn count(pairs: &mut BTreeMap<(char, char), usize>, job: &[u8]) {
     }
 }
 
-/// Generated jobs, compared with the desk program by `./test`, join segments of all pairs.
+/// The generated jobs that `./test` compares with the desk program join segments of all pairs.
 #[test]
 fn generated_jobs_join_all_pairs() {
     let mut counts = BTreeMap::new();
-    (0..4000).for_each(|number| count(&mut counts, &job(3, number).1));
+    (0..JOBS as u64).for_each(|number| count(&mut counts, &job(SEED, number).1));
     println!("{counts:?}");
     assert_eq!(counts.len(), 16, "a pair of states is never joined");
     assert!(counts.values().all(|count| *count >= 5), "a pair of states is joined too seldom");

@@ -1,33 +1,26 @@
 -- The state of a join: the earliest by cases (specs/State) is the one that the rank gave before order 3.
 use Prim.Native.Nat.{ℕ}
-use mathlib.Core.Path.{_≡_, refl, sym, ap, ap₂, _∙_, subst}
-use mathlib.Core.Bool.{Bool, true, false, _||_, cond, false≢true}
+use mathlib.Core.Path.{_≡_, refl, ap, ap₂, _∙_, subst}
+use mathlib.Core.Bool.{true, cond}
 use mathlib.Core.List.{List, _∷_, _++_}
 use lib.Dec.{eqb, leb}
-use borrow.Author.Tests.{eqb-true}
 use Rattle.xliff.specs.Bytes.{'F', 'I', 'R', 'T', Bytes, among}
 use Rattle.xliff.specs.State.{State, initial, translated, reviewed, final, state-letters, state-letter, state-of, earliest}
 use Rattle.xliff.specs.Unit.{Segment, segment, Part}
 use Rattle.xliff.specs.Parse.{unit}
 use Rattle.xliff.specs.Check.{Valid}
 use Rattle.xliff.specs.Join.{join-states}
-use Rattle.xliff.specs.Good.{each-cons, GoodHead, GoodParts}
-use Rattle.xliff.proofs.lists.Each.{each-apart}
+use Rattle.xliff.specs.Good.{each-nil, each-cons, GoodHead, GoodParts}
+use Rattle.xliff.proofs.lists.Each.{each-apart, each-among}
 use Rattle.xliff.proofs.unit.Result.{sent}
 
 -- STATES AND LETTERS. A letter of the four is that of its state
 letter-back : (s : ℕ) → among s state-letters ≡ true → state-letter (state-of s) ≡ s
-unfolding among state-of state-letter
-letter-back s good = by (eqb s 'I') (eqb s 'T') (eqb s 'R') (eqb s 'F') refl refl refl refl good
-  where
-    by : (i t r f : Bool) → eqb s 'I' ≡ i → eqb s 'T' ≡ t → eqb s 'R' ≡ r → eqb s 'F' ≡ f
-        → i || (t || (r || (f || false))) ≡ true
-        → state-letter (cond i initial (cond t translated (cond r reviewed final))) ≡ s
-    by true t r f is-I is-T is-R is-F g = sym (eqb-true s 'I' is-I)
-    by false true r f is-I is-T is-R is-F g = sym (eqb-true s 'T' is-T)
-    by false false true f is-I is-T is-R is-F g = sym (eqb-true s 'R' is-R)
-    by false false false true is-I is-T is-R is-F g = sym (eqb-true s 'F' is-F)
-    by false false false false is-I is-T is-R is-F g = absurd (false≢true g)
+unfolding state-of state-letter
+letter-back s good =
+    each-among (λ x. state-letter (state-of x) ≡ x) state-letters
+    (each-cons {x = 'I'} refl (each-cons {x = 'T'} refl (each-cons {x = 'R'} refl (each-cons {x = 'F'} refl each-nil))))
+    s good
 
 -- the letter of a joined segment is one of the four
 pub join-states-good : (s t : ℕ) → among (join-states s t) state-letters ≡ true

@@ -9,7 +9,8 @@ use lib.Dec.{eqb, ltb}
 use lib.ListN.{length, length-append}
 use borrow.Author.Tests.{eqb-true, ltb-true, ltb-false, not-true}
 use Rattle.xliff.specs.Parse.{most-bytes}
-use Rattle.xliff.specs.Bytes.{'-', 'E', 'F', 'G', 'I', 'N', 'R', 'S', 'T', 'U', 'X', 'Y', Bytes, no-bytes, one-byte, two, among, gather}
+use Rattle.xliff.specs.Bytes.{'-', 'E', 'G', 'I', 'N', 'S', 'T', 'U', 'X', 'Y', Bytes, no-bytes, one-byte, two, among, gather}
+use Rattle.xliff.specs.State.{state-letters}
 use Rattle.xliff.specs.Text.{utf8-1, utf8-2, utf8-3, utf8-4, utf8, utf8s}
 use Rattle.xliff.specs.Item.{Item, Content, start, end, form-P, form-S, text, character, standalone, isolated, pair, annotation-start, annotation-end, mark}
 use Rattle.xliff.specs.Unit.{Head, segment, ignorable, Target, no-target, target, Part, XliffUnit, head-id, order-list, orders}
@@ -74,7 +75,8 @@ AllFit rs = Each Fits rs
 -- bytes are of records that fit
 head-fits : (h : Head) → Bytes (head-bytes h) → head-id h < 65536
 unfolding head-bytes head-id
-head-fits (segment f) (one-byte p (one-byte q r)) = two-fits (f .id) (bytes-left (two (f .id)) (f .canResegment ∷ f .state ∷ []) r)
+head-fits (segment f) (one-byte p (one-byte q r)) =
+    two-fits (f .id) (bytes-left (two (f .id)) (f .canResegment ∷ f .state ∷ []) r)
 head-fits (ignorable i) (one-byte p (one-byte q r)) = two-fits i r
 
 record-fits : (r : Record) → Bytes (record-bytes r) → Fits r
@@ -91,7 +93,9 @@ record-fits (broken b) h = tt
 pub bytes-fit : (rs : List Record) → Bytes (spell rs) → AllFit rs
 unfolding spell gather
 bytes-fit [] h = each-nil
-bytes-fit (r ∷ rs) h = each-cons (record-fits r (bytes-left (record-bytes r) (spell rs) h)) (bytes-fit rs (bytes-right (record-bytes r) (spell rs) h))
+bytes-fit (r ∷ rs) h =
+    each-cons (record-fits r (bytes-left (record-bytes r) (spell rs) h))
+    (bytes-fit rs (bytes-right (record-bytes r) (spell rs) h))
 
 -- and records that are good and fit are bytes
 among-byte : (c : ℕ) (l : List ℕ) → Bytes l → among c l ≡ true → c < 256
@@ -109,8 +113,8 @@ letters-YN = letters ('Y' ∷ 'N' ∷ []) refl
 letters-YN- : Bytes ('Y' ∷ 'N' ∷ '-' ∷ [])
 letters-YN- = letters ('Y' ∷ 'N' ∷ '-' ∷ []) refl
 
-letters-ITRF : Bytes ('I' ∷ 'T' ∷ 'R' ∷ 'F' ∷ [])
-letters-ITRF = letters ('I' ∷ 'T' ∷ 'R' ∷ 'F' ∷ []) refl
+letters-of-states : Bytes state-letters
+letters-of-states = letters state-letters refl
 
 head-bytes-good : (h : Head) → GoodHead h → head-id h < 65536 → Bytes (head-bytes h)
 unfolding head-bytes head-id
@@ -118,7 +122,8 @@ head-bytes-good (segment f) g l =
     let last = f .canResegment ∷ f .state ∷ [] in
     bytes-append ('S' ∷ 'G' ∷ []) (two (f .id) ++ last) (letters ('S' ∷ 'G' ∷ []) refl)
     (bytes-append (two (f .id)) last (fits-two (f .id) l)
-    (one-byte (among-byte (f .canResegment) _ letters-YN- (g .0)) (one-byte (among-byte (f .state) _ letters-ITRF (g .1)) no-bytes)))
+    (one-byte (among-byte (f .canResegment) _ letters-YN- (g .0))
+    (one-byte (among-byte (f .state) _ letters-of-states (g .1)) no-bytes)))
 head-bytes-good (ignorable i) g f = bytes-append ('I' ∷ 'G' ∷ []) (two i) (letters ('I' ∷ 'G' ∷ []) refl) (fits-two i f)
 
 -- every byte of a code point is below 256
@@ -133,20 +138,24 @@ utf8-byte c h = one (ltb c 0x80) refl
     three true e =
         let z = ltb-true c 0x10000 e in
         byte (0xE0 + c / 4096) _ (omega arith) (one-byte (six-byte (c / 64)) (one-byte (six-byte c) no-bytes))
-    three false e = byte (0xF0 + c / 262144) _ (omega arith) (one-byte (six-byte (c / 4096)) (one-byte (six-byte (c / 64)) (one-byte (six-byte c) no-bytes)))
+    three false e =
+        byte (0xF0 + c / 262144) _ (omega arith)
+        (one-byte (six-byte (c / 4096)) (one-byte (six-byte (c / 64)) (one-byte (six-byte c) no-bytes)))
 
     second : (b : Bool) → ltb c 0x800 ≡ b → Bytes (cond b (utf8-2 c) (cond (ltb c 0x10000) (utf8-3 c) (utf8-4 c)))
     second true e = let z = ltb-true c 0x800 e in byte (0xC0 + c / 64) _ (omega arith) (one-byte (six-byte c) no-bytes)
     second false e = three (ltb c 0x10000) refl
 
-    one : (b : Bool) → ltb c 0x80 ≡ b → Bytes (cond b (utf8-1 c) (cond (ltb c 0x800) (utf8-2 c) (cond (ltb c 0x10000) (utf8-3 c) (utf8-4 c))))
+    one : (b : Bool) → ltb c 0x80 ≡ b
+        → Bytes (cond b (utf8-1 c) (cond (ltb c 0x800) (utf8-2 c) (cond (ltb c 0x10000) (utf8-3 c) (utf8-4 c))))
     one true e = let z = ltb-true c 0x80 e in byte c [] (omega arith) no-bytes
     one false e = second (ltb c 0x800) refl
 
 utf8s-bytes : (cs : List ℕ) → Allowed cs → Bytes (utf8s cs)
 unfolding utf8s gather
 utf8s-bytes [] no-text = no-bytes
-utf8s-bytes (c ∷ cs) (one-point p h) = bytes-append (utf8 c) (utf8s cs) (utf8-byte c (allowed-bound c p)) (utf8s-bytes cs h)
+utf8s-bytes (c ∷ cs) (one-point p h) =
+    bytes-append (utf8 c) (utf8s cs) (utf8-byte c (allowed-bound c p)) (utf8s-bytes cs h)
 
 mark-bytes : (x : Item) → Bytes (mark x)
 unfolding mark
@@ -167,10 +176,12 @@ mark-bytes (annotation-end form-S i) = letters _ refl
 record-bytes-good : (r : Record) → GoodRecord r → Fits r → length (record-bytes r) ≤ most-bytes → Bytes (record-bytes r)
 unfolding record-bytes
 record-bytes-good (opening o) g f l =
-    bytes-append ('U' ∷ 'N' ∷ []) (o .canResegment ∷ []) (letters ('U' ∷ 'N' ∷ []) refl) (one-byte (among-byte (o .canResegment) _ letters-YN g) no-bytes)
+    bytes-append ('U' ∷ 'N' ∷ []) (o .canResegment ∷ []) (letters ('U' ∷ 'N' ∷ []) refl)
+    (one-byte (among-byte (o .canResegment) _ letters-YN g) no-bytes)
 record-bytes-good closing g f l = letters ('U' ∷ 'E' ∷ []) refl
 record-bytes-good (part-head h) g f l = head-bytes-good h g f
-record-bytes-good (target-head q) g f l = bytes-append ('T' ∷ 'G' ∷ []) (two q) (letters ('T' ∷ 'G' ∷ []) refl) (fits-two q f)
+record-bytes-good (target-head q) g f l =
+    bytes-append ('T' ∷ 'G' ∷ []) (two q) (letters ('T' ∷ 'G' ∷ []) refl) (fits-two q f)
 record-bytes-good (text-run cs) g f l =
     let a = length-append (two (length (utf8s cs))) (utf8s cs) in
     bytes-append ('T' ∷ 'X' ∷ []) (two (length (utf8s cs)) ++ utf8s cs) (letters ('T' ∷ 'X' ∷ []) refl)
@@ -292,7 +303,8 @@ unfolding target-records
 some-to q xs h l = each-cons l (content-to xs h)
 
 -- the orders fit by rule 5
-pub parts-to : (n : ℕ) (used : List ℕ) (ps : List Part) → n < 65536 → orders-fit n used (orders ps) ≡ true → FitParts ps → AllFit (gather part-records ps)
+pub parts-to : (n : ℕ) (used : List ℕ) (ps : List Part) → n < 65536 → orders-fit n used (orders ps) ≡ true → FitParts ps
+    → AllFit (gather part-records ps)
 unfolding gather part-records orders order-list orders-fit bad-order
 parts-to n used [] l e each-nil = each-nil
 parts-to n used (p ∷ ps) l e (each-cons f h) = by (p .target) refl e (f .target) (λ u k. parts-to n u ps l k h)
@@ -300,15 +312,23 @@ parts-to n used (p ∷ ps) l e (each-cons f h) = by (p .target) refl e (f .targe
     IH : Type 0
     IH = (u : List ℕ) → orders-fit n u (orders ps) ≡ true → AllFit (gather part-records ps)
 
+    sources : List Record
+    sources = content-records (p .source)
+
+    -- the part's records, its target g fitting; then those of the others
+    whole : (g : Target) → p .target ≡ g → AllFit (target-records g) → AllFit (gather part-records ps)
+        → AllFit (part-head (p .head) ∷ (sources ++ target-records (p .target)) ++ gather part-records ps)
+    whole g q t others =
+        let target-fits : AllFit (target-records (p .target)) = subst (λ (z : Target). AllFit (target-records z)) (sym q) t in
+        let both = each-append sources (target-records (p .target)) (content-to (p .source) (f .source)) target-fits in
+        each-cons (f .head) (each-append (sources ++ target-records (p .target)) (gather part-records ps) both others)
+
     by : (g : Target) → p .target ≡ g → orders-fit n used (order-list g ++ orders ps) ≡ true → FitTarget g → IH
-        → AllFit (part-head (p .head) ∷ (content-records (p .source) ++ target-records (p .target)) ++ gather part-records ps)
-    by no-target q k t ih =
-        each-cons (f .head) (each-append (content-records (p .source) ++ target-records (p .target)) (gather part-records ps)
-        (each-append (content-records (p .source)) (target-records (p .target)) (content-to (p .source) (f .source)) (subst (λ (z : Target). AllFit (target-records z)) (sym q) none-to)) (ih used k))
+        → AllFit (part-head (p .head) ∷ (sources ++ target-records (p .target)) ++ gather part-records ps)
+    by no-target q k t ih = whole no-target q none-to (ih used k)
     by (target o xs) q k t ih =
         let g : bad-order n used o ≡ false = not-true _ (and-left _ _ k) in
         let r : ltb n o || among o used ≡ false = or-right (eqb o 0) _ g in
         let s : o ≤ n = ltb-false n o (or-left _ _ r) in
-        each-cons (f .head) (each-append (content-records (p .source) ++ target-records (p .target)) (gather part-records ps)
-        (each-append (content-records (p .source)) (target-records (p .target)) (content-to (p .source) (f .source))
-        (subst (λ (z : Target). AllFit (target-records z)) (sym q) (some-to o xs t (omega arith)))) (ih (o ∷ used) (and-right (not (bad-order n used o)) _ k)))
+        whole (target o xs) q (some-to o xs t (omega arith))
+        (ih (o ∷ used) (and-right (not (bad-order n used o)) _ k))

@@ -2,35 +2,28 @@
 use Prim.Native.Nat.{ℕ, suc, _-_, _<_}
 use native.Mathlib.Omega.{arith}
 use mathlib.Core.Path.{_≡_, refl, sym, ap, ap₂, _∙_}
-use mathlib.Core.Bool.{Bool, true, false, _&&_, _||_, cond, true≢false, false≢true}
+use mathlib.Core.Bool.{Bool, true, false, _&&_, cond, true≢false}
 use mathlib.Core.List.{List, [], _∷_, _++_}
 use lib.Dec.{eqb, ltb}
-use borrow.Author.Tests.{eqb-true, eq-eqb, ltb-true, lt-ltb}
+use borrow.Author.Tests.{eq-eqb, ltb-true, lt-ltb}
 use Rattle.xliff.specs.Bytes.{'-', 'N', 'Y', gather, among}
 use Rattle.xliff.specs.Unit.{Head, segment, ignorable, Target, no-target, target, Part, with-id, resolved, order-list, orders}
 use Rattle.xliff.specs.Focus.{order-target, order-part, order-parts}
 use Rattle.xliff.specs.Split.{first-target, second-target, raise-above, split-order}
 use Rattle.xliff.specs.Join.{dash, join-heads, highest-unused, lower-above, bad-orders}
-use Rattle.xliff.specs.Good.{GoodHead}
+use Rattle.xliff.specs.Good.{each-nil, each-cons, GoodHead}
+use Rattle.xliff.proofs.lists.Each.{each-among}
 use Rattle.xliff.proofs.operations.JoinStates.{same-state}
 use Rattle.xliff.proofs.lists.Tests.{or-left, or-right, map-stays, map-map}
 
 -- THE HEAD: both halves have the state of the part, and its canResegment, Y or - in a part that is not closed
 open-letter : (c d : ℕ) → among d ('Y' ∷ 'N' ∷ '-' ∷ []) ≡ true → eqb (cond (eqb d '-') c d) 'N' ≡ false
     → dash (eqb d '-' && eqb d '-') ≡ d
-unfolding dash among
-open-letter c d g o = by (eqb d '-') refl o
-  where
-    only-Y : eqb d 'N' ≡ false → eqb d '-' ≡ false → eqb d 'Y' || (eqb d 'N' || (eqb d '-' || false)) ≡ true → 'Y' ≡ d
-    only-Y n m k = pick (eqb d 'Y') refl (rw (n, m) at k)
-      where
-        pick : (b : Bool) → eqb d 'Y' ≡ b → b || false ≡ true → 'Y' ≡ d
-        pick true e z = sym (eqb-true d 'Y' e)
-        pick false e z = absurd (false≢true z)
-
-    by : (b : Bool) → eqb d '-' ≡ b → eqb (cond b c d) 'N' ≡ false → cond (b && b) '-' 'Y' ≡ d
-    by true e k = sym (eqb-true d '-' e)
-    by false e k = only-Y k e g
+unfolding dash
+open-letter c d good =
+    each-among (λ x. eqb (cond (eqb x '-') c x) 'N' ≡ false → dash (eqb x '-' && eqb x '-') ≡ x) ('Y' ∷ 'N' ∷ '-' ∷ [])
+    (each-cons {x = 'Y'} (λ o. refl) (each-cons {x = 'N'} (λ o. absurd (true≢false o))
+    (each-cons {x = '-'} (λ o. refl) each-nil))) d good
 
 pub head-back : (c new : ℕ) (h : Head) → GoodHead h → eqb (resolved c h) 'N' ≡ false → join-heads h (with-id new h) ≡ h
 unfolding join-heads with-id resolved

@@ -67,6 +67,10 @@ impl Kind {
     const SHARES: [usize; 8] = [8, 21, 7, 5, 6, 26, 23, 4];
 }
 
+/// How many jobs `differential` compares, and of which seed, unless it is told otherwise.
+pub const JOBS: usize = 10_000;
+pub const SEED: u64 = 20_260_101;
+
 /// The job of this seed and number.
 pub fn job(seed: u64, number: u64) -> (Kind, Vec<u8>) {
     let random = &mut Random::of_job(seed, number);

@@ -2,6 +2,8 @@
 
 use std::path::PathBuf;
 
+use second::generate::{JOBS, SEED};
+
 pub const USAGE: &str = "differential DESK_PROGRAM [--jobs N] [--seed S] [--vectors FILE]..\n\
     differential lines DESKJOB_PROGRAM [--jobs N] [--seed S]";
 
@@ -18,7 +20,7 @@ pub fn read(words: impl Iterator<Item = String>) -> Result<Arguments, String> {
     let mut words = words.peekable();
     let lines = words.next_if(|word| word == "lines").is_some();
     let program = PathBuf::from(words.next().ok_or("no program named")?);
-    let (jobs, seed, vectors) = (10_000, 20_260_101, Vec::new());
+    let (jobs, seed, vectors) = (JOBS, SEED, Vec::new());
     let mut arguments = Arguments { program, lines, jobs, seed, vectors };
     while let Some(option) = words.next() {
         let value = words.next().ok_or(format!("{option} without a value"))?;
