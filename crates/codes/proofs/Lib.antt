@@ -2,4 +2,5 @@ pub mod CodeLaws
 pub mod SameLaws
 pub mod LostLaws
 pub mod FixedLaws
-pub mod ListLaws
+pub mod MarkerChains
+pub mod CountLaws

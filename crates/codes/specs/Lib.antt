@@ -1,3 +1,4 @@
 pub mod Codes
 pub mod Lost
 pub mod Fixed
+pub mod Chains

@@ -1,14 +1,14 @@
-// Set target, 19: whether the fixed codes of two contents differ in ids, halves or order.
+// The fixed codes of a content, those with canReorder F or N: from one to the next, and whether two are the same.
 use super::code_at;
 ghost use mathlib.Core.Path.{_≡_};
-ghost use mathlib.Core.Bool.{_&&_};
 ghost use Prim.Native.Nat.{_+_, _≤_};
 ghost use lib.ListN.{length, drop};
-ghost use lib.Dec.{eqb};
-ghost use Rattle.walk.specs.Marks.{number, kindAt};
 ghost use Rattle.walk.specs.Place.{Begins};
-ghost use Rattle.codes.specs.Codes.{BothContents};
-ghost use Rattle.codes.specs.Fixed.{fixedAt, From, NextFixed, Differ};
+ghost use Rattle.xliff.specs.SetTarget.{same-fixed};
+ghost use Rattle.codes.specs.Fixed.{fixedAt, fixedHere, From, NextFixed};
+
+// Where the letter canReorder stands in a code.
+pub const CAN_REORDER: usize = 11;
 
 // Whether the record at `at` is a code with canReorder F or N.
 fn is_fixed(c: &[u8], at: usize) -> bool
@@ -18,12 +18,12 @@ fn is_fixed(c: &[u8], at: usize) -> bool
     if code_at(c, at) == 0 {
         return false;
     }
-    let reorder = c[at + 11];
+    let reorder = c[at + CAN_REORDER];
     (reorder == b'F') | (reorder == b'N')
 }
 
 // Where the first fixed code stands, from the record at `from` on; the end where there is none.
-fn next_fixed(c: &[u8], from: usize) -> usize
+pub fn next_fixed(c: &[u8], from: usize) -> usize
     requires { ⌜ From (now c) from ⌝ }
     ensures { λ r. ⌜ NextFixed (now (c .entry)) from r ⌝ }
 {
@@ -38,32 +38,14 @@ fn next_fixed(c: &[u8], from: usize) -> usize
     at
 }
 
-// Whether the codes at `at` and at `to` have the same id and are the same half.
-fn same_half(old: &[u8], at: usize, new: &[u8], to: usize) -> bool
-    requires { ⌜ (at + 4 ≤ length (now old)) × (to + 4 ≤ length (now new)) ⌝ }
-    ensures { λ r. ⌜ r ≡ eqb (number (drop at (now (old .entry)))) (number (drop to (now (new .entry)))) && eqb (kindAt (drop at (now (old .entry)))) (kindAt (drop to (now (new .entry)))) ⌝ }
+// Whether the fixed codes at `at` and at `to` are the same: id, half and letter.
+pub fn same_fixed(c: &[u8], at: usize, d: &[u8], to: usize) -> bool
+    requires { ⌜ (at + 12 ≤ length (now c)) × (to + 12 ≤ length (now d)) ⌝ }
+    ensures { λ r. ⌜ r ≡ same-fixed (fixedHere (drop at (now (c .entry)))) (fixedHere (drop to (now (d .entry)))) ⌝ }
 {
-    let a = walk::kind_of(walker::mark_at(old, at));
-    let b = walk::kind_of(walker::mark_at(new, to));
-    (marks::number_at(old, at + 2) == marks::number_at(new, to + 2)) & (a == b)
-}
-
-// 19: whether the lists of ids and halves of the fixed codes of two contents differ.
-pub fn differs(old: &[u8], new: &[u8]) -> bool
-    requires { ⌜ BothContents (now old) (now new) ⌝ }
-    ensures { λ r. ⌜ Differ (now (old .entry)) (now (new .entry)) r ⌝ }
-{
-    let mut i = next_fixed(old, 0);
-    let mut j = next_fixed(new, 0);
-    while i < old.len() {
-        if new.len() <= j {
-            return true;
-        }
-        if !same_half(old, i, new, j) {
-            return true;
-        }
-        i = next_fixed(old, i + 12);
-        j = next_fixed(new, j + 12);
-    }
-    j < new.len()
+    let a = walk::kind_of(walker::mark_at(c, at));
+    let b = walk::kind_of(walker::mark_at(d, to));
+    let same_id = marks::number_at(c, at + 2) == marks::number_at(d, to + 2);
+    let same_letter = c[at + CAN_REORDER] == d[to + CAN_REORDER];
+    same_id & ((a == b) & same_letter)
 }

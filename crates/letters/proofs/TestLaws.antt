@@ -11,7 +11,7 @@ use Rattle.xliff.specs.Item.{Item, Content, class, half, is-fixed, fields, othe
 use Rattle.xliff.specs.Rules.{nearest, end-letter, ill-matched, ill-ended, fixed-but-free, is-F, unled, bad-8-target, bad-8-source}
 use Rattle.xliff.specs.Sequences.{items}
 use Rattle.places.specs.Markers.{placed-at}
-use Rattle.xliff.proofs.lists.Tests.{or-none, and-false}
+use Rattle.xliff.proofs.lists.Tests.{or-none, or-assoc, and-false}
 use Rattle.views.specs.declared.View.{View}
 use Rattle.views.specs.Views.{viewOf}
 use Rattle.keys.specs.Keys.{keysAt}
@@ -43,15 +43,11 @@ unled-is : (x : Item) (before : Content) (led : Bool) → led ≡ any is-F befor
 unfolding unled viewOf
 unled-is x before led e = ap₂ (λ (b c : Bool). b && (eqb (fields x .canReorder) 78 && not c)) (code-same x) e
 
-or-group : (a b c : Bool) → a || (b || c) ≡ a || b || c
-or-group true b c = refl
-or-group false b c = refl
-
 pub eight-is : (source : Bool) (before : Content) (x : Item) (after : Content) (led : Bool) → led ≡ any is-F before
     → ill-end before x || badAlone source led (viewOf x) ≡ bad-8 source before x after
 unfolding bad-8-source bad-8-target
 eight-is true before x after led e =
-    or-group (ill-end before x) (fixedFree (viewOf x)) (unledView led (viewOf x))
+    sym (or-assoc (ill-end before x) (fixedFree (viewOf x)) (unledView led (viewOf x)))
     ∙ ap₂ (λ (f u : Bool). ill-end before x || f || u) (fixed-is x) (unled-is x before led e)
 eight-is false before x after led e = ap (λ (f : Bool). ill-end before x || f) (or-none (fixedFree (viewOf x)) ∙ fixed-is x)
 

@@ -10,7 +10,7 @@ use Rattle.xliff.specs.Bytes.{any, keep, gather}
 use Rattle.xliff.specs.Item.{Item, Content, half, alike, is-half, is-start-half, is-end-half, other-half}
 use Rattle.xliff.specs.Unit.{Target, no-target, target, Part, has-target, source-sequence}
 use Rattle.xliff.specs.Rules.{lone-P, lone-S, with-partner, waiting}
-use Rattle.xliff.proofs.lists.Tests.{any-append, keep-append, map-append, rev-append, and-false}
+use Rattle.xliff.proofs.lists.Tests.{any-append, keep-append, map-append, rev-append, and-false, or-assoc}
 use Rattle.places.specs.Markers.{is-marked, only-markers}
 use Rattle.keys.specs.Keys.{key, alikeKeys, otherKey, formKey, halfKey}
 use Rattle.keys.proofs.KeyLaws.{class-key, other-key}
@@ -145,10 +145,6 @@ module _ {A : Type 0} (q : A → Bool) (y : A) (ys : List A) where
 split-or : (t a b : Bool) → cond t false (a || b) ≡ cond t false a || cond t false b
 split-or true a b = refl
 split-or false a b = refl
-
-or-assoc : (a b c : Bool) → a || b || c ≡ a || (b || c)
-or-assoc true b c = refl
-or-assoc false b c = refl
 
 cond-none : (t b : Bool) → b ≡ cond t false false || b
 cond-none true b = refl

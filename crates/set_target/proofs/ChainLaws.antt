@@ -27,13 +27,15 @@ module _ (t : List ℕ) (n st : ℕ) (s : List ℕ) (room : ℕ) (e : table-refu
   abbrev rest : Option Refusal
   rest = applies 15 (too-large room v) then of-result (fault-6-to-10 (v .parts))
 
-  on-focus : (f : Focus) → focus (unit t .parts) n ≡ f → set-target t n st s room ≡ unless (set-refusal st s f then rest) (encode v)
+  on-focus : (f : Focus) → focus (unit t .parts) n ≡ f
+      → set-target t n st s room ≡ unless (set-refusal st s f then rest) (encode v)
   unfolding set-target
   on-focus f h =
       on-passed t (set-refusal st s (focus (unit t .parts) n) then rest) v e
       ∙ ap (λ (g : Focus). unless (set-refusal st s g then rest) (encode v)) h
 
-  pub no-part : focus (unit t .parts) n ≡ nowhere → set-target t n st s room ≡ refuse (record { number = 11; place = 0 })
+  pub no-part : focus (unit t .parts) n ≡ nowhere
+      → set-target t n st s room ≡ refuse (record { number = 11; place = 0 })
   unfolding set-refusal
   no-part h = on-focus nowhere h ∙ applied 11 true rest (encode v) refl
 
@@ -44,31 +46,40 @@ module _ (t : List ℕ) (n st : ℕ) (s : List ℕ) (room : ℕ) (e : table-refu
     abbrev lost : Bool
     lost = any (is-lost (content s)) old
 
-    abbrev moved : Bool
-    moved = fixed-differ old (content s)
+    abbrev changed : Bool
+    changed = fixed-differ old (content s)
 
     codes : Option Refusal
-    codes = applies 18 lost then (applies 19 moved then rest)
+    codes = applies 18 lost then (applies 19 changed then rest)
 
-    regroup : (w x y z r : Option Refusal) → ((w then (x then (y then z))) then r) ≡ (w then (x then (y then (z then r))))
+    regroup : (w x y z r : Option Refusal)
+        → ((w then (x then (y then z))) then r) ≡ (w then (x then (y then (z then r))))
     regroup w x y z r =
         then-assoc w (x then (y then z)) r
-        ∙ ap (λ (o : Option Refusal). w then o) (then-assoc x (y then z) r ∙ ap (λ (o : Option Refusal). x then o) (then-assoc y z r))
+        ∙ ap (λ (o : Option Refusal). w then o)
+        (then-assoc x (y then z) r ∙ ap (λ (o : Option Refusal). x then o) (then-assoc y z r))
 
-    chain : set-target t n st s room ≡ unless (applies 2 (not (state-fits (p .head) st)) then (content-fault s then codes)) (encode v)
+    chain : set-target t n st s room
+        ≡ unless (applies 2 (not (state-fits (p .head) st)) then (content-fault s then codes)) (encode v)
     unfolding set-refusal codes
     chain =
         on-focus (here b p a) h
-        ∙ ap (λ (o : Option Refusal). unless o (encode v)) (regroup (applies 2 (not (state-fits (p .head) st))) (content-fault s) (applies 18 lost) (applies 19 moved) rest)
+        ∙ ap (λ (o : Option Refusal). unless o (encode v))
+        (regroup (applies 2 (not (state-fits (p .head) st))) (content-fault s) (applies 18 lost) (applies 19 changed)
+        rest)
 
-    pub refused-2 : state-fits (p .head) st ≡ false → set-target t n st s room ≡ refuse (record { number = 2; place = 0 })
+    pub refused-2 : state-fits (p .head) st ≡ false
+        → set-target t n st s room ≡ refuse (record { number = 2; place = 0 })
     refused-2 x = chain ∙ applied 2 (not (state-fits (p .head) st)) _ (encode v) (ap not x)
 
     module _ (fits : state-fits (p .head) st ≡ true) where
       after-2 : set-target t n st s room ≡ unless (content-fault s then codes) (encode v)
-      after-2 = chain ∙ ap (λ (o : Option Refusal). unless o (encode v)) (passed 2 (not (state-fits (p .head) st)) _ (ap not fits))
+      after-2 =
+          chain
+          ∙ ap (λ (o : Option Refusal). unless o (encode v)) (passed 2 (not (state-fits (p .head) st)) _ (ap not fits))
 
-      pub bad-content : (k at : ℕ) → content-fault s ≡ refusal k at → set-target t n st s room ≡ refuse (record { number = k; place = at })
+      pub bad-content : (k at : ℕ) → content-fault s ≡ refusal k at
+          → set-target t n st s room ≡ refuse (record { number = k; place = at })
       unfolding _then_ unless
       bad-content k at x = after-2 ∙ ap (λ (o : Option Refusal). unless (o then codes) (encode v)) x
 
@@ -82,15 +93,16 @@ module _ (t : List ℕ) (n st : ℕ) (s : List ℕ) (room : ℕ) (e : table-refu
         refused-18 x = after-content ∙ applied 18 lost _ (encode v) x
 
         module _ (kept : lost ≡ false) where
-          after-18 : set-target t n st s room ≡ unless (applies 19 moved then rest) (encode v)
+          after-18 : set-target t n st s room ≡ unless (applies 19 changed then rest) (encode v)
           unfolding codes
           after-18 = after-content ∙ ap (λ (o : Option Refusal). unless o (encode v)) (passed 18 lost _ kept)
 
-          pub refused-19 : moved ≡ true → set-target t n st s room ≡ refuse (record { number = 19; place = 0 })
-          refused-19 x = after-18 ∙ applied 19 moved _ (encode v) x
+          pub refused-19 : changed ≡ true → set-target t n st s room ≡ refuse (record { number = 19; place = 0 })
+          refused-19 x = after-18 ∙ applied 19 changed _ (encode v) x
 
-          pub ends : moved ≡ false → (q : ℕ) → q ≡ new-order (unit t .parts) n (p .target) → set-target t n st s room ≡ setting-ending room (unit-with (unit t) st q (content s) b p a)
+          pub ends : changed ≡ false → (q : ℕ) → q ≡ new-order (unit t .parts) n (p .target)
+              → set-target t n st s room ≡ setting-ending room (unit-with (unit t) st q (content s) b p a)
           unfolding judged
           ends x q o =
-              after-18 ∙ ap (λ (r : Option Refusal). unless r (encode v)) (passed 19 moved rest x)
+              after-18 ∙ ap (λ (r : Option Refusal). unless r (encode v)) (passed 19 changed rest x)
               ∙ ap (setting-ending room) (set-unit-is (unit t) n st q (content s) b p a h o)

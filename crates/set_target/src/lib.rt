@@ -82,7 +82,7 @@ fn set_content(
     if codes::kept::is_lost(&table[from..to], content) {
         return Answer::Refused(18, 0);
     }
-    if codes::fixed::differs(&table[from..to], content) {
+    if codes::chains::differs(&table[from..to], content) {
         return Answer::Refused(19, 0);
     }
     let order = target_order::new_order(table, n, place);

@@ -9,7 +9,7 @@ use lib.Dec.{eqb}
 use Rattle.xliff.specs.Bytes.{any}
 use Rattle.xliff.specs.Item as spec
 use Rattle.xliff.specs.Item.{id-of}
-use Rattle.xliff.proofs.lists.Tests.{or-none}
+use Rattle.xliff.proofs.lists.Tests.{or-none, or-assoc}
 use Rattle.id_links.specs.Nearest.{previous}
 use Rattle.id_links.proofs.Chains.{any-past}
 use Rattle.places.specs.Markers.{item-at}
@@ -27,10 +27,6 @@ same-matches a b c d i = record { starts = a i; differs = b i; agrees = c i; cop
 abbrev pub none-found : Matches
 none-found = record { starts = false; differs = false; agrees = false; copies = false }
 
-or-apart : (a b c : Bool) → a || b || c ≡ a || (b || c)
-or-apart true b c = refl
-or-apart false b c = refl
-
 or-swap : (a b c : Bool) → a || (b || c) ≡ b || (a || c)
 or-swap true true c = refl
 or-swap true false c = refl
@@ -38,8 +34,8 @@ or-swap false b c = refl
 
 pub joined-apart : (f g h : Matches) → joined (joined f g) h ≡ joined f (joined g h)
 joined-apart f g h =
-    same-matches (or-apart (f .starts) (g .starts) (h .starts)) (or-apart (f .differs) (g .differs) (h .differs))
-    (or-apart (f .agrees) (g .agrees) (h .agrees)) (or-apart (f .copies) (g .copies) (h .copies))
+    same-matches (or-assoc (f .starts) (g .starts) (h .starts)) (or-assoc (f .differs) (g .differs) (h .differs))
+    (or-assoc (f .agrees) (g .agrees) (h .agrees)) (or-assoc (f .copies) (g .copies) (h .copies))
 
 pub joined-none : (f : Matches) → joined f none-found ≡ f
 joined-none f = same-matches (or-none (f .starts)) (or-none (f .differs)) (or-none (f .agrees)) (or-none (f .copies))

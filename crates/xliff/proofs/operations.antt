@@ -10,6 +10,8 @@ pub mod Rewrite
 pub mod RewriteSides
 pub mod JoinSeven
 pub mod JoinStates
+pub mod ChainCounts
+pub mod Chains
 pub mod SetValid
 pub mod JoinRules
 pub mod JoinValid

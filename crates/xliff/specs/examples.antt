@@ -7,3 +7,4 @@ pub mod Desk
 pub mod Rejoin
 pub mod Accents
 pub mod States
+pub mod Chains

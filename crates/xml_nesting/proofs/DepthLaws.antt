@@ -6,6 +6,7 @@ use mathlib.Core.List.{List, [], _∷_, _++_, append-assoc}
 use native.Mathlib.Numerals.{add-one}
 use lib.Dec.{ltb}
 use borrow.Author.Tests.{lt-ltb, le-ltb}
+use Rattle.xliff.proofs.lists.Tests.{or-assoc}
 use Rattle.xliff.specs.Bytes.{gather, any}
 use Rattle.xliff.specs.Item.{Item, Content, text, character, standalone, isolated, pair, annotation-start, annotation-end, is-form-P, is-start-half, fields}
 use Rattle.xliff.specs.Unit.{Target, no-target, target, Part, XliffUnit, target-items}
@@ -17,10 +18,6 @@ use Rattle.xml.specs.Write.{one-less, depth-behind, deeper, too-deep}
 use Rattle.xml_nesting.specs.declared.Step.the-variants.{Opens, Closes, Stays}
 use Rattle.xml_nesting.specs.Nesting.{step-of-item, step-of, depth-after, records-deep}
 use Rattle.xml_nesting.proofs.RunLaws.{Outside, part-next, target-next, end-next, point-first}
-
-or-assoc : (a b c : Bool) → a || b || c ≡ a || (b || c)
-or-assoc true b c = refl
-or-assoc false b c = refl
 
 or-again : (a b : Bool) → a || b ≡ a || (a || b)
 or-again true b = refl

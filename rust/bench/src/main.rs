@@ -31,14 +31,15 @@ struct Row {
 
 fn main() {
     let units = units::all();
-    for unit in &units {
+    let chains = units::chains();
+    for unit in units.iter().chain(&chains) {
         assert!(xliff_desk::check(&unit.table).is_ok(), "{} is not valid", unit.name);
         let records = second::rules::check(&unit.table).expect("valid").records().len();
         println!("# {}: {} bytes, {records} records", unit.name, unit.table.len());
     }
-    let mut rows = measure(&units);
+    let mut rows = measure(&units, &chains);
     for _ in 1..PASSES {
-        for (row, again) in rows.iter_mut().zip(measure(&units)) {
+        for (row, again) in rows.iter_mut().zip(measure(&units, &chains)) {
             row.best = lower(row.best, again.best);
         }
     }
@@ -49,13 +50,15 @@ fn main() {
     rows.iter().for_each(print);
 }
 
-fn measure(units: &[Unit]) -> Vec<Row> {
+fn measure(units: &[Unit], chains: &[Unit]) -> Vec<Row> {
     let mut rows = Vec::new();
     for unit in units {
         rows.extend(measure_parts(unit));
+        rows.push(measure_set_target(unit));
         rows.extend(measure_targets(unit));
         rows.push(measure_job(unit));
     }
+    rows.extend(chains.iter().map(measure_set_target));
     rows
 }
 
@@ -90,16 +93,21 @@ fn measure_parts(unit: &Unit) -> [Row; 3] {
     [check_row, split_row, join_row]
 }
 
-fn measure_targets(unit: &Unit) -> [Row; 3] {
-    let Unit { table, content, pair, .. } = unit;
+fn measure_set_target(unit: &Unit) -> Row {
+    let Unit { table, content, .. } = unit;
     let (out, tuned_out) = (&mut vec![0; ROOM], &mut vec![0; ROOM]);
-    let set_target_row = row(
+    row(
         unit,
         "set target",
         || ok(xliff_desk::set_target(table, 1, State::Translated, content, out)),
         || plain::set_target(table, 1, b'T', content, ROOM).is_ok(),
         || accepted(tuned::set_target(table, 1, b'T', content, tuned_out)),
-    );
+    )
+}
+
+fn measure_targets(unit: &Unit) -> [Row; 2] {
+    let Unit { table, pair, .. } = unit;
+    let (out, tuned_out) = (&mut vec![0; ROOM], &mut vec![0; ROOM]);
     let remove_target_row = row(
         unit,
         "remove target",
@@ -114,7 +122,7 @@ fn measure_targets(unit: &Unit) -> [Row; 3] {
         || plain::rewrite(table, b'S', *pair, b'S', ROOM).is_ok(),
         || accepted(tuned::rewrite(table, b'S', *pair, b'S', tuned_out)),
     );
-    [set_target_row, remove_target_row, rewrite_row]
+    [remove_target_row, rewrite_row]
 }
 
 fn measure_job(unit: &Unit) -> Row {

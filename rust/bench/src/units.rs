@@ -1,4 +1,5 @@
-//! The three units that are measured: a typical one, one of a long text, and a dense one.
+//! The three units that are measured: a typical one, one of a long text, and a dense one; and one
+//! of many chains, whose target is set.
 
 pub struct Unit {
     pub name: &'static str,
@@ -92,4 +93,15 @@ fn dense() -> Unit {
     }
     table.extend(b"UE");
     Unit { name: "dense", table, content: marked(1000, 14), pair: 1000, cut: 3 }
+}
+
+/// A segment of 150 chains, each an F and an N, whose target is set with them in place, and with
+/// them in reverse sequence.
+pub fn chains() -> [Unit; 2] {
+    let chain = |id: u16| [code(b"PH", id, b"NN-F"), code(b"PH", id + 1, b"NN-N")].concat();
+    let chains: Vec<Vec<u8>> = (0..150).map(|number| chain(10 + 2 * number)).collect();
+    let table = [b"UNYSG\0\x01-I".to_vec(), chains.concat(), b"UE".to_vec()].concat();
+    let reversed: Vec<u8> = chains.iter().rev().flatten().copied().collect();
+    let unit = |name, content| Unit { name, table: table.clone(), content, pair: 0, cut: 0 };
+    [unit("chains", chains.concat()), unit("reversed", reversed)]
 }

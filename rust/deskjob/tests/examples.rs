@@ -89,7 +89,7 @@ fn the_unit_in_xml_is_the_table() {
     assert_eq!(xml.requests, notation.requests);
     assert_eq!(commands::run(&xml), commands::run(&notation));
     assert_eq!(commands::show(&xml.unit), commands::show(&notation.unit));
-    assert_eq!(commands::check(&xml), Shown::accepted("OK 64: accepted\n"));
+    assert_eq!(commands::check(&xml), Shown::accepted("OK 99: accepted\n"));
     assert!(DOOR.ends_with(DOOR_REQUESTS));
 }
 

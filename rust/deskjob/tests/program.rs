@@ -61,7 +61,7 @@ fn units_in_xml_are_0_and_1_too() {
     }
     assert_eq!(status(&["xml", "-"], ACCEPTED), 0);
     assert_eq!(status(&["show", example!("door.txt")], ""), 0);
-    // two requests, the first refused
+    // three requests, the first refused
     let requests = example!("door-requests.txt");
     for command in ["run", "xml"] {
         assert_eq!(status(&[command, example!("door.xml"), requests], ""), 1);

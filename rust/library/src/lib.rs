@@ -96,6 +96,8 @@ pub fn join(table: &[u8], part: u16, out: &mut [u8]) -> Answer {
 }
 
 /// Sets a part's target: the state ([`State::None`] for an ignorable), and the content as records.
+/// Its codes with canReorder F or N are the old content's, in whole chains that may change places:
+/// a chain is an F and the N that follow it, up to the next F; N before any F stay first.
 ///
 /// ```
 /// use xliff_desk::State;

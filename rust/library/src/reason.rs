@@ -66,7 +66,8 @@ const REASONS: &[(Reason, &str)] = &[
     (Reason::CodeLost, "a code with canDelete N of the old content is not in the new content"),
     (
         Reason::FixedCodesChanged,
-        "the codes with canReorder F or N are not the old content's, in its sequence",
+        "the codes with canReorder F or N are not the old content's chains, \
+         each whole and in its own order",
     ),
     (
         Reason::NothingToChange,

@@ -145,7 +145,7 @@ part-differs-end c =
     old-there (start .args .table .now) known w (start .args .place) b p a s (old-from .result) (old-to .result)
     (old-from .ensures) (old-to .ensures) .within
 
--- fixed_codes::differs(&table[from..to], content)
+-- codes::chains::differs(&table[from..to], content)
 differs-requires : tie.Need-differs-requires
 differs-requires c κs =
     let after-old-from = c .before .before .before .before .before in

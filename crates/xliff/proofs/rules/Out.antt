@@ -10,7 +10,7 @@ use lib.Dec.{eqb}
 use borrow.Author.Tests.{eqb-true, eq-eqb, not-true}
 use Rattle.xliff.specs.Item.{Item, Content, half, class, id-of, is-pair, is-start, is-start-half, is-end-half, alike, other-half}
 use Rattle.xliff.specs.Rules.{starts-id, nearest, ill-ended, fixed-but-free, bad-8-target, bad-10-target, unlike-source, bad-copy}
-use Rattle.xliff.proofs.lists.Sum.{bit, sum, sum-append}
+use Rattle.xliff.proofs.lists.Sum.{bit, bit-small, sum, sum-append}
 use Rattle.xliff.proofs.lists.Tests.{and-left, and-right, or-right, and-both, rev-append}
 use Rattle.xliff.proofs.rules.Sequences.{clear, clear-drop}
 use Rattle.xliff.proofs.rules.Six.{start-bit, starts}
@@ -57,11 +57,8 @@ other-start x e y = by (is-start-half x) refl (is-start-half y) refl (eqb (class
         → bit (c && i && (s && is-end-half y || is-end-half x && t)) ≤ bit (is-start y && eqb (id-of y) (id-of x))
     by true s t q c i k = absurd (not-both s)
     by false s true q c true k =
-        rw (start-half-start y q, eq-eqb (id-of y) (id-of x) (sym (eqb-true (id-of x) (id-of y) k))) (low (c && true && (is-end-half x && true)))
-      where
-        low : (b : Bool) → bit b ≤ 1
-        low true = omega arith
-        low false = omega arith
+        rw (start-half-start y q, eq-eqb (id-of y) (id-of x) (sym (eqb-true (id-of x) (id-of y) k)))
+        (bit-small (c && true && (is-end-half x && true)))
     by false s true q true false k = omega arith
     by false s true q false false k = omega arith
     by false s false q c i k = rw e (rw (no c i) (omega arith))

@@ -1,18 +1,23 @@
 //! Tables and jobs at the limits of document 01 and one step beyond.
 
+use super::chains::{move_chains, spoil_chains};
 use super::damage::bytes;
+use super::inline::{code, placed};
 use super::random::Random;
 use super::requests::request_list;
+use super::set_target::written;
 use super::unit::valid_table;
+use crate::record::Inline;
 use crate::rules::check;
 
 /// A job at a limit; where its table is valid, requests often follow.
 pub fn at_limit(random: &mut Random) -> Vec<u8> {
-    let table = match random.below(12) {
+    let table = match random.below(15) {
         0..=2 => many_parts(random),
         3..=5 => many_records(random),
         6..=8 => many_bytes(random),
         9 => text_lengths(random),
+        10..=12 => return many_chains(random),
         _ => return long_job(random),
     };
     if check(&table).is_err() || random.chance(20) {
@@ -89,6 +94,33 @@ fn text_lengths(random: &mut Random) -> Vec<u8> {
         table.extend(b"UE");
     }
     table
+}
+
+/// A part of up to 681 codes with canReorder F or N, which fill a table, and its target set with
+/// their chains moved or wrong: of up to 340 the result fits too.
+fn many_chains(random: &mut Random) -> Vec<u8> {
+    let codes = if random.chance(70) { 200 + random.below(141) } else { 341 + random.below(341) };
+    let letters = *random.pick(&[b"NNNNNNNF".as_slice(), b"NF", b"NFFFFFFF", b"F"]);
+    let mut content: Vec<Inline> = (1..=codes).map(|id| code(b"PH", id as u16, random)).collect();
+    for (place, inline) in content.iter_mut().enumerate() {
+        let Inline::Code(code) = inline else { continue };
+        (code.can_copy, code.can_delete) = (b'N', b'N');
+        code.can_reorder = if place == 0 { b'F' } else { random.letter(letters) };
+    }
+    let mut job = [b"UNYSG\0\0-I".as_slice(), &written(&placed(content.clone())), b"UE"].concat();
+    match random.below(8) {
+        0..=2 => spoil_chains(random, &mut content),
+        3 | 4 => {
+            let records = *random.pick(&[1024, 1024, 1024, 1025]);
+            content = content.into_iter().cycle().take(records).collect();
+        }
+        _ => move_chains(random, &mut content),
+    }
+    let set = written(&placed(content));
+    job.extend(b"ST\0\x01T");
+    job.extend((set.len() as u16).to_be_bytes());
+    job.extend(set);
+    job
 }
 
 /// Jobs of about 65,535 bytes: later input is not read.

@@ -1,5 +1,6 @@
 //! Seeded jobs for the comparison: valid, nearly valid and damaged tables, limits, and requests.
 
+mod chains;
 mod changes;
 mod cuts;
 mod damage;

@@ -1,5 +1,6 @@
 //! Set target requests: contents made from the old target, the source or another content.
 
+use super::chains::{has_chains, has_leading, move_chains, spoil_chains};
 use super::damage::bytes;
 use super::inline::text;
 use super::mutations::mutate;
@@ -13,7 +14,12 @@ use crate::record::Inline;
 use crate::table::{Part, PartKind, Placed, Unit};
 
 pub fn set_target_request(random: &mut Random, unit: &Unit) -> Vec<u8> {
-    let number = part_number(random, unit, |_| true);
+    let suits = match random.below(10) {
+        0..=2 => has_chains,
+        3..=5 => has_leading,
+        _ => |_: &[Inline]| true,
+    };
+    let number = part_number(random, unit, |part| suits(&inlines_of(old_content(part))));
     let part = unit.part(number).unwrap_or(&unit.parts[0]);
     let state = match (random.below(14), part.kind) {
         (0, _) => random.letter(b"-ITRFX\0"),
@@ -25,15 +31,20 @@ pub fn set_target_request(random: &mut Random, unit: &Unit) -> Vec<u8> {
     [b"ST".as_slice(), &number.to_be_bytes(), &[state], &length, &content].concat()
 }
 
+/// The target, or the source if there is none.
+fn old_content(part: &Part) -> &[Placed] {
+    part.target.as_ref().map_or(&part.source, |target| &target.content)
+}
+
 fn content(random: &mut Random, unit: &Unit, part: &Part) -> Vec<u8> {
-    let old = part.target.as_ref().map_or(&part.source, |target| &target.content);
-    let chosen: Vec<Placed> = match random.below(10) {
-        0..=5 => old.clone(),
-        6 | 7 => part.source.clone(),
-        8 => random.pick(&unit.parts).source.clone(),
+    let old = old_content(part);
+    let chosen = match random.below(10) {
+        0..=5 => old,
+        6 | 7 => &part.source,
+        8 => &random.pick(&unit.parts).source,
         _ => return odd_content(random, old),
     };
-    let mut inlines: Vec<Inline> = chosen.into_iter().map(|placed| placed.inline).collect();
+    let mut inlines = inlines_of(chosen);
     change_texts(random, &mut inlines);
     if random.chance(35) {
         let source = Source {
@@ -43,8 +54,10 @@ fn content(random: &mut Random, unit: &Unit, part: &Part) -> Vec<u8> {
         let mut ids = ids_beside(random);
         edit(random, &mut ids, &source, &mut inlines);
     }
-    if random.chance(15) {
-        disturb_fixed_order(random, &mut inlines);
+    match random.below(10) {
+        0..=2 => move_chains(random, &mut inlines),
+        3..=6 => spoil_chains(random, &mut inlines),
+        _ => {}
     }
     let mut records = raw_records(&written(&gather(inlines)));
     if random.chance(35) {
@@ -53,22 +66,6 @@ fn content(random: &mut Random, unit: &Unit, part: &Part) -> Vec<u8> {
         }
     }
     records.concat()
-}
-
-/// Swaps two codes with canReorder F or N, or writes one of them twice.
-fn disturb_fixed_order(random: &mut Random, inlines: &mut Vec<Inline>) {
-    let fixed: Vec<usize> = (0..inlines.len())
-        .filter(|&i| inlines[i].code().is_some_and(|code| code.can_reorder != b'Y'))
-        .collect();
-    if fixed.is_empty() {
-        return;
-    }
-    let (one, two) = (*random.pick(&fixed), *random.pick(&fixed));
-    if one == two {
-        inlines.insert(one, inlines[one].clone());
-    } else {
-        inlines.swap(one, two);
-    }
 }
 
 /// Contents that the content rules or a limit turn down, and the empty one.
@@ -128,7 +125,7 @@ fn inlines_of(content: &[Placed]) -> Vec<Inline> {
     content.iter().map(|placed| placed.inline.clone()).collect()
 }
 
-fn written(content: &[Placed]) -> Vec<u8> {
+pub fn written(content: &[Placed]) -> Vec<u8> {
     let mut bytes = Vec::new();
     content.iter().for_each(|placed| placed.inline.write(&mut bytes));
     bytes

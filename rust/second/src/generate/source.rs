@@ -9,6 +9,9 @@ use super::inline::{
 use super::random::{Ids, Random};
 use crate::record::{Code, Half, Inline};
 
+/// How many of a hundred stretches of a source end in a run of codes.
+const RUN_PERCENT: usize = 35;
+
 pub struct Source {
     /// The content of each part.
     pub contents: Vec<Vec<Inline>>,
@@ -17,11 +20,15 @@ pub struct Source {
 }
 
 pub fn source(random: &mut Random, ids: &mut Ids, parts: usize) -> Source {
-    let mut growth = Growth { random, ids, flat: Vec::new(), nested: Vec::new() };
+    let (flat, nested, run) = (Vec::new(), Vec::new(), Vec::new());
+    let mut growth = Growth { random, ids, flat, nested, run };
     for _ in 0..1 + parts {
         growth.grow(0);
+        if growth.random.chance(RUN_PERCENT) {
+            growth.add_run();
+        }
     }
-    let Growth { mut flat, nested, .. } = growth;
+    let Growth { mut flat, nested, run, .. } = growth;
     if random.chance(45) {
         cross(random, ids, &mut flat);
     }
@@ -33,7 +40,7 @@ pub fn source(random: &mut Random, ids: &mut Ids, parts: usize) -> Source {
             }
         }
     }
-    give_letters(random, &mut contents);
+    give_letters(random, &mut contents, &run);
     Source { contents, nested }
 }
 
@@ -42,6 +49,8 @@ struct Growth<'a> {
     ids: &'a mut Ids,
     flat: Vec<Inline>,
     nested: Vec<u16>,
+    /// Ids of codes that stand in a run.
+    run: Vec<u16>,
 }
 
 impl Growth<'_> {
@@ -62,6 +71,27 @@ impl Growth<'_> {
             if self.random.chance(25) {
                 self.flat.push(accents(self.random));
             }
+        }
+    }
+
+    /// Adds two to eight codes behind each other, texts between them: most get canReorder F or N,
+    /// so that a content has several chains.
+    fn add_run(&mut self) {
+        for _ in 0..2 + self.random.below(7) {
+            if self.random.chance(30) {
+                self.flat.push(text(self.random));
+            }
+            let code = match self.random.below(5) {
+                0 => {
+                    let (start, end) = halves(self.random, self.ids, true);
+                    self.nested.extend(start.id());
+                    self.flat.push(start);
+                    end
+                }
+                _ => self.single(b"PH"),
+            };
+            self.run.extend(code.id());
+            self.flat.push(code);
         }
     }
 
@@ -96,8 +126,8 @@ fn cross(random: &mut Random, ids: &mut Ids, flat: &mut Vec<Inline>) {
     }
 }
 
-/// Letters by rule 8, with chains of canReorder F and N.
-fn give_letters(random: &mut Random, contents: &mut [Vec<Inline>]) {
+/// Letters by rule 8, with chains of canReorder F and N, most of them in runs.
+fn give_letters(random: &mut Random, contents: &mut [Vec<Inline>], run: &[u16]) {
     let chain_percent = *random.pick(&[0, 15, 50]);
     let mut starts: HashMap<u16, Code> = HashMap::new();
     let mut first_seen = false;
@@ -107,7 +137,8 @@ fn give_letters(random: &mut Random, contents: &mut [Vec<Inline>]) {
         match starts.get(&code.id) {
             Some(start) if half == Some(Half::End) => end_letters(random, start, code, first_seen),
             _ => {
-                start_letters(random, code, chain_percent, first_seen);
+                let percent = if run.contains(&code.id) { 90 } else { chain_percent };
+                start_letters(random, code, percent, first_seen);
                 starts.insert(code.id, code.clone());
             }
         }
@@ -117,7 +148,7 @@ fn give_letters(random: &mut Random, contents: &mut [Vec<Inline>]) {
 
 fn start_letters(random: &mut Random, code: &mut Code, chain_percent: usize, first_seen: bool) {
     if random.chance(chain_percent) {
-        code.can_reorder = if first_seen { random.letter(b"NNF") } else { b'F' };
+        code.can_reorder = if first_seen { random.letter(b"NNNFF") } else { b'F' };
         (code.can_copy, code.can_delete) = (b'N', b'N');
     } else {
         (code.can_copy, code.can_delete) = (random.letter(b"YYN"), random.letter(b"YYN"));

@@ -1,6 +1,7 @@
 //! The targets of a generated unit: orders, the source's codes part by part or cut anew, lone
 //! halves whose other half waits, copies and codes of their own.
 
+use super::chains::{move_chains, spoil_chains};
 use super::inline::{accents, annotation, character, code, cut_into, text, turn_to_brackets};
 use super::random::{Ids, Random};
 use super::source::Source;
@@ -44,7 +45,7 @@ fn orders(random: &mut Random, parts: usize, with: &[usize]) -> Vec<u16> {
     all
 }
 
-/// Each target holds what its part's source holds.
+/// Each target holds what its part's source holds, some in other chains.
 fn part_by_part(random: &mut Random, source: &Source, with: &[usize]) -> Vec<Vec<Inline>> {
     let mut contents = Vec::new();
     for &part in with {
@@ -56,6 +57,11 @@ fn part_by_part(random: &mut Random, source: &Source, with: &[usize]) -> Vec<Vec
         }
         if random.chance(20) {
             content.iter_mut().for_each(to_start_and_end);
+        }
+        match random.below(10) {
+            0 => move_chains(random, &mut content),
+            1 => spoil_chains(random, &mut content),
+            _ => {}
         }
         contents.push(content);
     }

@@ -1,6 +1,6 @@
 //! Content as items: "An item is one code point of text or one other inline record."
 
-use crate::record::Inline;
+use crate::record::{Code, Inline};
 use crate::table::Placed;
 
 /// The content's items; a text item holds one code point.
@@ -16,6 +16,11 @@ pub fn items(content: &[Placed]) -> Vec<Inline> {
         }
     }
     items
+}
+
+/// The content's codes, in its order.
+pub fn codes(content: &[Placed]) -> impl Iterator<Item = &Code> {
+    content.iter().filter_map(|placed| placed.inline.code())
 }
 
 /// Whether an item is an accent: document 02, order 2, "Some tools write an accent as a second code

@@ -2,6 +2,7 @@
 //! arguments and the room (the output's length), and gives the result's bytes or a refusal.
 //! "All others check the table first, 1 to 10."
 
+pub mod chains;
 pub mod content;
 mod join;
 mod remove_target;

@@ -1,7 +1,10 @@
-//! "**Set target** (part, state, content)."
+//! "**Set target** (part, state, content)." With order 4 of document 02, "Marker chains may change
+//! places".
 
+use super::chains::rearranged;
+use super::content::codes;
 use super::{hand_out, Outcome};
-use crate::record::{Code, Half, Inline};
+use crate::record::Code;
 use crate::rules::{check, first_fault};
 use crate::table::{read_content, Part, PartKind, Placed, Target, Unit};
 use crate::Refusal;
@@ -23,9 +26,9 @@ pub fn set_target(table: &[u8], part: u16, state: u8, content: &[u8], room: usiz
     if !keeps_non_removable(before, &new) {
         return refuse(18);
     }
-    // "19: the list of ids and halves with canReorder F or N differs from that same
-    // content's."
-    if fixed_order(before) != fixed_order(&new) {
+    // "Refusal 19 now comes exactly when the new list is not a rearrangement of the old list's
+    // whole chains, each in its own order."
+    if !rearranged(before, &new) {
         return refuse(19);
     }
     let order = new_order(&unit, part);
@@ -60,10 +63,6 @@ fn keeps_non_removable(before: &[Placed], new: &[Placed]) -> bool {
         .all(|code| codes(new).any(|other| flattened(other) == flattened(code)))
 }
 
-fn codes(content: &[Placed]) -> impl Iterator<Item = &Code> {
-    content.iter().filter_map(|placed| placed.inline.code())
-}
-
 /// "`PO` and `SC` counted alike, so `PC` and `EC`".
 fn flattened(code: &Code) -> Code {
     let mark = match &code.mark {
@@ -72,12 +71,6 @@ fn flattened(code: &Code) -> Code {
         _ => code.mark,
     };
     Code { mark, ..code.clone() }
-}
-
-/// The ids and halves with canReorder F or N, in their order.
-fn fixed_order(content: &[Placed]) -> Vec<(u16, Option<Half>)> {
-    let fixed = |code: &&Code| code.can_reorder != b'Y';
-    codes(content).filter(fixed).map(|code| (code.id, Inline::Code(code.clone()).half())).collect()
 }
 
 /// "Order: the old one, else the part's position if unused, else the lowest unused."

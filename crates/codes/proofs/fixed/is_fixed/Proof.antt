@@ -21,7 +21,7 @@ returns c =
     let if1 = c .if1 .taken in
     simp (eq-eqb (codeAt (drop (args .at) (args .c .now))) 0 (sym (code-at .ensures) ∙ if1))
 
--- `at + 11`
+-- `at + CAN_REORDER`
 add-reorder : tie.Need-add-reorder
 add-reorder c =
     let start = c .before .before .before in
@@ -30,7 +30,7 @@ add-reorder c =
     let code-at = c .before .code-at in
     omega (arith, code-there (args .c .now) (args .at) pre (omega (arith, code-at .ensures)))
 
--- `c[at + 11]`
+-- `c[at + CAN_REORDER]`
 shared-slice-read-reorder : tie.Need-shared-slice-read-reorder
 shared-slice-read-reorder c =
     let start = c .before .before .before .before in
@@ -46,7 +46,8 @@ returns-2 c =
     let args = c .before .before .before .before .args in
     let code-at = c .before .before .code-at in
     let c₀ = args .c .now in
-    simp (ne-eqb (codeAt (drop (args .at) c₀)) 0 (omega (arith, code-at .ensures)), getD-drop (args .at) c₀ 11 0, or-none)
+    let a-code = ne-eqb (codeAt (drop (args .at) c₀)) 0 (omega (arith, code-at .ensures)) in
+    simp (a-code, getD-drop (args .at) c₀ 11 0, or-none)
 
 pub is-fixed-spec : {M : Type 1} → statement M
 is-fixed-spec =
