@@ -3,7 +3,7 @@ use Prim.Native.Nat.{ℕ, _+_, _<_, _≤_}
 use native.Mathlib.Omega.{arith}
 use mathlib.Core.Path.{_≡_, refl, sym, ap, ap₂, _∙_}
 use mathlib.Core.Bool.{Bool, true, false, not, _&&_, _||_}
-use mathlib.Core.List.{List, [], _∷_, Permᴰ·refl}
+use mathlib.Core.List.{List, Permᴰ·refl}
 use lib.ListN.{length}
 use lib.Dec.{eqb}
 use Rattle.xliff.specs.Bytes.{any}
@@ -43,14 +43,6 @@ module _ (w : Chain → ℕ) (c : List ℕ) (rs : List Record) (n at : ℕ) (m :
 
   pub counted-end : length c ≤ at → n ≡ sum w (chainsIn rs)
   counted-end l = let s = ap (sum w) (no-chain c (m .from) at (m .passed) l) in omega (arith, m .total)
-
--- one for each chain
-abbrev pub one : Chain → ℕ
-one d = 1
-
-pub sum-one : (ds : List Chain) → sum one ds ≡ length ds
-sum-one [] = refl
-sum-one (d ∷ ds) = let h = sum-one ds in omega arith
 
 -- Whether a chain passes a test p: r, whether one does that stands before the offset `at` of c
 pub record Looked (p : Chain → Bool) (c : List ℕ) (rs : List Record) (r : Bool) (at : ℕ) : Type 0 where

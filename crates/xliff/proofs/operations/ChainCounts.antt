@@ -8,11 +8,11 @@ use mathlib.Core.List.{List, [], _∷_, List·Permᴰ, List·Permᴰ·nil, List�
 use mathlib.Core.Option.{Option, none, some}
 use lib.ListN.{length}
 use lib.Dec.{eqb}
-use borrow.Author.Tests.{eqb-true, eq-eqb}
+use borrow.Author.Tests.{eqb-true, eq-eqb, not-false}
 use Rattle.xliff.specs.Bytes.{any}
 use Rattle.xliff.specs.SetTarget.{FixedCode, Chain, same-fixed, same-chain, still, without, rearranged}
 use Rattle.xliff.proofs.lists.Tests.{and-left, and-right, or-left, or-right}
-use Rattle.xliff.proofs.lists.Sum.{bit, sum}
+use Rattle.xliff.proofs.lists.Sum.{bit, sum, one, sum-one, perm-sum}
 
 clash : {A : Type 0} → true ≡ false → A
 clash e = absurd (true≢false e)
@@ -52,7 +52,7 @@ like x d = bit (same-chain x d)
 abbrev pub often : Chain → List Chain → ℕ
 often x ds = sum (like x) ds
 
-self : (x : Chain) → bit (same-chain x x) ≡ 1
+self : (x : Chain) → like x x ≡ 1
 self x = rw (same-chain-refl x) refl
 
 -- What `without` leaves
@@ -88,28 +88,16 @@ without-none c [] h = refl
 without-none c (d ∷ ds) h = by (same-chain c d) refl h (λ q. without-none c ds q)
   where
     by : (b : Bool) → same-chain c d ≡ b → cond b (some ds) (still d (without c ds)) ≡ none
-        → (without c ds ≡ none → often c ds ≡ 0) → bit (same-chain c d) + often c ds ≡ 0
+        → (without c ds ≡ none → often c ds ≡ 0) → like c d + often c ds ≡ 0
     by true e k ih = clash (cc)
     by false e k ih = rw e (let a = ih (still-none d (without c ds) k) in omega arith)
 
 -- A permutation has each chain as often, and as many
 perm-often : (cs ds : List Chain) → List·Permᴰ cs ds → (x : Chain) → often x cs ≡ often x ds
-perm-often cs ds List·Permᴰ·nil x = refl
-perm-often cs ds (List·Permᴰ·cons {l₁ = l} {l₂ = m} e p) x =
-    let q = ap (λ (c : Chain). bit (same-chain x c)) e in
-    let r = perm-often l m p x in
-    omega arith
-perm-often cs ds (List·Permᴰ·swap {l = l} e f) x =
-    let q = ap (λ (c : Chain). bit (same-chain x c)) e in
-    let r = ap (λ (c : Chain). bit (same-chain x c)) f in
-    omega arith
-perm-often cs ds (List·Permᴰ·trans {l₂ = m} p q) x = perm-often cs m p x ∙ perm-often m ds q x
+perm-often cs ds p x = perm-sum (like x) cs ds p
 
 perm-length : (cs ds : List Chain) → List·Permᴰ cs ds → length cs ≡ length ds
-perm-length cs ds List·Permᴰ·nil = refl
-perm-length cs ds (List·Permᴰ·cons {l₁ = l} {l₂ = m} e p) = let r = perm-length l m p in omega arith
-perm-length cs ds (List·Permᴰ·swap e f) = refl
-perm-length cs ds (List·Permᴰ·trans {l₂ = m} p q) = perm-length cs m p ∙ perm-length m ds q
+perm-length cs ds p = sym (sum-one cs) ∙ perm-sum one cs ds p ∙ sum-one ds
 
 -- The test is true of permutations alone
 pub rearranged-perm : (cs ds : List Chain) → rearranged cs ds ≡ true → List·Permᴰ cs ds
@@ -159,11 +147,7 @@ uneven cs ds x = not (eqb (often x cs) (often x ds))
 
 module _ (cs ds : List Chain) where
   as-often : (x : Chain) → uneven cs ds x ≡ false → often x cs ≡ often x ds
-  as-often x h = by (eqb (often x cs) (often x ds)) refl h
-    where
-      by : (b : Bool) → eqb (often x cs) (often x ds) ≡ b → not b ≡ false → often x cs ≡ often x ds
-      by true e k = eqb-true _ _ e
-      by false e k = clash k
+  as-often x h = eqb-true _ _ (not-false _ h)
 
   -- none of the chains of a list is uneven: so is none that stands there
   none-uneven : (l : List Chain) → any (uneven cs ds) l ≡ false → (x : Chain) → 1 ≤ often x l

@@ -5,10 +5,11 @@ use Prim.Native.Nat.{_≤_, _-_}
 use native.Mathlib.Omega.{arith}
 use lib.ListN.{length}
 use Rattle.xliff.specs.Encode.{Record}
+use Rattle.xliff.proofs.lists.Sum.{one, sum-one}
 use Rattle.walk.specs.Kept.{Rest}
 use Rattle.codes.specs.Chains.{chainsIn, goesOn}
 use Rattle.codes.proofs.MarkerChains.{next-chain}
-use Rattle.codes.proofs.CountLaws.{Counted, counted-start, counted-on, counted-end, one, sum-one}
+use Rattle.codes.proofs.CountLaws.{Counted, counted-start, counted-on, counted-end}
 use Rattle.codes.proofs.chains.chain_count.Statement.{statement}
 use Rattle.codes.proofs.chains.chain_count.Tie as tie
 
