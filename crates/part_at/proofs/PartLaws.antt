@@ -160,37 +160,31 @@ module _ (t : List ℕ) (h : Passes t) (b : List Part) (p : Part) (a : List Part
         records = there;
       }
 
--- the walk: parts behind it and ahead of it
-pub record Reached (t : List ℕ) (n at left : ℕ) : Type 0 where
-  pub behind : List Part
-  pub ahead : List Part
+-- the walk over whole parts: those behind it and ahead of it
+pub record Walked (t : List ℕ) (at : ℕ) (behind ahead : List Part) : Type 0 where
   pub all : unit t .parts ≡ behind ++ ahead
-  pub count : n ≡ length behind + left
-  pub least : 1 ≤ left
   pub offset : at ≡ 3 + length (spell (gather part-records behind))
   pub there : At t at (gather part-records ahead ++ (closing ∷ []))
 
-pub reached-start : (t : List ℕ) → Passes t → (n : ℕ) → 1 ≤ n → Reached t n 3 n
+pub walked-start : (t : List ℕ) → Passes t → Walked t 3 [] (unit t .parts)
 unfolding unit-records spell gather record-bytes
-reached-start t h n l =
+walked-start t h =
     record {
-      behind = [];
-      ahead = unit t .parts;
       all = refl;
-      count = omega arith;
-      least = l;
       offset = refl;
-      there = at-next t 0 (opening (unit t .opening)) (gather part-records (unit t .parts) ++ (closing ∷ [])) (at-start t h) .then;
+      there = at-next t 0 (opening (unit t .opening)) (gather part-records (unit t .parts) ++ (closing ∷ []))
+          (at-start t h) .then;
     }
 
-module _ (t : List ℕ) (h : Passes t) (n at left : ℕ) (s : Reached t n at left) where
+module _ (t : List ℕ) (h : Passes t) (at : ℕ) (behind ahead : List Part) (s : Walked t at behind ahead) where
   some-by : (ps : List Part) → At t at (gather part-records ps ++ (closing ∷ [])) → is-part (read (drop at t)) ≡ true
       → (p : Part) × (a : List Part) × (ps ≡ p ∷ a)
   unfolding gather is-part
   some-by [] a e = absurd (true≢false (sym e ∙ ap is-part (at-next t at closing [] a .reads)))
   some-by (p ∷ ps) a e = (p, ps, refl)
 
-  none-by : (ps : List Part) → At t at (gather part-records ps ++ (closing ∷ [])) → is-part (read (drop at t)) ≡ false → ps ≡ []
+  none-by : (ps : List Part) → At t at (gather part-records ps ++ (closing ∷ [])) → is-part (read (drop at t)) ≡ false
+      → ps ≡ []
   unfolding gather is-part part-records
   none-by [] a e = refl
   none-by (p ∷ ps) a e =
@@ -199,15 +193,14 @@ module _ (t : List ℕ) (h : Passes t) (n at left : ℕ) (s : Reached t n at lef
       (at-next t at (part-head (p .head))
       (content-records (p .source) ++ target-records (p .target) ++ gather part-records ps ++ (closing ∷ [])) a .reads)) ∙ e))
 
-  pub reached-missing : is-part (read (drop at t)) ≡ false → focus (unit t .parts) n ≡ nowhere
-  reached-missing e =
-      let z = none-by (s .ahead) (s .there) e in
-      let k : unit t .parts ≡ s .behind = s .all ∙ ap (λ (l : List Part). s .behind ++ l) z ∙ append-nil (s .behind) in
-      focus-beyond (unit t .parts) n (omega (arith, ap (λ (l : List Part). length l) k, s .count, s .least))
+  -- no part is ahead: these were all
+  pub walked-all : is-part (read (drop at t)) ≡ false → unit t .parts ≡ behind
+  walked-all e =
+      s .all ∙ ap (λ (l : List Part). behind ++ l) (none-by ahead (s .there) e) ∙ append-nil behind
 
   module _ (e : is-part (read (drop at t)) ≡ true) where
-    next-part : (p : Part) × (a : List Part) × (s .ahead ≡ p ∷ a)
-    next-part = some-by (s .ahead) (s .there) e
+    pub next-part : (p : Part) × (a : List Part) × (ahead ≡ p ∷ a)
+    next-part = some-by ahead (s .there) e
 
     next-there : At t at (part-records (next-part .0) ++ (gather part-records (next-part .1) ++ (closing ∷ [])))
     unfolding gather
@@ -215,54 +208,93 @@ module _ (t : List ℕ) (h : Passes t) (n at left : ℕ) (s : Reached t n at lef
         subst (At t at) (append-assoc (part-records (next-part .0)) (gather part-records (next-part .1)) (closing ∷ []))
         (subst (λ (ps : List Part). At t at (gather part-records ps ++ (closing ∷ []))) (next-part .2) (s .there))
 
-    next-all : unit t .parts ≡ s .behind ++ (next-part .0 ∷ next-part .1)
-    next-all = s .all ∙ ap (λ (l : List Part). s .behind ++ l) (next-part .2)
+    pub next-all : unit t .parts ≡ behind ++ (next-part .0 ∷ next-part .1)
+    next-all = s .all ∙ ap (λ (l : List Part). behind ++ l) (next-part .2)
 
-    pub reached-part : PartFrom t at
-    reached-part = (next-part .0, gather part-records (next-part .1) ++ (closing ∷ []), next-there, begins-parts (next-part .1))
+    pub walked-part : PartFrom t at
+    walked-part =
+        (next-part .0, gather part-records (next-part .1) ++ (closing ∷ []), next-there, begins-parts (next-part .1))
 
     module _ (place : PartPlace) (spans : PartSpans t at place) where
       span : PartSpan at (next-part .0) place
-      span = spans (next-part .0) (gather part-records (next-part .1) ++ (closing ∷ [])) next-there (begins-parts (next-part .1))
+      span = spans (next-part .0) (gather part-records (next-part .1) ++ (closing ∷ [])) next-there
+          (begins-parts (next-part .1))
 
-      pub reached-on : 1 < left → Reached t n (place .end) (left - 1)
+      pub walked-on : Walked t (place .end) (behind ++ (next-part .0 ∷ [])) (next-part .1)
       unfolding spell gather
-      reached-on l =
+      walked-on =
           let p = next-part .0 in
           let q = span-end at p place span in
-          let g : spell (gather part-records (s .behind ++ (p ∷ []))) ≡ spell (gather part-records (s .behind)) ++ spell (part-records p) =
-          ap spell (gather-append part-records (s .behind) (p ∷ [])
-          ∙ ap (λ (rs : List Record). gather part-records (s .behind) ++ rs) (append-nil (part-records p)))
-          ∙ spell-append (gather part-records (s .behind)) (part-records p) in
+          let g : spell (gather part-records (behind ++ (p ∷ []))) ≡ spell (gather part-records behind) ++ spell (part-records p) =
+          ap spell (gather-append part-records behind (p ∷ [])
+          ∙ ap (λ (rs : List Record). gather part-records behind ++ rs) (append-nil (part-records p)))
+          ∙ spell-append (gather part-records behind) (part-records p) in
           record {
-            behind = s .behind ++ (p ∷ []);
-            ahead = next-part .1;
-            all = next-all ∙ sym (append-assoc (s .behind) (p ∷ []) (next-part .1));
-            count = omega (arith, s .count, length-append (s .behind) (p ∷ []));
-            least = omega arith;
+            all = next-all ∙ sym (append-assoc behind (p ∷ []) (next-part .1));
             offset = omega (
               arith,
               q,
               s .offset,
               ap (λ (x : List ℕ). length x) g,
-              length-append (spell (gather part-records (s .behind))) (spell (part-records p)),
+              length-append (spell (gather part-records behind)) (spell (part-records p)),
             );
             there = subst (λ (k : ℕ). At t k (gather part-records (next-part .1) ++ (closing ∷ []))) (sym q)
                 (at-past t at (part-records p) (gather part-records (next-part .1) ++ (closing ∷ [])) next-there);
           }
 
-      pub reached-found : left ≤ 1 → PartFound t (focus (unit t .parts) n) (FoundAt place)
-      reached-found l =
+      pub walked-stands : PartStands t behind (next-part .0) (next-part .1) place
+      walked-stands =
           let p = next-part .0 in
           let a = next-part .1 in
-          let k : n ≡ suc (length (s .behind)) = omega (arith, s .count, s .least) in
-          let z = sym (span .head) in (
+          let z = sym (span .head) in
+          stands t h behind p a place next-all (span .head ∙ s .offset)
+          (subst (λ (o : ℕ). At t o (part-records p ++ (gather part-records a ++ (closing ∷ [])))) z next-there)
+          (subst (λ (o : ℕ). PartSpan o p place) z span)
+
+-- on the way to part number n, with so many to pass
+pub record Reached (t : List ℕ) (n at left : ℕ) : Type 0 where
+  pub behind : List Part
+  pub ahead : List Part
+  pub walked : Walked t at behind ahead
+  pub count : n ≡ length behind + left
+  pub least : 1 ≤ left
+
+pub reached-start : (t : List ℕ) → Passes t → (n : ℕ) → 1 ≤ n → Reached t n 3 n
+reached-start t h n l =
+    record { behind = []; ahead = unit t .parts; walked = walked-start t h; count = omega arith; least = l }
+
+module _ (t : List ℕ) (h : Passes t) (n at left : ℕ) (s : Reached t n at left) where
+  pub reached-missing : is-part (read (drop at t)) ≡ false → focus (unit t .parts) n ≡ nowhere
+  reached-missing e =
+      let k = walked-all t h at (s .behind) (s .ahead) (s .walked) e in
+      focus-beyond (unit t .parts) n (omega (arith, ap (λ (l : List Part). length l) k, s .count, s .least))
+
+  module _ (e : is-part (read (drop at t)) ≡ true) where
+    pub reached-part : PartFrom t at
+    reached-part = walked-part t h at (s .behind) (s .ahead) (s .walked) e
+
+    module _ (place : PartPlace) (spans : PartSpans t at place) where
+      pub reached-on : 1 < left → Reached t n (place .end) (left - 1)
+      reached-on l =
+          let (p, a, q) = next-part t h at (s .behind) (s .ahead) (s .walked) e in
+          record {
+            behind = s .behind ++ (p ∷ []);
+            ahead = a;
+            walked = walked-on t h at (s .behind) (s .ahead) (s .walked) e place spans;
+            count = omega (arith, s .count, length-append (s .behind) (p ∷ []));
+            least = omega arith;
+          }
+
+      pub reached-found : left ≤ 1 → PartFound t (focus (unit t .parts) n) (FoundAt place)
+      reached-found l =
+          let (p, a, q) = next-part t h at (s .behind) (s .ahead) (s .walked) e in
+          let k : n ≡ suc (length (s .behind)) = omega (arith, s .count, s .least) in (
             s .behind,
             p,
             a,
-            ap (λ (m : ℕ). focus (unit t .parts) m) k ∙ ap (λ (ps : List Part). focus ps (suc (length (s .behind)))) next-all
+            ap (λ (m : ℕ). focus (unit t .parts) m) k
+                ∙ ap (λ (ps : List Part). focus ps (suc (length (s .behind))))
+                (next-all t h at (s .behind) (s .ahead) (s .walked) e)
                 ∙ focus-in (s .behind) p a,
-            stands t h (s .behind) p a place next-all (span .head ∙ s .offset)
-                (subst (λ (o : ℕ). At t o (part-records p ++ (gather part-records a ++ (closing ∷ [])))) z next-there)
-                (subst (λ (o : ℕ). PartSpan o p place) z span),
+            walked-stands t h at (s .behind) (s .ahead) (s .walked) e place spans,
           )

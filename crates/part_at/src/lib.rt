@@ -125,7 +125,7 @@ fn target_place(t: &[u8], head: usize, source: usize, target: usize, segment: bo
 }
 
 // The part whose head stands at an offset.
-fn part_from(t: &[u8], at: usize) -> PartPlace
+pub fn part_from(t: &[u8], at: usize) -> PartPlace
     requires { ⌜ PartFrom (now t) at ⌝ }
     ensures { λ r. ⌜ PartSpans (now (t .entry)) at r ⌝ }
 {
@@ -135,7 +135,8 @@ fn part_from(t: &[u8], at: usize) -> PartPlace
     target_place(t, at, source, target, segment)
 }
 
-fn starts_part(t: &[u8], at: usize) -> bool
+// Whether a part begins at an offset.
+pub fn starts_part(t: &[u8], at: usize) -> bool
     ensures { λ r. ⌜ r ≡ is-part (read (drop at (now (t .entry)))) ⌝ }
 {
     syntax::is_part(walker::known_at(t, at))

@@ -3,3 +3,4 @@ pub mod Found
 pub mod Tests
 pub mod Few
 pub mod Ten
+pub mod Texts

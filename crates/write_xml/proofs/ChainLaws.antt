@@ -1,8 +1,8 @@
 -- The refusals of the writer, one after the other, and its text.
 use Prim.Native.Nat.{ℕ}
-use mathlib.Core.Path.{_≡_, sym, ap, _∙_, subst}
+use mathlib.Core.Path.{_≡_, sym, ap, _∙_}
 use mathlib.Core.Bool.{true, false}
-use mathlib.Core.List.{List, []}
+use mathlib.Core.List.{List}
 use mathlib.Core.Option.{Option, none}
 use lib.ListN.{length}
 use lib.Dec.{ltb}
@@ -11,10 +11,9 @@ use Rattle.xliff.specs.Answer.{Refusal, refusal, applies, _then_, result, refus
 use Rattle.xliff.specs.Parse.{unit}
 use Rattle.xliff.specs.Check.{table-refusal}
 use Rattle.outcomes.proofs.OutcomeLaws.{applied, passed, answers-refused, answers-result}
-use Rattle.writer.specs.Pieces.{lead}
 use Rattle.draft.specs.declared.Draft.{Draft}
-use Rattle.draft.specs.Drafts.{Drafted, started, Wrote}
-use Rattle.draft.proofs.DraftLaws.{begun}
+use Rattle.draft.specs.Drafts.{started, Wrote}
+use Rattle.draft.proofs.DraftLaws.{measured-stays, measured-tells, written-used, written-there}
 use Rattle.xml.specs.Write.{unit-text, too-deep}
 use Rattle.xml.specs.Xml.{write-xml}
 
@@ -53,37 +52,26 @@ module _ (t : List ℕ) (room : ℕ) (e : table-refusal t ≡ none) where
     unfolding applies unless
     written h = shallow ∙ rw h
 
--- the text of a unit that is not too deep, measured: the output stays, and it is told whether it is too short
+-- the text of a unit that is not too deep, measured
 module _ (t out : List ℕ) (e : table-refusal t ≡ none) (d : too-deep (unit t) ≡ false) (b : Draft) (s : b ≡ started true)
     (out₁ : List ℕ) (m : Draft)
     (w : Wrote (unit-text (unit t)) out b out₁ m) where
-  measured : Drafted true out out₁ m (unit-text (unit t))
-  measured = w .on true out [] (subst (λ (x : Draft). Drafted true out out x []) (sym s) (begun true out))
-
-  same : out₁ ≡ out
-  same = measured .stays (measured .mode)
+  told : m .full ≡ ltb (length out) (length (unit-text (unit t)))
+  told = measured-tells (unit-text (unit t)) out b s out₁ m w
 
   pub answers-15 : m .full ≡ true
       → (spec.refused 15 0 ≡ answer (write-xml t (length out))) × (out₁ ≡ output (write-xml t (length out)) out)
   answers-15 f =
-      let a = answers-refused (write-xml t (length out)) 15 0 out (refused-15 t (length out) e d (sym (measured .told) ∙ f)) in
-      (a .0, same ∙ a .1)
+      let a = answers-refused (write-xml t (length out)) 15 0 out (refused-15 t (length out) e d (sym told ∙ f)) in
+      (a .0, measured-stays (unit-text (unit t)) out b s out₁ m w ∙ a .1)
 
   -- and then written
   module _ (f : m .full ≡ false) (c : Draft) (r : c ≡ started false) (out₂ : List ℕ) (k : Draft)
       (x : Wrote (unit-text (unit t)) out₁ c out₂ k) where
-    drafted : Drafted false out₁ out₂ k (unit-text (unit t))
-    drafted = x .on false out₁ [] (subst (λ (y : Draft). Drafted false out₁ out₁ y []) (sym r) (begun false out₁))
-
-    room-enough : ltb (length out) (length (unit-text (unit t))) ≡ false
-    room-enough = sym (measured .told) ∙ f
-
-    not-full : k .full ≡ false
-    not-full = drafted .told ∙ ap (λ (l : List ℕ). ltb (length l) (length (unit-text (unit t)))) same ∙ room-enough
-
     pub answers-written : (spec.accepted (k .used) ≡ answer (write-xml t (length out)))
         × (out₂ ≡ output (write-xml t (length out)) out)
     answers-written =
-        answers-result (write-xml t (length out)) (unit-text (unit t)) (k .used) out out₂ (written t (length out) e d room-enough)
-        (drafted .used not-full)
-        (drafted .written (drafted .mode) not-full ∙ ap (λ (l : List ℕ). lead (unit-text (unit t)) l) same)
+        answers-result (write-xml t (length out)) (unit-text (unit t)) (k .used) out out₂
+        (written t (length out) e d (sym told ∙ f))
+        (written-used (unit-text (unit t)) out b s out₁ m w f c r out₂ k x)
+        (written-there (unit-text (unit t)) out b s out₁ m w f c r out₂ k x)

@@ -6,7 +6,7 @@ use native.Mathlib.Numerals.{add-one}
 use native.Mathlib.Omega.{arith}
 use lib.ListN.{length, take, drop, getD, set, length-drop, length-append, drop-of-length-le}
 use lib.Seq.{take-length, take-suc, drop-cons, set-at, length-take-le, append-snoc, drop-drop, take-append-seam, drop-append-seam, drop-append-add, set-split}
-use Rattle.writer.specs.Pieces.{lead, overlay}
+use Rattle.writer.specs.Pieces.{lead, Written, rest, back, overlay}
 use Rattle.xliff.proofs.lists.Slices.{tail-is}
 
 -- nothing is behind `&s[n..]`
@@ -34,6 +34,14 @@ two-back out a b xs ys n e f g =
     tail-back xs b ys n g
     ∙ rw (e, f, take-append-seam, drop-append-seam, drop-drop, length-append, append-assoc)
 
+pub two-written : (a b s out xs ys : List ℕ) (n m : ℕ) → a ++ b ≡ s → Written a out n xs → Written b (rest n xs) m ys
+    → Written s out (n + m) (back n xs ys)
+two-written a b s out xs ys n m e v w =
+    let total : n + m ≡ length a + length b = omega (arith, v .0, w .0) in (
+      total ∙ sym (length-append a b) ∙ ap length e,
+      two-back out a b xs ys n (v .0) (v .1) (w .1) ∙ ap (λ (l : List ℕ). lead l out) e,
+    )
+
 -- three pieces
 pub three-back : (o a b c l y z : List ℕ) (n e : ℕ) → n ≡ length a → l ≡ lead a o → y ≡ lead b (take (length l - n) (drop n l)) → e ≡ n + length b
     → z ≡ lead c (take (length (take n l ++ (y ++ drop (length l - n) (drop n l))) - e) (drop e (take n l ++ (y ++ drop (length l - n) (drop n l)))))
@@ -53,6 +61,13 @@ lead-length a o h = omega (arith, length-append a (drop (length a) o), length-dr
 pub over-lead : (out p q l : List ℕ) (at : ℕ) → l ≡ lead p out → at ≡ length p → overlay l at q ≡ lead (p ++ q) out
 over-lead out p q l at e f =
     rw (e, f, take-append-seam, drop-append-add, drop-drop, length-append)
+
+-- a piece of k bytes at the head, taken from there: `&out[..k]`
+pub at-head : (v o l : List ℕ) (k : ℕ) → k ≡ length v → l ≡ lead v o → take k l ≡ v
+at-head v o l k e f = rw (e, f, take-append-seam)
+
+pub head-long : (v o l : List ℕ) (k : ℕ) → k ≡ length v → l ≡ lead v o → k ≡ length (take k l)
+head-long v o l k e f = e ∙ ap length (sym (at-head v o l k e f))
 
 -- one store
 pub one-byte : (out : List ℕ) (at b : ℕ) → at < length out → set out at b ≡ overlay out at (b ∷ [])

@@ -1,12 +1,9 @@
 -- Attributes and tags out of their pieces.
 use Prim.Native.Nat.{ℕ, zero, suc}
-use mathlib.Core.Path.{_≡_, refl, sym, ap, _∙_}
+use mathlib.Core.Path.{_≡_, refl, sym, ap}
 use mathlib.Core.List.{List, [], _∷_, _++_, append-nil}
 use native.Mathlib.Omega.{arith}
 use borrow.Author.Tests.{eq-eqb, ne-eqb}
-use lib.ListN.{length, take}
-use lib.Seq.{take-append-seam}
-use Rattle.writer.specs.Pieces.{lead}
 use Rattle.xliff.specs.Bytes.{gather}
 use Rattle.xliff.proofs.lists.Tests.{gather-append}
 use Rattle.draft.specs.declared.Draft.{Draft}
@@ -56,10 +53,3 @@ pub value-as : {o p : List ℕ} {d e : Draft} (name : List ℕ) {v w : List ℕ}
     → Wrote (attributes-bytes (attribute name v)) o d p e
     → Wrote (attributes-bytes (attribute name w)) o d p e
 value-as name h w = wrote-as (ap (λ (x : List ℕ). attributes-bytes (attribute name x)) h) w
-
--- the digits at the head of an array
-pub at-head : (v o l : List ℕ) (k : ℕ) → k ≡ length v → l ≡ lead v o → take k l ≡ v
-at-head v o l k e f = rw (e, f, take-append-seam)
-
-pub head-long : (v o l : List ℕ) (k : ℕ) → k ≡ length v → l ≡ lead v o → k ≡ length (take k l)
-head-long v o l k e f = e ∙ ap length (sym (at-head v o l k e f))

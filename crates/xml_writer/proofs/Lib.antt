@@ -1,5 +1,4 @@
 pub mod UnitLaws
 pub mod SmallLaws
-pub mod TextLaws
 pub mod LoopLaws
 pub mod RecordLaws

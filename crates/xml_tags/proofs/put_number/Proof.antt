@@ -1,7 +1,8 @@
 use mathlib.Core.Path.{_∙_, ap}
 use Rattle.xliff.specs.Desk.{decimal}
 use Rattle.xml.specs.Write.{number-attribute}
-use Rattle.xml_tags.proofs.TagLaws.{value-as, at-head, head-long}
+use Rattle.writer.proofs.PieceLaws.{at-head, head-long}
+use Rattle.xml_tags.proofs.TagLaws.{value-as}
 use borrow.Author.Needs.{needs}
 use Rattle.xml_tags.proofs.put_number.Statement.{statement}
 use Rattle.xml_tags.proofs.put_number.Tie as tie

@@ -3,7 +3,7 @@ use mathlib.Core.Path.{ap, _∙_}
 use Rattle.draft.proofs.DraftLaws.{wrote-as}
 use Rattle.xml_text.specs.Escapes.{escaped-bytes}
 use Rattle.xml_text.proofs.EscapeLaws.{escaped-text}
-use Rattle.xml_writer.proofs.TextLaws.{text-fits, text-there}
+use Rattle.places.proofs.Texts.{text-fits, text-there}
 use borrow.Author.Needs.{needs}
 use Rattle.xml_writer.proofs.put_text.Statement.{statement}
 use Rattle.xml_writer.proofs.put_text.Tie as tie

@@ -1,0 +1,6 @@
+pub mod Widths
+pub mod Columns
+pub mod Fewest
+pub mod Parts
+pub mod Rows
+pub mod Sheets

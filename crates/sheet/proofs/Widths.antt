@@ -1,0 +1,77 @@
+-- How many cells numbers and shown forms take.
+use Prim.Native.Nat.{ℕ, zero, suc, _+_, _*_, _/_, _%_, _≤_, _<_}
+use native.Mathlib.Omega.{arith}
+use mathlib.Core.Path.{_≡_, refl}
+use mathlib.Core.Bool.{Bool, true, false, cond}
+use mathlib.Core.List.{List, [], _∷_}
+use lib.ListN.{length, length-append}
+use lib.Dec.{ltb}
+use borrow.Author.Tests.{ltb-false, le-leb}
+use Rattle.xliff.specs.Item.{Item, start, end, text, character, standalone, isolated, pair, annotation-start, annotation-end}
+use Rattle.xliff.specs.Desk.{digits, decimal}
+use Rattle.sheet.specs.Column.{right-brace, start-form, end-form, shown, column-cells, fits}
+
+-- a number has no more digits than it may have
+digits-within : (f n : ℕ) (rest : List ℕ) → length (digits f n rest) ≤ f + length rest
+unfolding digits
+digits-within zero n rest = omega arith
+digits-within (suc f) n rest = by (ltb n 10) (digits-within f (n / 10) ((48 + n % 10) ∷ rest))
+  where
+    by : (b : Bool) → length (digits f (n / 10) ((48 + n % 10) ∷ rest)) ≤ f + suc (length rest)
+        → length (cond b ((48 + n % 10) ∷ rest) (digits f (n / 10) ((48 + n % 10) ∷ rest))) ≤ suc f + length rest
+    by true h = omega arith
+    by false h = omega arith
+
+pub decimal-within : (n : ℕ) → length (decimal n) ≤ 20
+unfolding decimal
+decimal-within n = omega (arith, digits-within 20 n [])
+
+-- a number below 10, 100, 1000 .. has at most 1, 2, 3 .. digits
+abbrev pub tens : ℕ → ℕ
+tens zero = 1
+tens (suc k) = 10 * tens k
+
+digits-below : (f k n : ℕ) (rest : List ℕ) → n < tens (suc k) → length (digits f n rest) ≤ suc k + length rest
+unfolding digits
+digits-below zero k n rest h = omega arith
+digits-below (suc f) k n rest h = by (ltb n 10) refl k h (λ j g. digits-below f j (n / 10) ((48 + n % 10) ∷ rest) g)
+  where
+    by : (b : Bool) → ltb n 10 ≡ b → (k : ℕ) → n < tens (suc k)
+        → ((j : ℕ) → n / 10 < tens (suc j) → length (digits f (n / 10) ((48 + n % 10) ∷ rest)) ≤ suc j + suc (length rest))
+        → length (cond b ((48 + n % 10) ∷ rest) (digits f (n / 10) ((48 + n % 10) ∷ rest))) ≤ suc k + length rest
+    by true e k h ih = omega arith
+    by false e zero h ih = let a = ltb-false n 10 e in let z : ⊥ = omega arith in absurd z
+    by false e (suc j) h ih = let a = ih j (omega arith) in omega arith
+
+pub decimal-3 : (n : ℕ) → n < 1000 → length (decimal n) ≤ 3
+unfolding decimal
+decimal-3 n h = digits-below 20 2 n [] h
+
+pub decimal-5 : (n : ℕ) → n < 100000 → length (decimal n) ≤ 5
+unfolding decimal
+decimal-5 n h = digits-below 20 4 n [] h
+
+-- every shown form has room in a row
+start-within : (i : ℕ) → length (start-form i) ≤ column-cells
+unfolding start-form
+start-within i = omega (arith, decimal-within i)
+
+end-within : (i : ℕ) → length (end-form i) ≤ 21
+unfolding end-form
+end-within i = omega (arith, decimal-within i, length-append (decimal i) (right-brace ∷ []))
+
+pub shown-within : (x : Item) → length (shown x) ≤ column-cells
+unfolding shown
+shown-within (text c) = omega arith
+shown-within (character c) = omega arith
+shown-within (standalone f) = omega (arith, end-within (f .id))
+shown-within (isolated start f) = start-within (f .id)
+shown-within (isolated end f) = omega (arith, end-within (f .id))
+shown-within (pair start w f) = start-within (f .id)
+shown-within (pair end w f) = omega (arith, end-within (f .id))
+shown-within (annotation-start w i t) = start-within i
+shown-within (annotation-end w i) = omega (arith, end-within i)
+
+pub fits-alone : (x : Item) → fits column-cells x ≡ true
+unfolding fits
+fits-alone x = le-leb (length (shown x)) column-cells (shown-within x)

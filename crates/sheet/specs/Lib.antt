@@ -1,0 +1,7 @@
+-- The specification
+pub mod Column
+pub mod Sheet
+-- What is claimed of it
+pub mod Claims
+-- Worked examples
+pub mod examples
