@@ -13,13 +13,12 @@ use Rattle.sheet_columns.proofs.put_marker.Tie as tie
 -- return Filling { .., full: true, .. }
 returns : tie.Need-returns
 returns c =
-    let room = c .if1 .taken in
     let put-item = c .before .before .before .before .put-item in
     let start = c .before .before .before .before .before .before .before .before in
     let args = start .args in
     let (going, none, next) = start .pre in
     full-filled (args .c .now) (args .f) (args .out .now) none (args .i) (args .w) next (put-item .result)
-    (put-item .ensures .0) room (going .2)
+    (put-item .ensures .0) (omega (arith, c .if1 .taken)) (going .2)
 
 -- &piece[..cells]
 array-share-prefix-piece : tie.Need-array-share-prefix-piece
@@ -53,14 +52,13 @@ returns-2 : tie.Need-returns-2
 returns-2 c =
     let put = c .before .before .before .before .put in
     let at-if1 = c .before .before .before .before .before .before .before in
-    let room = at-if1 .if1 .left in
     let put-item = at-if1 .before .before .before .before .put-item in
     let start = at-if1 .before .before .before .before .before .before .before .before in
     let args = start .args in
     let (going, none, next) = start .pre in
     let form = at-head (shown (item (args .i))) _ (put-item .last .0) (put-item .result) (put-item .ensures .0) (put-item .ensures .1) in
     item-filled (args .c .now) (args .f) (args .out .now) none (args .i) (args .w) next (put-item .result)
-    (put-item .ensures .0) room _ _ (wrote-as form (put .ensures))
+    (put-item .ensures .0) (omega (arith, at-if1 .if1 .left)) _ _ (wrote-as form (put .ensures))
 
 pub put-marker-spec : {M : Type 1} → statement M
 put-marker-spec =
