@@ -1,8 +1,11 @@
-//! Order 5 of document 02, "A review sheet": its words one by one with rows written by hand, and
-//! sheets read back.
+//! Order 5 of document 02, "A review sheet": its words one by one with rows written by hand; the
+//! generated sheets read back, and what is delicate in them counted.
 
+mod cases;
 mod columns;
+mod counts;
 mod markers;
+mod reading;
 
 use second::operations::Outcome;
 use second::sheet::sheet;
