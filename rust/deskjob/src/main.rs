@@ -20,8 +20,8 @@ REQUESTS is a file with requests in notation, which come behind those of the job
 input. README.md has examples.
 
 Exit status: 0 if nothing is refused; 1 if the unit or a request is refused (standard output shows
-it; xml and sheet then print the answers alone); 2 if the command, a file, the notation or a line
-cannot be read (standard error says why).
+it; xml then writes no XML, sheet no sheet); 2 if the command, a file, the notation or a line cannot
+be read (standard error says why).
 ";
 
 fn main() -> ExitCode {

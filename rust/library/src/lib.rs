@@ -222,10 +222,10 @@ pub fn write_xml(table: &[u8], out: &mut [u8]) -> Answer {
     })
 }
 
-/// Lays a table's unit out as a review sheet: rows of 79 cells, each with a line feed behind it. They
-/// show a part's position, id, state, source and target in columns of 3, 5, 1, 33 and 33 cells, one
-/// blank between two. A source or target that is longer goes on in further rows. An output of 20
-/// times the table's length is enough.
+/// Lays a table's unit out as a review sheet: rows of 79 cells, each with a line feed behind it.
+/// They show a part's position, id, state, source and target in columns of 3, 5, 1, 33 and 33 cells,
+/// one blank between two. A source or target that is longer goes on in further rows. An output of
+/// 20 times the table's length is enough.
 ///
 /// ```
 /// // SG 7 - T, TX "Floor " and PH 9, translated: TX "Stock " and PH 9

@@ -1,5 +1,5 @@
-//! Order 5 of document 02, "A review sheet": with outputs of every kind of length, compared with the
-//! second implementation.
+//! Order 5 of document 02, "A review sheet": with outputs of every kind of length, compared with
+//! the second implementation.
 
 mod common;
 
