@@ -81,6 +81,15 @@ fn an_output_too_short() {
     }
 }
 
+/// A sheet may be longer than any table: 64 parts of two rows.
+#[test]
+fn a_sheet_has_no_limit_of_its_own() {
+    let part = [b"IG\0\0".to_vec(), text(&letters(34))].concat();
+    let table = unit(&[part.as_slice(); 64]);
+    assert_eq!(sheet(&table, 10_240).map(|sheet| sheet.len()), Ok(128 * 80));
+    assert_eq!(sheet(&table, 10_239), refused(15, 0));
+}
+
 /// The table is checked first, with its place.
 #[test]
 fn a_refused_table() {
