@@ -1,4 +1,4 @@
-//! Every line of `vectors/after-04.txt`, answered by the second implementation: a third opinion
+//! Every line of `vectors/after-05.txt`, answered by the second implementation: a third opinion
 //! beside the proved desk.
 
 use std::collections::BTreeMap;
@@ -7,7 +7,7 @@ use second::lines::answer;
 
 #[test]
 fn the_vectors_are_answered() {
-    let path = concat!(env!("CARGO_MANIFEST_DIR"), "/../../vectors/after-04.txt");
+    let path = concat!(env!("CARGO_MANIFEST_DIR"), "/../../vectors/after-05.txt");
     let file = std::fs::read_to_string(path).expect("the file of vectors");
     let mut lines: BTreeMap<&str, usize> = BTreeMap::new();
     for line in file.lines() {
@@ -16,9 +16,14 @@ fn the_vectors_are_answered() {
         *lines.entry(asked.split(' ').next().unwrap_or_default()).or_default() += 1;
     }
     println!("{lines:?}");
-    for (operation, least) in
-        [("check", 25), ("job", 120), ("call", 342), ("xmlread", 25), ("xmlwrite", 25)]
-    {
+    for (operation, least) in [
+        ("check", 25),
+        ("job", 25),
+        ("call", 25),
+        ("xmlread", 25),
+        ("xmlwrite", 25),
+        ("sheet", 336),
+    ] {
         assert!(lines.get(operation) >= Some(&least), "too few lines of {operation}");
     }
 }
