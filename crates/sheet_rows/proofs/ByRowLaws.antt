@@ -13,7 +13,7 @@ use Rattle.sheet.specs.Column.{shown-all, column-cells, column}
 use Rattle.sheet.specs.Sheet.{Row, id-cells, state-cells, later-row, later-rows, part-rows, row-bytes}
 use Rattle.sheet_columns.specs.Taken.{taken, untaken, rows-left}
 use Rattle.sheet_columns.proofs.TakenLaws.{column-by-row}
-use Rattle.sheet_rows.specs.Rows.{head-margin, columns, rest-rows}
+use Rattle.sheet_rows.specs.Rows.{head-margin, columns, rest-rows, content-rows}
 use Rattle.sheet_rows.proofs.RowLaws.{next-cells, head-written, later-written}
 
 -- the items that a row leaves
@@ -71,10 +71,8 @@ module _ (n : ℕ) (p : Part) where
   part-by-row = ap₂ rows-of (column-by-row sources) (column-by-row targets)
 
   pub part-written : GoodHead (p .head)
-      → gather row-bytes (part-rows n p)
-      ≡ head-margin n (p .head)
-      ++ (columns sources targets ++ gather row-bytes (rest-rows (left-of sources) (left-of targets)))
-  unfolding gather
+      → gather row-bytes (part-rows n p) ≡ head-margin n (p .head) ++ content-rows sources targets
+  unfolding gather content-rows
   part-written g =
       let rest = gather row-bytes (rest-rows (left-of sources) (left-of targets)) in
       ap (gather row-bytes) part-by-row

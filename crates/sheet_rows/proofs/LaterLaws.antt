@@ -1,4 +1,4 @@
--- The later rows of a part, one after the other: what is written, and the items that are left.
+-- The rows of two contents, one after the other: what is written, and the items that are left.
 use Prim.Native.Nat.{ℕ, _+_, _-_, _<_, _≤_}
 use native.Mathlib.Omega.{arith}
 use mathlib.Core.Path.{_≡_, refl, sym, ap, ap₂, _∙_}
@@ -11,14 +11,16 @@ use Rattle.xliff.specs.Bytes.{gather}
 use Rattle.xliff.specs.Item.{Content}
 use Rattle.xliff.specs.Desk.{blank}
 use Rattle.xliff.proofs.lists.Tests.{or-left, or-right}
+use Rattle.walk.specs.Kept.{Holds}
 use Rattle.draft.specs.declared.Draft.{Draft}
 use Rattle.draft.specs.Drafts.{Wrote}
 use Rattle.draft.proofs.DraftLaws.{wrote-nothing, wrote-then, wrote-as}
 use Rattle.sheet.specs.Sheet.{row-bytes}
+use Rattle.sheet_columns.specs.declared.Cursor.{Cursor}
 use Rattle.sheet_columns.specs.Filled.{Ahead}
-use Rattle.sheet_columns.proofs.CursorLaws.{ahead-end, ahead-more}
+use Rattle.sheet_columns.proofs.CursorLaws.{ahead-start, ahead-end, ahead-more}
 use Rattle.sheet_rows.specs.declared.Columns.{Columns}
-use Rattle.sheet_rows.specs.Rows.{columns, rest-rows, goesOn, Onward, PutColumns}
+use Rattle.sheet_rows.specs.Rows.{columns, rest-rows, goesOn, Onward, ColumnsPut, PutColumns, PutLater, content-rows, PutContents}
 use Rattle.sheet_rows.proofs.ByRowLaws.{left-of, rest-none, rest-next}
 
 -- so far is written, and the rows of the items that are left give the rest
@@ -108,3 +110,20 @@ module _ (source target first out : List ℕ) (begun : Draft) (row : Columns) (x
         all = append-assoc (l .done) line rest
             ∙ ap (λ (x : List ℕ). l .done ++ x) (sym (rest-next (l .sources) (l .targets) some)) ∙ l .all;
       }
+
+-- the rows of two contents from their starts
+abbrev begin : Cursor
+begin = record { at = 0; left = 0 }
+
+module _ (source target out : List ℕ) (draft : Draft) (out₁ : List ℕ) (first : Columns)
+    (put : PutColumns source begin target begin out draft out₁ first) where
+  pub first-put : (xs ys : Content) → Holds source xs → Holds target ys
+      → ColumnsPut source target out draft out₁ first xs ys
+  first-put xs ys h k = put .2 xs ys (ahead-start source xs h) (ahead-start target ys k)
+
+  pub contents-put : (last : List ℕ) (r : Draft) → PutLater source target first out₁ last r
+      → PutContents source target out draft last r
+  unfolding content-rows
+  contents-put last r later xs ys h k =
+      let p = first-put xs ys h k in
+      wrote-then (p .wrote) (later (left-of xs) (left-of ys) (p .source-ahead) (p .target-ahead))

@@ -26,12 +26,8 @@ use Rattle.part_at.proofs.HoldLaws.{source-of, holds-source, target-there, noth
 use Rattle.draft.specs.declared.Draft.{Draft}
 use Rattle.draft.specs.Drafts.{Wrote}
 use Rattle.draft.proofs.DraftLaws.{wrote-then, wrote-as}
-use Rattle.sheet_columns.specs.declared.Cursor.{Cursor}
-use Rattle.sheet_columns.specs.Filled.{Ahead}
-use Rattle.sheet_columns.proofs.CursorLaws.{ahead-start}
 use Rattle.sheet.specs.Sheet.{part-rows, row-bytes}
-use Rattle.sheet_rows.specs.declared.Columns.{Columns}
-use Rattle.sheet_rows.specs.Rows.{head-margin, ReadMargin, ColumnsPut, PutColumns, PutLater, TargetStart}
+use Rattle.sheet_rows.specs.Rows.{head-margin, ReadMargin, PutContents, TargetFits, TargetStart}
 use Rattle.sheet_rows.proofs.ByRowLaws.{part-written}
 
 same-head : (g h : Head) → part-head g ≡ part-head h → g ≡ h
@@ -60,10 +56,6 @@ holds-nothing : (t : List ℕ) (end start : ℕ) → start ≡ end → Holds (ta
 unfolding content-records spell gather
 holds-nothing t end start e =
     (kept-end, ap (λ (n : ℕ). take n (drop start t)) (let z : 0 ≡ end - start = omega (arith, e) in z))
-
--- the start of a content
-abbrev begin : Cursor
-begin = record { at = 0; left = 0 }
 
 module _ (t : List ℕ) (b : List Part) (p : Part) (a : List Part) (place : PartPlace)
     (s : PartStands t b p a place) where
@@ -105,51 +97,43 @@ module _ (t : List ℕ) (b : List Part) (p : Part) (a : List Part) (place : Part
       → Wrote (head-margin n (p .head)) out draft last x
   head-margined n r k = margin-read n (body (drop (place .head) t)) r (p .head) (head-read r k)
 
-  -- its contents: the target's from `start` on
-  module _ (h : Bytes t) (start : ℕ) (is : TargetStart place start) where
-    abbrev source-bytes : List ℕ
-    source-bytes = source-of t place
+  -- its contents
+  module _ (h : Bytes t) where
+    pub source-held : Holds (source-of t place) (p .source)
+    source-held = holds-source t h b p a place s
 
-    abbrev target-bytes : List ℕ
-    target-bytes = take (place .end - start) (drop start t)
+    pub target-fits : TargetFits place
+    target-fits e = target-there t h b p a place s e .ordered
 
-    target-held : (start ≤ place .end) × Holds target-bytes (target-items (p .target))
-    target-held = by (place .«has_target») refl
-      where
-        by : (x : Bool) → place .«has_target» ≡ x
-            → (start ≤ place .end) × Holds (take (place .end - start) (drop start t)) (target-items (p .target))
-        by true e =
-            let from : start ≡ place .target + 4 = is ∙ rw e refl in
-            let g = target-there t h b p a place s e in (
-              omega (arith, from, g .ordered),
-              subst (λ (n : ℕ). Holds (take (place .end - n) (drop n t)) (target-items (p .target))) (sym from)
-                  (g .holds),
-            )
-        by false e =
-            let from : start ≡ place .end = is ∙ rw e refl in (
-              omega (arith, from),
-              subst (Holds (take (place .end - start) (drop start t)))
-                  (sym (nothing-there t place (p .target) (s .target) e)) (holds-nothing t (place .end) start from),
-            )
+    -- the target's from `start` on
+    module _ (start : ℕ) (is : TargetStart place start) where
+      abbrev from-start : ℕ → List ℕ
+      from-start n = take (place .end - n) (drop n t)
 
-    pub target-ordered : start ≤ place .end
-    target-ordered = target-held .0
+      abbrev Held : Type 0
+      Held = (start ≤ place .end) × Holds (from-start start) (target-items (p .target))
 
-    -- its rows, from both contents' starts
-    pub source-ahead : Ahead source-bytes 0 0 (p .source)
-    source-ahead = ahead-start source-bytes (p .source) (holds-source t h b p a place s)
+      held-by : (has : Bool) → place .«has_target» ≡ has → Held
+      held-by true e =
+          let at-head : start ≡ place .target + 4 = is ∙ rw e refl in
+          let g = target-there t h b p a place s e in (
+            omega (arith, at-head, g .ordered),
+            subst (λ (n : ℕ). Holds (from-start n) (target-items (p .target))) (sym at-head) (g .holds),
+          )
+      held-by false e =
+          let at-end : start ≡ place .end = is ∙ rw e refl in (
+            omega (arith, at-end),
+            subst (Holds (from-start start)) (sym (nothing-there t place (p .target) (s .target) e))
+                (holds-nothing t (place .end) start at-end),
+          )
 
-    pub target-ahead : Ahead target-bytes 0 0 (target-items (p .target))
-    target-ahead = ahead-start target-bytes (target-items (p .target)) (target-held .1)
+      pub target-held : Held
+      target-held = held-by (place .«has_target») refl
 
-    module _ (out : List ℕ) (headed : Draft) (out₁ : List ℕ) (first : Columns)
-        (put : PutColumns source-bytes begin target-bytes begin out headed out₁ first) where
-      pub first-put : ColumnsPut source-bytes target-bytes out headed out₁ first (p .source) (target-items (p .target))
-      first-put = put .2 (p .source) (target-items (p .target)) source-ahead target-ahead
-
-      pub part-put : (n : ℕ) (out₀ : List ℕ) (draft : Draft) → Wrote (head-margin n (p .head)) out₀ draft out headed
-          → (last : List ℕ) (r : Draft) → PutLater source-bytes target-bytes first out₁ last r
-          → Wrote (gather row-bytes (part-rows n p)) out₀ draft last r
-      part-put n out₀ draft w last r later =
+      pub part-put : (n : ℕ) (out : List ℕ) (draft : Draft) (out₁ : List ℕ) (headed : Draft)
+          → Wrote (head-margin n (p .head)) out draft out₁ headed
+          → (last : List ℕ) (r : Draft) → PutContents (source-of t place) (from-start start) out₁ headed last r
+          → Wrote (gather row-bytes (part-rows n p)) out draft last r
+      part-put n out draft out₁ headed w last r put =
           wrote-as (sym (part-written n p part-good))
-          (wrote-then w (wrote-then (first-put .wrote) (later _ _ (first-put .source-ahead) (first-put .target-ahead))))
+          (wrote-then w (put (p .source) (target-items (p .target)) source-held (target-held .1)))

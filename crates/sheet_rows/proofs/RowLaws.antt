@@ -14,9 +14,10 @@ use Rattle.xliff.proofs.lists.Each.{each-append}
 use Rattle.xliff.proofs.text.Utf8.{utf8s-append}
 use Rattle.sheet.specs.Column.{shown-all, column-cells}
 use Rattle.sheet.specs.Sheet.{Row, id-cells, state-cells, later-row, right-aligned, padded, row-cells, row-bytes}
+use Rattle.sheet.proofs.Ascii.{Ascii, ascii-bytes, blanks-ascii, decimal-ascii}
 use Rattle.sheet_columns.specs.Taken.{taken, next-row}
 use Rattle.sheet_rows.specs.Rows.{margin, head-margin, columns}
-use Rattle.sheet_rows.proofs.AsciiLaws.{Ascii, ascii-bytes, blanks-ascii, decimal-ascii, id-ascii, state-ascii, aligned-ascii, padded-ascii}
+use Rattle.sheet_rows.proofs.AsciiLaws.{id-ascii, state-ascii, aligned-ascii, padded-ascii}
 
 -- the cells of the next row of a column
 abbrev pub next-cells : Content → List ℕ
