@@ -56,7 +56,7 @@ start-within : (i : ℕ) → length (start-form i) ≤ column-cells
 unfolding start-form
 start-within i = omega (arith, decimal-within i)
 
-end-within : (i : ℕ) → length (end-form i) ≤ 21
+pub end-within : (i : ℕ) → length (end-form i) ≤ 21
 unfolding end-form
 end-within i = omega (arith, decimal-within i, length-append (decimal i) (right-brace ∷ []))
 

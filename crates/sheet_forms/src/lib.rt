@@ -73,8 +73,8 @@ pub fn put_item(piece: &mut [u8], i: Item) -> usize
         Item::Standalone(f) => put_standalone(piece, f.id),
         Item::Isolated(h, f) => put_half(piece, h, f.id),
         Item::Pair(_, h, f) => put_half(piece, h, f.id),
-        Item::AnnotationStart(_, id, _) => put_start(piece, id),
-        Item::AnnotationEnd(_, id) => put_end(piece, id),
+        Item::AnnotationStart(_, id, _) => put_half(piece, Half::Start, id),
+        Item::AnnotationEnd(_, id) => put_half(piece, Half::End, id),
     }
 }
 
@@ -82,7 +82,11 @@ pub fn put_item(piece: &mut [u8], i: Item) -> usize
 fn cell_of(b: u8) -> u8
     ensures { λ r. ⌜ r ≡ cell b ⌝ }
 {
-    if (b == b'\t') | ((b == b'\n') | (b == b'\r')) { b'.' } else { b }
+    if (b == b'\t') | ((b == b'\n') | (b == b'\r')) {
+        b'.'
+    } else {
+        b
+    }
 }
 
 // A text of no more cells than a column has. A byte of a code point that takes more than one is above 127 and stays.
@@ -132,7 +136,8 @@ pub fn put_number(out: &mut [u8], draft: Draft, n: usize, cells: usize) -> Draft
 {
     let mut digits = [0u8; 20];
     let k = lines::put_decimal(&mut digits, n);
-    put_between(out, draft, missing(k, cells), &digits[..k], 0)
+    let blanks = missing(k, cells);
+    put_between(out, draft, blanks, &digits[..k], 0)
 }
 
 // An id, right-aligned; 0 is blank.
