@@ -84,7 +84,7 @@ allowed-front : (us bs : List ℕ) → Allowed (us ++ bs) → Allowed us
 allowed-front [] bs h = no-text
 allowed-front (a ∷ us) bs (one-point p h) = one-point p (allowed-front us bs h)
 
-allowed-back : (us bs : List ℕ) → Allowed (us ++ bs) → Allowed bs
+pub allowed-back : (us bs : List ℕ) → Allowed (us ++ bs) → Allowed bs
 allowed-back [] bs h = h
 allowed-back (a ∷ us) bs (one-point p h) = allowed-back us bs h
 

@@ -20,12 +20,12 @@ module _ (t : List ℕ) (at w : ℕ) (cs : List ℕ) (rs : List Record) (a : At 
   pub text-fits : (at + 4 ≤ at + w) × (at + w ≤ length t)
   text-fits = let n = at-next t at (text-run cs) rs a in let k = wide in (omega arith, omega (arith, n .fits, e))
 
-  behind : drop (at + 4) t ≡ utf8s cs ++ spell rs
+  pub text-behind : drop (at + 4) t ≡ utf8s cs ++ spell rs
   unfolding record-bytes two spell gather
-  behind =
+  text-behind =
       sym (drop-drop 4 at t) ∙ sym (ap (drop 4) (a .rest))
 
   pub text-there : take (at + w - (at + 4)) (drop (at + 4) t) ≡ utf8s cs
   text-there =
       ap (λ (n : ℕ). take n (drop (at + 4) t)) (let k = wide in let z : at + w - (at + 4) ≡ length (utf8s cs) = omega arith in z)
-      ∙ ap (take (length (utf8s cs))) behind ∙ take-append-seam (utf8s cs) (spell rs)
+      ∙ ap (take (length (utf8s cs))) text-behind ∙ take-append-seam (utf8s cs) (spell rs)

@@ -1,4 +1,5 @@
 pub mod Widths
+pub mod Ascii
 pub mod Columns
 pub mod Fewest
 pub mod Parts

@@ -72,6 +72,23 @@ shown-within (pair end w f) = omega (arith, end-within (f .id))
 shown-within (annotation-start w i t) = start-within i
 shown-within (annotation-end w i) = omega (arith, end-within i)
 
+-- and at least one cell
+end-some : (i : ℕ) → 1 ≤ length (end-form i)
+unfolding end-form
+end-some i = omega (arith, length-append (decimal i) (right-brace ∷ []))
+
+pub shown-some : (x : Item) → 1 ≤ length (shown x)
+unfolding shown start-form
+shown-some (text c) = omega arith
+shown-some (character c) = omega arith
+shown-some (standalone f) = omega arith
+shown-some (isolated start f) = omega arith
+shown-some (isolated end f) = end-some (f .id)
+shown-some (pair start w f) = omega arith
+shown-some (pair end w f) = end-some (f .id)
+shown-some (annotation-start w i t) = omega arith
+shown-some (annotation-end w i) = end-some i
+
 pub fits-alone : (x : Item) → fits column-cells x ≡ true
 unfolding fits
 fits-alone x = le-leb (length (shown x)) column-cells (shown-within x)

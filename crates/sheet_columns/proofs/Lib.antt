@@ -1,1 +1,4 @@
 pub mod TakenLaws
+pub mod CursorLaws
+pub mod ByteLaws
+pub mod StepLaws

@@ -3,18 +3,20 @@ use Prim.Native.Nat.{ℕ, _+_, _-_, _<_, _≤_}
 use mathlib.Core.Path.{_≡_}
 use mathlib.Core.Bool.{Bool, true, false, not, _&&_}
 use mathlib.Core.List.{List, [], _∷_, _++_, map}
-use lib.ListN.{length, take, drop}
+use lib.ListN.{length, drop}
 use lib.Dec.{ltb}
 use Rattle.xliff.specs.Text.{utf8s}
 use Rattle.xliff.specs.Item.{Content, text}
 use Rattle.xliff.specs.Encode as encode
-use Rattle.xliff.specs.Encode.{record-bytes}
+use Rattle.xliff.specs.Encode.{spell}
 use Rattle.xliff.specs.Good.{Allowed}
-use Rattle.places.specs.Offsets.{At, Inner}
-use Rattle.table.specs.Meaning.{record-meaning, body}
+use Rattle.table.specs.Meaning.{item}
+use Rattle.table.specs.declared.Item.{Item}
 use Rattle.table.specs.declared.Record.{Record}
 use Rattle.table.specs.declared.Record.the-variants.{Unit as UnitStart, UnitEnd, Segment, Ignorable, Target, Text, Inline}
-use Rattle.walk.specs.Kept.{items}
+use Rattle.table.specs.declared.Read.{Read}
+use Rattle.table.specs.declared.Read.the-variants.{Good, Ill, Broken}
+use Rattle.walk.specs.Kept.{Kept, items}
 use Rattle.draft.specs.declared.Draft.{Draft}
 use Rattle.draft.specs.Drafts.{Wrote}
 use Rattle.sheet.specs.Column.{shown-all, column-cells}
@@ -27,11 +29,13 @@ use Rattle.sheet_columns.specs.Taken.{taken, untaken, Ends, next-row}
 pub record Ahead (c : List ℕ) (at left : ℕ) (xs : Content) : Type 0 where
   pub points : List ℕ
   pub records : List encode.Record
+  pub behind : Bool
   pub all : xs ≡ map text points ++ items records
   pub allowed : Allowed points
-  pub bytes : take left (drop at c) ≡ utf8s points
-  pub inner : Inner records
-  pub there : At c (at + left) records
+  pub size : length (utf8s points) ≡ left
+  pub kept : Kept behind records
+  pub bytes : drop at c ≡ utf8s points ++ spell records
+  pub within : at ≤ length c
 
 abbrev pub SomeAhead : List ℕ → Cursor → Type 0
 SomeAhead c k = (xs : Content) × Ahead c (k .at) (k .left) xs
@@ -58,28 +62,41 @@ pub record Step (c : List ℕ) (f : Filling) (out : List ℕ) (r : Filling) (las
 -- the content goes on behind what was taken; or nothing was, and that in a row with something in it
 pub record Moved (f r : Filling) : Type 0 where
   pub onward : r .full ≡ false → f .at < r .at
-  pub stays : r .full ≡ true → (r .at ≡ f .at) × (f .room < column-cells)
+  pub stays : r .full ≡ true → (r .at ≡ f .at) × (r .room ≡ f .room) × (r .room < column-cells)
 
 abbrev pub Filled : List ℕ → Filling → List ℕ → Filling → List ℕ → Type 0
 Filled c f out r last = Moved f r × ((xs : Content) → Ahead c (f .at) (f .left) xs → Step c f out r last xs)
 
--- a record of a content begins at an offset, so wide
-abbrev pub Begins : List ℕ → ℕ → encode.Record → ℕ → Type 0
-Begins c at r w = (rs : List encode.Record) × At c at (r ∷ rs) × Inner (r ∷ rs) × (w ≡ length (record-bytes r))
+-- a text comes next, so wide with its head; or another item
+pub record TextNext (c : List ℕ) (at w : ℕ) : Type 0 where
+  pub wide : 4 < w
+  pub fits : at + w ≤ length c
+  pub then : (xs : Content) → Ahead c at 0 xs → Ahead c (at + 4) (w - 4) xs
 
--- the record that was read there
-abbrev pub found : List ℕ → ℕ → Record → encode.Record
-found c at x = record-meaning (body (drop at c)) x
+pub record ItemAhead (c : List ℕ) (at : ℕ) (i : Item) (w : ℕ) (xs : Content) : Type 0 where
+  pub others : Content
+  pub all : xs ≡ item i ∷ others
+  pub ahead : Ahead c (at + w) 0 others
 
--- what is said of a record that can stand in a content
-abbrev pub InContent : Record → Type 0 → Type 0
-InContent (UnitStart u) said = Unit {0}
-InContent UnitEnd said = Unit {0}
-InContent (Segment f) said = Unit {0}
-InContent (Ignorable i) said = Unit {0}
-InContent (Target q) said = Unit {0}
-InContent Text said = said
-InContent (Inline i) said = said
+pub record ItemNext (c : List ℕ) (at : ℕ) (i : Item) (w : ℕ) : Type 0 where
+  pub wide : 0 < w
+  pub fits : at + w ≤ length c
+  pub then : (xs : Content) → Ahead c at 0 xs → ItemAhead c at i w xs
+
+-- by the record that was read there: no head of a unit, a part or a target stands in a content
+abbrev pub RecordNext : List ℕ → ℕ → Record → ℕ → Type 0
+RecordNext c at (UnitStart u) w = ⊥
+RecordNext c at UnitEnd w = ⊥
+RecordNext c at (Segment f) w = ⊥
+RecordNext c at (Ignorable i) w = ⊥
+RecordNext c at (Target q) w = ⊥
+RecordNext c at Text w = TextNext c at w
+RecordNext c at (Inline i) w = ItemNext c at i w
+
+abbrev pub ReadNext : List ℕ → ℕ → Read → Type 0
+ReadNext c at (Good x w) = RecordNext c at x w
+ReadNext c at Ill = ⊥
+ReadNext c at (Broken b) = ⊥
 
 -- a text is entered
 abbrev pub entered : Filling → ℕ → Filling

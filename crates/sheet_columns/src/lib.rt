@@ -7,9 +7,7 @@ ghost use mathlib.Core.Path.{_≡_};
 ghost use mathlib.Core.Bool.{false};
 ghost use Prim.Native.Nat.{_+_, _<_, _≤_};
 ghost use lib.ListN.{length};
-ghost use Rattle.xliff.specs.Encode.{inline};
-ghost use Rattle.table.specs.Meaning.{item};
-ghost use Rattle.sheet_columns.specs.Filled.{Going, Begins, found, InContent, entered, goesOn, Filled, PutItems, SomeAhead, PutRow};
+ghost use Rattle.sheet_columns.specs.Filled.{SomeAhead, Going, goesOn, Filled, ItemNext, RecordNext, entered, PutItems, PutRow};
 
 // Where a column goes on: the offset of the next item in its content, and the bytes left of the text that it stands
 // in, 0 where a record begins.
@@ -56,7 +54,7 @@ fn put_points(out: &mut [u8], c: &[u8], f: Filling) -> Filling
 
 // An inline record other than text, which takes `w` bytes: shown if it fits whole.
 fn put_marker(out: &mut [u8], c: &[u8], f: Filling, i: Item, w: usize) -> Filling
-    requires { ⌜ Going (now c) f (now out) × (f .left ≡ 0) × Begins (now c) (f .at) (inline (item i)) w ⌝ }
+    requires { ⌜ Going (now c) f (now out) × (f .left ≡ 0) × ItemNext (now c) (f .at) i w ⌝ }
     ensures { λ r. ⌜ Filled (now (c .entry)) f (now (out .entry)) r (now (out .exit)) ⌝ }
 {
     let mut piece = [0u8; sheet_forms::FORM_BYTES];
@@ -98,8 +96,8 @@ fn enter(c: &[u8], f: Filling, w: usize) -> Filling
 
 // The record `x`, which takes `w` bytes. A text is entered; no head of a part or of a target stands in a content.
 fn put_record(out: &mut [u8], c: &[u8], f: Filling, x: Record, w: usize) -> Filling
-    requires { ⌜ Going (now c) f (now out) × (f .left ≡ 0) × Begins (now c) (f .at) (found (now c) (f .at) x) w ⌝ }
-    ensures { λ r. ⌜ InContent x (Filled (now (c .entry)) f (now (out .entry)) r (now (out .exit))) ⌝ }
+    requires { ⌜ Going (now c) f (now out) × (f .left ≡ 0) × RecordNext (now c) (f .at) x w ⌝ }
+    ensures { λ r. ⌜ Filled (now (c .entry)) f (now (out .entry)) r (now (out .exit)) ⌝ }
 {
     match x {
         Record::Unit(_) => f,
