@@ -1,7 +1,7 @@
 -- Stepping stones: the rows of a part, written one after the other.
-use Prim.Native.Nat.{ℕ, suc, _+_, _<_, _≤_}
+use Prim.Native.Nat.{ℕ, _+_, _<_, _≤_}
 use mathlib.Core.Path.{_≡_}
-use mathlib.Core.Bool.{Bool, true, false, _||_, cond}
+use mathlib.Core.Bool.{Bool, true, _||_, cond}
 use mathlib.Core.List.{List, [], _∷_, _++_}
 use lib.ListN.{length}
 use lib.Dec.{ltb}
@@ -14,6 +14,7 @@ use Rattle.table.specs.declared.Record.{Record}
 use Rattle.table.specs.declared.Record.the-variants.{Unit as UnitStart, UnitEnd, Segment, Ignorable, Target, Text, Inline}
 use Rattle.table.specs.declared.Read.{Read}
 use Rattle.table.specs.declared.Read.the-variants.{Good, Ill, Broken}
+use Rattle.walk.specs.Kept.{Holds}
 use Rattle.part_at.specs.declared.PartPlace.{PartPlace}
 use Rattle.part_at.specs.Stands.{PartStands}
 use Rattle.draft.specs.declared.Draft.{Draft}
@@ -64,7 +65,8 @@ pub record Onward (c : List ℕ) (from next : Cursor) : Type 0 where
   pub further : from .at < length c → from .at < next .at
 
 -- a row of both columns is written, of these items
-pub record ColumnsPut (source target out : List ℕ) (draft : Draft) (last : List ℕ) (r : Columns) (xs ys : Content) : Type 0 where
+pub record ColumnsPut (source target out : List ℕ) (draft : Draft) (last : List ℕ) (r : Columns) (xs ys : Content)
+    : Type 0 where
   pub wrote : Wrote (columns xs ys) out draft last (r .draft)
   pub source-ahead : Ahead source (r .source .at) (r .source .left) (untaken column-cells xs)
   pub target-ahead : Ahead target (r .target .at) (r .target .left) (untaken column-cells ys)
@@ -77,10 +79,23 @@ PutColumns source from target to out draft last r =
 
 abbrev pub PutLater : List ℕ → List ℕ → Columns → List ℕ → List ℕ → Draft → Type 0
 PutLater source target f out last r =
-    (xs ys : Content) → Ahead source (f .source .at) (f .source .left) xs → Ahead target (f .target .at) (f .target .left) ys
+    (xs ys : Content) → Ahead source (f .source .at) (f .source .left) xs
+    → Ahead target (f .target .at) (f .target .left) ys
     → Wrote (gather row-bytes (rest-rows xs ys)) out (f .draft) last r
 
--- where the content of a target begins
+-- the rows of two contents side by side, behind the margin of the first
+unfoldable pub content-rows : Content → Content → List ℕ
+content-rows xs ys =
+    columns xs ys ++ gather row-bytes (rest-rows (untaken column-cells xs) (untaken column-cells ys))
+
+abbrev pub PutContents : List ℕ → List ℕ → List ℕ → Draft → List ℕ → Draft → Type 0
+PutContents source target out draft last r =
+    (xs ys : Content) → Holds source xs → Holds target ys → Wrote (content-rows xs ys) out draft last r
+
+-- a target takes at least its head; where its content begins
+abbrev pub TargetFits : PartPlace → Type 0
+TargetFits place = place .«has_target» ≡ true → place .target + 4 ≤ place .end
+
 abbrev pub TargetStart : PartPlace → ℕ → Type 0
 TargetStart place r = r ≡ cond (place .«has_target») (place .target + 4) (place .end)
 

@@ -10,11 +10,12 @@ ghost use lib.ListN.{length};
 ghost use Rattle.xliff.specs.Desk.{decimal};
 ghost use Rattle.xliff.specs.Parse.{unit};
 ghost use Rattle.places.specs.Passes.{Passes};
+ghost use Rattle.cut.specs.Halves.{Some};
 ghost use Rattle.part_at.specs.Stands.{Standing};
 ghost use Rattle.draft.specs.Drafts.{Wrote};
 ghost use Rattle.sheet.specs.Sheet.{id-cells, sheet-bytes};
 ghost use Rattle.sheet_columns.specs.Filled.{SomeAhead};
-ghost use Rattle.sheet_rows.specs.Rows.{margin, HeadMargin, ReadMargin, goesOn, PutColumns, PutLater, TargetStart, PutPart};
+ghost use Rattle.sheet_rows.specs.Rows.{margin, HeadMargin, ReadMargin, goesOn, PutColumns, PutLater, PutContents, TargetFits, TargetStart, PutPart};
 
 // The two columns of a part side by side: where each goes on behind a row, and the text written.
 struct Columns {
@@ -119,9 +120,19 @@ fn put_later(out: &mut [u8], first: Columns, source: &[u8], target: &[u8]) -> Dr
     row.draft
 }
 
+// The rows of a part behind the margin of its first: its two contents side by side.
+fn put_contents(out: &mut [u8], draft: Draft, source: &[u8], target: &[u8]) -> Draft
+    requires { ⌜ (draft .used ≤ length (now out)) × Some (now source) × Some (now target) ⌝ }
+    ensures { λ r. ⌜ PutContents (now (source .entry)) (now (target .entry)) (now (out .entry)) draft (now (out .exit)) r ⌝ }
+{
+    let begin = Cursor { at: 0, left: 0 };
+    let first = put_columns(out, draft, source, begin, target, begin);
+    put_later(out, first, source, target)
+}
+
 // Where the content of a part's target begins: at its end where it has none.
 fn target_start(place: PartPlace) -> usize
-    requires { ⌜ place .target ≤ 65535 ⌝ }
+    requires { ⌜ TargetFits place ⌝ }
     ensures { λ r. ⌜ TargetStart place r ⌝ }
 {
     if place.has_target {
@@ -139,10 +150,8 @@ fn put_part(out: &mut [u8], draft: Draft, t: &[u8], n: usize, place: PartPlace) 
     let to = place.target;
     let start = target_start(place);
     let end = place.end;
-    let begin = Cursor { at: 0, left: 0 };
     let headed = put_read(out, draft, n, walker::known_at(t, place.head));
-    let first = put_columns(out, headed, &t[from..to], begin, &t[start..end], begin);
-    put_later(out, first, &t[from..to], &t[start..end])
+    put_contents(out, headed, &t[from..to], &t[start..end])
 }
 
 // The sheet of a table that passed the check.

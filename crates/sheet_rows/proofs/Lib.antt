@@ -1,0 +1,6 @@
+pub mod AsciiLaws
+pub mod RowLaws
+pub mod ByRowLaws
+pub mod LaterLaws
+pub mod PartLaws
+pub mod SheetLaws
