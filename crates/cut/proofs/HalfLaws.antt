@@ -44,7 +44,8 @@ weaken false rs k = k
 beyond-texts : (cs : List ℕ) (ys : Content) (x : Item) → cut-item (map text cs ++ ys) x ≡ cut-item ys x
 unfolding cut-item
 beyond-texts cs ys x =
-    ap (λ (b : Bool). cond b (in-form form-S x) x) (any-other x (map text cs ++ ys) ∙ texts-other (kind x) (id-of x) cs ys
+    ap (λ (b : Bool). cond b (in-form form-S x) x)
+    (any-other x (map text cs ++ ys) ∙ texts-other (kind x) (id-of x) cs ys
     ∙ sym (any-other x ys))
 
 -- nor at its end
@@ -56,7 +57,8 @@ texts-behind k i (y ∷ ys) cs = ap (λ (b : Bool). is-other k i y || b) (texts-
 beyond-behind : (ys : Content) (cs : List ℕ) (x : Item) → cut-item (ys ++ map text cs) x ≡ cut-item ys x
 unfolding cut-item
 beyond-behind ys cs x =
-    ap (λ (b : Bool). cond b (in-form form-S x) x) (any-other x (ys ++ map text cs) ∙ texts-behind (kind x) (id-of x) ys cs
+    ap (λ (b : Bool). cond b (in-form form-S x) x)
+    (any-other x (ys ++ map text cs) ∙ texts-behind (kind x) (id-of x) ys cs
     ∙ sym (any-other x ys))
 
 -- cut between two records
@@ -67,13 +69,15 @@ module _ (k : ℕ) (a b : List Record) (kp : Kept false (a ++ b)) where
   pub halves-dropped : (length (items a) ≡ k) → drop k (items (a ++ b)) ≡ items b
   halves-dropped e = ap (drop k) (kept-items false a b kp) ∙ drop-at (items a) (items b) k e
 
-  pub clean-first : length (items a) ≡ k → content-bytes (first-items k (items (a ++ b))) ≡ spell (cut-records (items b) a)
+  pub clean-first : length (items a) ≡ k
+      → content-bytes (first-items k (items (a ++ b))) ≡ spell (cut-records (items b) a)
   unfolding first-items
   clean-first e =
       ap₂ (λ (u v : Content). content-bytes (map (cut-item u) v)) (halves-dropped e) (halves-taken e)
       ∙ cut-bytes false (items b) a (kept-front false a b kp)
 
-  pub clean-second : length (items a) ≡ k → content-bytes (second-items k (items (a ++ b))) ≡ spell (cut-records (items a) b)
+  pub clean-second : length (items a) ≡ k
+      → content-bytes (second-items k (items (a ++ b))) ≡ spell (cut-records (items a) b)
   unfolding second-items
   clean-second e =
       ap₂ (λ (u v : Content). content-bytes (map (cut-item u) v)) (halves-taken e) (halves-dropped e)
@@ -93,7 +97,8 @@ pub record TextKept (cs : List ℕ) (rs : List Record) : Type 0 where
   pub small : length (utf8s cs) < 65536
   pub others : Kept true rs
 
-text-kept : (b : Bool) (us : List Record) (cs : List ℕ) (rs : List Record) → Kept b (us ++ (text-run cs ∷ rs)) → TextKept cs rs
+text-kept : (b : Bool) (us : List Record) (cs : List ℕ) (rs : List Record) → Kept b (us ++ (text-run cs ∷ rs))
+    → TextKept cs rs
 text-kept b [] cs rs (kept-text a l k) = record { allowed = a; small = l; others = k }
 text-kept b (inline x ∷ us) cs rs (kept-item g k) = text-kept false us cs rs k
 text-kept b (text-run ds ∷ us) cs rs (kept-text a l k) = text-kept true us cs rs k
@@ -104,14 +109,16 @@ text-instead : (b : Bool) (us : List Record) (cs : List ℕ) (rs : List Record) 
     → Kept b (us ++ (text-run (e ∷ es) ∷ []))
 text-instead b [] cs rs e es (kept-text a l k) p q = kept-text p q kept-end
 text-instead b (inline x ∷ us) cs rs e es (kept-item g k) p q = kept-item g (text-instead false us cs rs e es k p q)
-text-instead b (text-run ds ∷ us) cs rs e es (kept-text a l k) p q = kept-text a l (text-instead true us cs rs e es k p q)
+text-instead b (text-run ds ∷ us) cs rs e es (kept-text a l k) p q =
+    kept-text a l (text-instead true us cs rs e es k p q)
 
 pub length-texts : (cs : List ℕ) → length (map text cs) ≡ length cs
 length-texts [] = refl
 length-texts (c ∷ cs) = ap suc (length-texts cs)
 
 -- cut inside a text: the code points us before the cut, vs behind it
-module _ (k u : ℕ) (us : List ℕ) (v : ℕ) (vs : List ℕ) (a rs : List Record) (kp : Kept false (a ++ (text-run ((u ∷ us) ++ (v ∷ vs)) ∷ rs)))
+module _ (k u : ℕ) (us : List ℕ) (v : ℕ) (vs : List ℕ) (a rs : List Record)
+    (kp : Kept false (a ++ (text-run ((u ∷ us) ++ (v ∷ vs)) ∷ rs)))
     (count : length (items a) + length (u ∷ us) ≡ k) where
   abbrev all : Content
   all = items (a ++ (text-run ((u ∷ us) ++ (v ∷ vs)) ∷ rs))
@@ -128,7 +135,8 @@ module _ (k u : ℕ) (us : List ℕ) (v : ℕ) (vs : List ℕ) (a rs : List Reco
       ∙ sym (append-assoc (items a) (map text (u ∷ us)) (map text (v ∷ vs) ++ items rs))
 
   long : length (items a ++ map text (u ∷ us)) ≡ k
-  long = length-append (items a) (map text (u ∷ us)) ∙ ap (λ (n : ℕ). length (items a) + n) (length-texts (u ∷ us)) ∙ count
+  long =
+      length-append (items a) (map text (u ∷ us)) ∙ ap (λ (n : ℕ). length (items a) + n) (length-texts (u ∷ us)) ∙ count
 
   pub taken : take k all ≡ items a ++ map text (u ∷ us)
   taken = ap (take k) apart ∙ take-at (items a ++ map text (u ∷ us)) (map text (v ∷ vs) ++ items rs) k long
@@ -173,7 +181,8 @@ module _ (k u : ℕ) (us : List ℕ) (v : ℕ) (vs : List ℕ) (a rs : List Reco
       ∙ spell-append (cut-records beyond a) (text-run (u ∷ us) ∷ [])
       ∙ ap (λ (l : List ℕ). spell (cut-records beyond a) ++ l) (append-nil (record-bytes (text-run (u ∷ us))))
 
-  pub inner-second : content-bytes (second-items k all) ≡ record-bytes (text-run (v ∷ vs)) ++ spell (cut-records (items a) rs)
+  pub inner-second : content-bytes (second-items k all) ≡ record-bytes (text-run (v ∷ vs))
+      ++ spell (cut-records (items a) rs)
   unfolding second-items spell gather reading take-record
   inner-second =
       ap₂ (λ (p q : Content). content-bytes (map (cut-item p) q)) taken dropped
@@ -189,8 +198,10 @@ pub record Inner (k : ℕ) (c : List ℕ) (xs : Content) (p : Place) (before aft
   pub small : size < 65536
   pub fit : p .at + (4 + size) ≤ length c
   pub rest : Of (drop (p .at + (4 + size)) c) others
-  pub first : content-bytes (first-items k xs) ≡ spell (cut-records (items after) before) ++ textPiece (take (p .into) (drop (p .at + 4) c))
-  pub second : content-bytes (second-items k xs) ≡ textPiece (take (size - p .into) (drop (p .at + 4 + p .into) c)) ++ spell
+  pub first : content-bytes (first-items k xs) ≡ spell (cut-records (items after) before)
+      ++ textPiece (take (p .into) (drop (p .at + 4) c))
+  pub second : content-bytes (second-items k xs) ≡ textPiece (take (size - p .into) (drop (p .at + 4 + p .into) c))
+      ++ spell
       (cut-records (items before) others)
 
 pub record Sides (k : ℕ) (c : List ℕ) (xs : Content) (p : Place) : Type 0 where
@@ -217,7 +228,9 @@ module _ (k : ℕ) (c : List ℕ) (at : ℕ) (a b : List Record) (o : Of c (a ++
   )
 
   the-fit : at ≤ length c
-  the-fit = let l : length c ≡ length (spell a ++ spell b) = ap length pieces in omega (arith, length-append (spell a) (spell b))
+  the-fit =
+      let l : length c ≡ length (spell a ++ spell b)
+      = ap length pieces in omega (arith, length-append (spell a) (spell b))
 
 -- nothing behind the cut
 over-first : (k : ℕ) (a : List Record) → Kept false (a ++ []) → length (items a) ≤ k
@@ -267,10 +280,13 @@ module _ (k : ℕ) (c : List ℕ) (at u : ℕ) (us : List ℕ) (v : ℕ) (vs : L
   from-text : drop (at + 4) c ≡ us′ ++ (vs′ ++ spell rs)
   unfolding record-bytes two
   from-text =
-      sym (drop-drop 4 at c) ∙ ap (drop 4) from-record ∙ ap (λ (l : List ℕ). l ++ spell rs) whole-is ∙ append-assoc us′ vs′ (spell rs)
+      sym (drop-drop 4 at c) ∙ ap (drop 4) from-record ∙ ap (λ (l : List ℕ). l ++ spell rs) whole-is
+      ∙ append-assoc us′ vs′ (spell rs)
 
   pub from-cut : drop (at + 4 + length us′) c ≡ vs′ ++ spell rs
-  from-cut = sym (drop-drop (length us′) (at + 4) c) ∙ ap (drop (length us′)) from-text ∙ drop-at us′ (vs′ ++ spell rs) (length us′) refl
+  from-cut =
+      sym (drop-drop (length us′) (at + 4) c) ∙ ap (drop (length us′)) from-text
+      ∙ drop-at us′ (vs′ ++ spell rs) (length us′) refl
 
   from-rest : drop (at + (4 + length whole)) c ≡ spell rs
   from-rest =
@@ -303,7 +319,9 @@ module _ (k : ℕ) (c : List ℕ) (at u : ℕ) (us : List ℕ) (v : ℕ) (vs : L
         rest = (weaken true rs (kept .others), sym from-rest);
         first = inner-first k u us v vs a rs (o .0) count
             ∙ ap (λ (l : List ℕ). spell (cut-records (items (text-run ((u ∷ us) ++ (v ∷ vs)) ∷ rs)) a) ++ l)
-            (piece (u ∷ us) ∙ ap textPiece (sym (ap (take (length us′)) from-text ∙ take-at us′ (vs′ ++ spell rs) (length us′) refl)));
+            (piece (u ∷ us)
+            ∙ ap textPiece
+            (sym (ap (take (length us′)) from-text ∙ take-at us′ (vs′ ++ spell rs) (length us′) refl)));
         second = inner-second k u us v vs a rs (o .0) count
             ∙ ap (λ (l : List ℕ). l ++ spell (cut-records (items a) rs))
             (piece (v ∷ vs)
@@ -350,14 +368,17 @@ sides-by k c at into left a b o h (within u us v vs rs e) =
       inner = λ z. the-inner k c at u us v vs a rs o h e;
     }
 
-pub sides : (k : ℕ) (c : List ℕ) (xs : Content) (p : Place) → Holds c xs → Parted k (content-records xs) p → Sides k c xs p
+pub sides : (k : ℕ) (c : List ℕ) (xs : Content) (p : Place) → Holds c xs → Parted k (content-records xs) p
+    → Sides k c xs p
 sides k c xs p o q =
     subst (λ (l : Content). Sides k c l p) (ap (λ (l : List Record). items l) (sym (q .parts)) ∙ items-of xs)
-    (sides-by k c (p .at) (p .into) (p .left) (q .before) (q .after) (subst (λ (l : List Record). Of c l) (q .parts) o) (q .offset)
+    (sides-by k c (p .at) (p .into) (p .left) (q .before) (q .after)
+    (subst (λ (l : List Record). Of c l) (q .parts) o) (q .offset)
     (q .inside))
 
 -- lengths: cut records are as long as they were
-cut-size : (b : Bool) (ys : Content) (rs : List Record) → Kept b rs → length (spell (cut-records ys rs)) ≡ length (spell rs)
+cut-size : (b : Bool) (ys : Content) (rs : List Record) → Kept b rs
+    → length (spell (cut-records ys rs)) ≡ length (spell rs)
 unfolding spell gather
 cut-size b ys [] k = refl
 cut-size b ys (inline x ∷ rs) (kept-item g k) =
@@ -385,7 +406,9 @@ module _ (k : ℕ) (c : List ℕ) (xs : Content) (p : Place) (s : Sides k c xs p
 
   pub rest-size : (i : Inner k c xs p (s .before) (s .after))
       → length (spell (cut-records (items (s .before)) (i .others))) ≡ length c - (p .at + (4 + i .size))
-  rest-size i = of-size (drop (p .at + (4 + i .size)) c) (items (s .before)) (i .others) (i .rest) ∙ length-drop (p .at + (4 + i .size)) c
+  rest-size i =
+      of-size (drop (p .at + (4 + i .size)) c) (items (s .before)) (i .others) (i .rest)
+      ∙ length-drop (p .at + (4 + i .size)) c
 
   pub first-size-0 : p .into ≡ 0 → length (content-bytes (first-items k xs)) ≡ p .at
   first-size-0 z = ap length (s .first z) ∙ front-size
@@ -418,6 +441,7 @@ module _ (k : ℕ) (c : List ℕ) (xs : Content) (p : Place) (s : Sides k c xs p
       ap length (i .second)
       ∙ length-append (textPiece (take (i .size - p .into) (drop (p .at + 4 + p .into) c)))
       (spell (cut-records (items (s .before)) (i .others)))
-      ∙ ap₂ _+_ (piece-size (take (i .size - p .into) (drop (p .at + 4 + p .into) c)) ∙ ap (λ (n : ℕ). 4 + n) t) (rest-size i)
+      ∙ ap₂ _+_ (piece-size (take (i .size - p .into) (drop (p .at + 4 + p .into) c)) ∙ ap (λ (n : ℕ). 4 + n) t)
+      (rest-size i)
       ∙ (let z : 4 + (i .size - p .into) + (length c - (p .at + (4 + i .size))) ≡ length c - p .at - p .into =
       omega (arith, i .fit, i .less) in z)

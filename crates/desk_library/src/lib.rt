@@ -52,8 +52,8 @@ pub extern "C" fn xliff_desk_split(
     number: &mut u8,
     value: &mut usize,
 ) -> bool
-    ensures { λ r. ⌜ Tells (split (now (table .entry)) part «source_cut» «target_cut» «new_id» (length (now (out .entry)))) r (now (number .exit))
-        (now (value .exit)) (now (out .entry)) (now (out .exit)) ⌝ }
+    ensures { λ r. ⌜ Tells (split (now (table .entry)) part «source_cut» «target_cut» «new_id» (length (now (out
+        .entry)))) r (now (number .exit)) (now (value .exit)) (now (out .entry)) (now (out .exit)) ⌝ }
 {
     let a = split::split(table, part, source_cut, target_cut, new_id, out);
     tell(a, number, value)
@@ -67,8 +67,8 @@ pub extern "C" fn xliff_desk_join(
     number: &mut u8,
     value: &mut usize,
 ) -> bool
-    ensures { λ r. ⌜ Tells (join (now (table .entry)) part (length (now (out .entry)))) r (now (number .exit)) (now (value .exit)) (now (out .entry))
-        (now (out .exit)) ⌝ }
+    ensures { λ r. ⌜ Tells (join (now (table .entry)) part (length (now (out .entry)))) r (now (number .exit)) (now
+        (value .exit)) (now (out .entry)) (now (out .exit)) ⌝ }
 {
     let a = join::join(table, part, out);
     tell(a, number, value)
@@ -84,8 +84,8 @@ pub extern "C" fn xliff_desk_set_target(
     number: &mut u8,
     value: &mut usize,
 ) -> bool
-    ensures { λ r. ⌜ Tells (set-target (now (table .entry)) part state (now (content .entry)) (length (now (out .entry)))) r (now (number .exit))
-        (now (value .exit)) (now (out .entry)) (now (out .exit)) ⌝ }
+    ensures { λ r. ⌜ Tells (set-target (now (table .entry)) part state (now (content .entry)) (length (now (out
+        .entry)))) r (now (number .exit)) (now (value .exit)) (now (out .entry)) (now (out .exit)) ⌝ }
 {
     let a = set_target::set_target(table, part, state, content, out);
     tell(a, number, value)
@@ -99,8 +99,8 @@ pub extern "C" fn xliff_desk_remove_target(
     number: &mut u8,
     value: &mut usize,
 ) -> bool
-    ensures { λ r. ⌜ Tells (remove-target (now (table .entry)) part (length (now (out .entry)))) r (now (number .exit)) (now (value .exit))
-        (now (out .entry)) (now (out .exit)) ⌝ }
+    ensures { λ r. ⌜ Tells (remove-target (now (table .entry)) part (length (now (out .entry)))) r (now (number
+        .exit)) (now (value .exit)) (now (out .entry)) (now (out .exit)) ⌝ }
 {
     let a = remove_target::remove_target(table, part, out);
     tell(a, number, value)
@@ -116,8 +116,8 @@ pub extern "C" fn xliff_desk_rewrite(
     number: &mut u8,
     value: &mut usize,
 ) -> bool
-    ensures { λ r. ⌜ Tells (rewrite (now (table .entry)) side id form (length (now (out .entry)))) r (now (number .exit)) (now (value .exit))
-        (now (out .entry)) (now (out .exit)) ⌝ }
+    ensures { λ r. ⌜ Tells (rewrite (now (table .entry)) side id form (length (now (out .entry)))) r (now (number
+        .exit)) (now (value .exit)) (now (out .entry)) (now (out .exit)) ⌝ }
 {
     let a = rewrite::rewrite(table, side, id, form, out);
     tell(a, number, value)
@@ -131,8 +131,8 @@ pub extern "C" fn xliff_desk_read_xml(
     number: &mut u8,
     value: &mut usize,
 ) -> bool
-    ensures { λ r. ⌜ Tells (read-xml (now (xml .entry)) (length (now (out .entry)))) r (now (number .exit)) (now (value .exit)) (now (out .entry))
-        (now (out .exit)) ⌝ }
+    ensures { λ r. ⌜ Tells (read-xml (now (xml .entry)) (length (now (out .entry)))) r (now (number .exit)) (now
+        (value .exit)) (now (out .entry)) (now (out .exit)) ⌝ }
 {
     let a = read_xml::read_xml(xml, out);
     tell(a, number, value)
@@ -146,8 +146,8 @@ pub extern "C" fn xliff_desk_write_xml(
     number: &mut u8,
     value: &mut usize,
 ) -> bool
-    ensures { λ r. ⌜ Tells (write-xml (now (table .entry)) (length (now (out .entry)))) r (now (number .exit)) (now (value .exit)) (now (out .entry))
-        (now (out .exit)) ⌝ }
+    ensures { λ r. ⌜ Tells (write-xml (now (table .entry)) (length (now (out .entry)))) r (now (number .exit)) (now
+        (value .exit)) (now (out .entry)) (now (out .exit)) ⌝ }
 {
     let a = write_xml::write_xml(table, out);
     tell(a, number, value)
@@ -161,8 +161,8 @@ pub extern "C" fn xliff_desk_sheet(
     number: &mut u8,
     value: &mut usize,
 ) -> bool
-    ensures { λ r. ⌜ Tells (sheet (now (table .entry)) (length (now (out .entry)))) r (now (number .exit)) (now (value .exit)) (now (out .entry))
-        (now (out .exit)) ⌝ }
+    ensures { λ r. ⌜ Tells (sheet (now (table .entry)) (length (now (out .entry)))) r (now (number .exit)) (now (value
+        .exit)) (now (out .entry)) (now (out .exit)) ⌝ }
 {
     let a = review_sheet::sheet(table, out);
     tell(a, number, value)
@@ -171,7 +171,8 @@ pub extern "C" fn xliff_desk_sheet(
 // What the desk program prints for a job, at the head of `out`; its length.
 #[no_mangle]
 pub extern "C" fn xliff_desk_job(job: &[u8], out: &mut [u8; 1048576]) -> usize
-    ensures { λ r. ⌜ (r ≡ length (desk (now (job .entry)))) × (now (out .exit) ≡ lead (desk (now (job .entry))) (now (out .entry))) ⌝ }
+    ensures { λ r. ⌜ (r ≡ length (desk (now (job .entry)))) × (now (out .exit) ≡ lead (desk (now (job .entry))) (now
+        (out .entry))) ⌝ }
     ensures meets { λ r. ⌜ Meets (now (job .entry)) ⌝ }
 {
     both_ends::run(job, out)

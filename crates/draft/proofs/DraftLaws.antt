@@ -47,7 +47,8 @@ begun m o =
     }
 
 -- A text that is only measured: the output stays, and it is told whether it is too short
-module _ (text out : List ℕ) (b : Draft) (s : b ≡ started true) (out₁ : List ℕ) (m : Draft) (w : Wrote text out b out₁ m) where
+module _ (text out : List ℕ) (b : Draft) (s : b ≡ started true) (out₁ : List ℕ) (m : Draft)
+    (w : Wrote text out b out₁ m) where
   measured : Drafted true out out₁ m text
   measured = w .on true out [] (subst (λ (x : Draft). Drafted true out out x []) (sym s) (begun true out))
 
@@ -58,7 +59,8 @@ module _ (text out : List ℕ) (b : Draft) (s : b ≡ started true) (out₁ : Li
   measured-tells = measured .told
 
   -- where it is not, the text written behind it stands at the head of the output
-  module _ (f : m .full ≡ false) (c : Draft) (r : c ≡ started false) (out₂ : List ℕ) (k : Draft) (x : Wrote text out₁ c out₂ k) where
+  module _ (f : m .full ≡ false) (c : Draft) (r : c ≡ started false) (out₂ : List ℕ) (k : Draft)
+      (x : Wrote text out₁ c out₂ k) where
     drafted : Drafted false out₁ out₂ k text
     drafted = x .on false out₁ [] (subst (λ (y : Draft). Drafted false out₁ out₁ y []) (sym r) (begun false out₁))
 

@@ -37,7 +37,8 @@ focus-beyond (p ∷ q ∷ ps) (suc zero) h = absurd (omega arith)
 focus-beyond (p ∷ ps) (suc (suc n)) h = ap (behind p) (focus-beyond ps (suc n) (omega arith))
 
 -- bytes from an offset on
-pub slice-at : (t : List ℕ) (from to : ℕ) (x y : List ℕ) → drop from t ≡ x ++ y → from ≤ length t → to ≡ from + length x → Slice t from to x
+pub slice-at : (t : List ℕ) (from to : ℕ) (x y : List ℕ) → drop from t ≡ x ++ y → from ≤ length t
+    → to ≡ from + length x → Slice t from to x
 slice-at t from to x y d l e =
     let k : length (x ++ y) ≡ length t - from = ap length (sym d) ∙ length-drop from t in
     let z : to - from ≡ length x = omega (arith, e) in
@@ -48,14 +49,16 @@ slice-at t from to x y d l e =
     }
 
 drop-past : (t : List ℕ) (from to : ℕ) (x y : List ℕ) → drop from t ≡ x ++ y → to ≡ from + length x → drop to t ≡ y
-drop-past t from to x y d e = ap (λ (n : ℕ). drop n t) e ∙ sym (drop-drop (length x) from t) ∙ ap (drop (length x)) d ∙ drop-append-seam x y
+drop-past t from to x y d e =
+    ap (λ (n : ℕ). drop n t) e ∙ sym (drop-drop (length x) from t) ∙ ap (drop (length x)) d ∙ drop-append-seam x y
 
 begins-parts : (ps : List Part) → PartOrEnd (gather part-records ps ++ (closing ∷ []))
 unfolding gather part-records
 begins-parts [] = end-next
 begins-parts (p ∷ ps) = part-next
 
-span-end : (at : ℕ) (p : Part) (place : PartPlace) → PartSpan at p place → place .end ≡ at + length (spell (part-records p))
+span-end : (at : ℕ) (p : Part) (place : PartPlace) → PartSpan at p place
+    → place .end ≡ at + length (spell (part-records p))
 unfolding part-records spell gather record-bytes content-bytes
 span-end at p place s =
     omega (
@@ -75,44 +78,54 @@ table-is : (t : List ℕ) → Passes t → (b : List Part) (p : Part) (a : List 
 unfolding unit-records spell gather
 table-is t h b p a e =
     sym (h .bytes)
-    ∙ ap (λ (ps : List Part). record-bytes (opening (unit t .opening)) ++ spell (gather part-records ps ++ (closing ∷ []))) e
+    ∙ ap (λ (ps : List Part). record-bytes (opening (unit t .opening)) ++ spell
+    (gather part-records ps ++ (closing ∷ []))) e
     ∙ ap (λ (rs : List Record). record-bytes (opening (unit t .opening)) ++ spell rs)
     (ap (λ (rs : List Record). rs ++ (closing ∷ [])) (gather-append part-records b (p ∷ a))
     ∙ append-assoc (gather part-records b) (part-records p ++ gather part-records a) (closing ∷ [])
-    ∙ ap (λ (rs : List Record). gather part-records b ++ rs) (append-assoc (part-records p) (gather part-records a) (closing ∷ [])))
+    ∙ ap (λ (rs : List Record). gather part-records b ++ rs)
+    (append-assoc (part-records p) (gather part-records a) (closing ∷ [])))
     ∙ ap (λ (s : List ℕ). record-bytes (opening (unit t .opening)) ++ s)
     (spell-append (gather part-records b) (part-records p ++ (gather part-records a ++ (closing ∷ []))))
     ∙ sym (append-assoc (record-bytes (opening (unit t .opening))) (spell (gather part-records b))
     (spell (part-records p ++ (gather part-records a ++ (closing ∷ [])))))
 
 -- the bytes of a part, piece by piece
-rest-is : (a : List Part) → spell (gather part-records a ++ (closing ∷ [])) ≡ spell (gather part-records a) ++ record-bytes closing
+rest-is : (a : List Part)
+    → spell (gather part-records a ++ (closing ∷ [])) ≡ spell (gather part-records a) ++ record-bytes closing
 unfolding spell gather record-bytes
 rest-is a = spell-append (gather part-records a) (closing ∷ [])
 
-part-is : (p : Part) → spell (part-records p) ≡ head-bytes (p .head) ++ (content-bytes (p .source) ++ spell (target-records (p .target)))
+part-is : (p : Part)
+    → spell (part-records p) ≡ head-bytes (p .head) ++ (content-bytes (p .source) ++ spell (target-records (p .target)))
 unfolding part-records spell gather record-bytes content-bytes
-part-is p = ap (λ (s : List ℕ). head-bytes (p .head) ++ s) (spell-append (content-records (p .source)) (target-records (p .target)))
+part-is p =
+    ap (λ (s : List ℕ). head-bytes (p .head) ++ s)
+    (spell-append (content-records (p .source)) (target-records (p .target)))
 
-target-stands : (t : List ℕ) (g : Target) (place : PartPlace) (rest : List ℕ) → TargetSpan (place .target) g place → place .target ≤ length t
+target-stands : (t : List ℕ) (g : Target) (place : PartPlace) (rest : List ℕ) → TargetSpan (place .target) g place
+    → place .target ≤ length t
     → drop (place .target) t ≡ spell (target-records g) ++ rest → TargetStands t place g
 unfolding target-records spell gather has-target record-bytes content-bytes two
 target-stands t no-target place rest s l d = (s .has, s .order, omega (arith, s .ends))
 target-stands t (target q xs) place rest s l d =
     let e : drop (place .target) t ≡ record-bytes (target-head q) ++ (spell (content-records xs) ++ rest)
     = d ∙ append-assoc (record-bytes (target-head q)) (spell (content-records xs)) rest in
-    let u = slice-at t (place .target) (place .target + 4) (record-bytes (target-head q)) (spell (content-records xs) ++ rest) e l refl in (
+    let u = slice-at t (place .target) (place .target + 4) (record-bytes (target-head q))
+    (spell (content-records xs) ++ rest) e l refl in (
       s .has,
       s .order,
       u,
       slice-at t (place .target + 4) (place .end) (spell (content-records xs)) rest
-          (drop-past t (place .target) (place .target + 4) (record-bytes (target-head q)) (spell (content-records xs) ++ rest) e refl) (u .within)
+          (drop-past t (place .target) (place .target + 4) (record-bytes (target-head q))
+          (spell (content-records xs) ++ rest) e refl) (u .within)
           (omega (arith, s .ends)),
     )
 
 module _ (t : List ℕ) (h : Passes t) (b : List Part) (p : Part) (a : List Part) (place : PartPlace)
     (all : unit t .parts ≡ b ++ (p ∷ a)) (offset : place .head ≡ 3 + length (spell (gather part-records b)))
-    (there : At t (place .head) (part-records p ++ (gather part-records a ++ (closing ∷ [])))) (span : PartSpan (place .head) p place) where
+    (there : At t (place .head) (part-records p ++ (gather part-records a ++ (closing ∷ []))))
+    (span : PartSpan (place .head) p place) where
   abbrev Last : List ℕ
   Last = spell (gather part-records a) ++ record-bytes closing
 
@@ -120,20 +133,25 @@ module _ (t : List ℕ) (h : Passes t) (b : List Part) (p : Part) (a : List Part
   from-head = sym (there .rest) ∙ spell-append (part-records p) (gather part-records a ++ (closing ∷ []))
       ∙ ap (λ (s : List ℕ). spell (part-records p) ++ s) (rest-is a)
 
-  from-pieces : drop (place .head) t ≡ head-bytes (p .head) ++ (content-bytes (p .source) ++ (spell (target-records (p .target)) ++ Last))
+  from-pieces : drop (place .head) t ≡ head-bytes (p .head)
+      ++ (content-bytes (p .source) ++ (spell (target-records (p .target)) ++ Last))
   from-pieces =
       from-head ∙ ap (λ (s : List ℕ). s ++ Last) (part-is p)
       ∙ append-assoc (head-bytes (p .head)) (content-bytes (p .source) ++ spell (target-records (p .target))) Last
-      ∙ ap (λ (s : List ℕ). head-bytes (p .head) ++ s) (append-assoc (content-bytes (p .source)) (spell (target-records (p .target))) Last)
+      ∙ ap (λ (s : List ℕ). head-bytes (p .head) ++ s)
+      (append-assoc (content-bytes (p .source)) (spell (target-records (p .target))) Last)
 
   head-slice : Slice t (place .head) (place .source) (head-bytes (p .head))
-  head-slice = slice-at t (place .head) (place .source) (head-bytes (p .head)) _ from-pieces (there .within) (span .source)
+  head-slice =
+      slice-at t (place .head) (place .source) (head-bytes (p .head)) _ from-pieces (there .within) (span .source)
 
   from-source : drop (place .source) t ≡ content-bytes (p .source) ++ (spell (target-records (p .target)) ++ Last)
   from-source = drop-past t (place .head) (place .source) (head-bytes (p .head)) _ from-pieces (span .source)
 
   source-slice : Slice t (place .source) (place .target) (content-bytes (p .source))
-  source-slice = slice-at t (place .source) (place .target) (content-bytes (p .source)) _ from-source (head-slice .within) (span .target)
+  source-slice =
+      slice-at t (place .source) (place .target) (content-bytes (p .source)) _ from-source (head-slice .within)
+      (span .target)
 
   from-target : drop (place .target) t ≡ spell (target-records (p .target)) ++ Last
   from-target = drop-past t (place .source) (place .target) (content-bytes (p .source)) _ from-source (span .target)
@@ -143,7 +161,8 @@ module _ (t : List ℕ) (h : Passes t) (b : List Part) (p : Part) (a : List Part
   front =
       let x = record-bytes (opening (unit t .opening)) ++ spell (gather part-records b) in
       ap (take (place .head)) (table-is t h b p a all)
-      ∙ take-at x (spell (part-records p ++ (gather part-records a ++ (closing ∷ [])))) (place .head) (omega (arith, offset))
+      ∙ take-at x (spell (part-records p ++ (gather part-records a ++ (closing ∷ [])))) (place .head)
+      (omega (arith, offset))
 
   pub stands : PartStands t b p a place
   stands =
@@ -155,8 +174,10 @@ module _ (t : List ℕ) (h : Passes t) (b : List Part) (p : Part) (a : List Part
         source = source-slice;
         target = target-stands t (p .target) place Last (span .rest) (source-slice .within) from-target;
         kind = span .kind;
-        whole = slice-at t (place .head) (place .end) (spell (part-records p)) Last from-head (there .within) (span-end (place .head) p place span);
-        behind = drop-past t (place .head) (place .end) (spell (part-records p)) Last from-head (span-end (place .head) p place span);
+        whole = slice-at t (place .head) (place .end) (spell (part-records p)) Last from-head (there .within)
+            (span-end (place .head) p place span);
+        behind = drop-past t (place .head) (place .end) (spell (part-records p)) Last from-head
+            (span-end (place .head) p place span);
         records = there;
       }
 
@@ -191,7 +212,8 @@ module _ (t : List ℕ) (h : Passes t) (at : ℕ) (behind ahead : List Part) (s 
       absurd (true≢false
       (sym (ap is-part
       (at-next t at (part-head (p .head))
-      (content-records (p .source) ++ target-records (p .target) ++ gather part-records ps ++ (closing ∷ [])) a .reads)) ∙ e))
+      (content-records (p .source) ++ target-records (p .target) ++ gather part-records ps ++ (closing ∷ [])) a
+      .reads)) ∙ e))
 
   -- no part is ahead: these were all
   pub walked-all : is-part (read (drop at t)) ≡ false → unit t .parts ≡ behind
@@ -225,7 +247,8 @@ module _ (t : List ℕ) (h : Passes t) (at : ℕ) (behind ahead : List Part) (s 
       walked-on =
           let p = next-part .0 in
           let q = span-end at p place span in
-          let g : spell (gather part-records (behind ++ (p ∷ []))) ≡ spell (gather part-records behind) ++ spell (part-records p) =
+          let g : spell (gather part-records (behind ++ (p ∷ []))) ≡ spell (gather part-records behind)
+          ++ spell (part-records p) =
           ap spell (gather-append part-records behind (p ∷ [])
           ∙ ap (λ (rs : List Record). gather part-records behind ++ rs) (append-nil (part-records p)))
           ∙ spell-append (gather part-records behind) (part-records p) in

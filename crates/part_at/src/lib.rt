@@ -95,7 +95,8 @@ pub struct PartPlace {
 // The part with these offsets, its target or the next part at `target`.
 fn target_place(t: &[u8], head: usize, source: usize, target: usize, segment: bool) -> PartPlace
     requires { ⌜ TargetAt (now t) target ⌝ }
-    ensures { λ r. ⌜ (r .head ≡ head) × (r .source ≡ source) × (r .target ≡ target) × (r .segment ≡ segment) × TargetSpans (now (t .entry)) target r ⌝ }
+    ensures { λ r. ⌜ (r .head ≡ head) × (r .source ≡ source) × (r .target ≡ target) × (r .segment ≡ segment) ×
+        TargetSpans (now (t .entry)) target r ⌝ }
 {
     let r = walker::known_at(t, target);
     let w = syntax::width_of(r);

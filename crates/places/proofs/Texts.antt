@@ -27,5 +27,6 @@ module _ (t : List ℕ) (at w : ℕ) (cs : List ℕ) (rs : List Record) (a : At 
 
   pub text-there : take (at + w - (at + 4)) (drop (at + 4) t) ≡ utf8s cs
   text-there =
-      ap (λ (n : ℕ). take n (drop (at + 4) t)) (let k = wide in let z : at + w - (at + 4) ≡ length (utf8s cs) = omega arith in z)
+      ap (λ (n : ℕ). take n (drop (at + 4) t))
+      (let k = wide in let z : at + w - (at + 4) ≡ length (utf8s cs) = omega arith in z)
       ∙ ap (take (length (utf8s cs))) text-behind ∙ take-append-seam (utf8s cs) (spell rs)

@@ -31,11 +31,13 @@ unfolding fits
 fits-not left x e = leb-false _ _ e
 
 -- one step of the filling
-pub fill-fitting : (left : ℕ) (x : Item) (xs : Content) → fits left x ≡ true → fill left (x ∷ xs) ≡ in-row x (fill (left - length (shown x)) xs)
+pub fill-fitting : (left : ℕ) (x : Item) (xs : Content) → fits left x ≡ true
+    → fill left (x ∷ xs) ≡ in-row x (fill (left - length (shown x)) xs)
 unfolding fill
 fill-fitting left x xs e = rw (e, behind-fitting left x e) refl
 
-pub fill-next : (left : ℕ) (x : Item) (xs : Content) → fits left x ≡ false → fill left (x ∷ xs) ≡ in-next-row x (fill (column-cells - length (shown x)) xs)
+pub fill-next : (left : ℕ) (x : Item) (xs : Content) → fits left x ≡ false
+    → fill left (x ∷ xs) ≡ in-next-row x (fill (column-cells - length (shown x)) xs)
 unfolding fill
 fill-next left x xs e = rw (e, behind-next left x e) refl
 
@@ -59,7 +61,8 @@ pub shown-cons : (x : Item) (xs : Content) → length (shown-all (x ∷ xs)) ≡
 unfolding shown-all gather
 shown-cons x xs = length-append (shown x) (shown-all xs)
 
-full-in : (left : ℕ) (x : Item) (ys : Content) (later : List Content) → length (shown x) ≤ left → FullFrom (left - length (shown x)) ys later → FullFrom left (x ∷ ys) later
+full-in : (left : ℕ) (x : Item) (ys : Content) (later : List Content) → length (shown x) ≤ left
+    → FullFrom (left - length (shown x)) ys later → FullFrom left (x ∷ ys) later
 full-in left x ys [] h f = tt
 full-in left x ys ([] ∷ r) h f = f
 full-in left x ys ((z ∷ zs) ∷ r) h (a, b) = (omega (arith, shown-cons x ys), b)
@@ -69,7 +72,8 @@ full-is ys [] f = tt
 full-is ys ([] ∷ r) f = f
 full-is ys ((z ∷ zs) ∷ r) f = f
 
-laid-in : (left : ℕ) (x : Item) (xs : Content) (f : Filled) → length (shown x) ≤ left → LaidOf (left - length (shown x)) xs f → LaidOf left (x ∷ xs) (in-row x f)
+laid-in : (left : ℕ) (x : Item) (xs : Content) (f : Filled) → length (shown x) ≤ left
+    → LaidOf (left - length (shown x)) xs f → LaidOf left (x ∷ xs) (in-row x f)
 unfolding in-row shown-all gather
 laid-in left x xs f h l =
     record {
@@ -83,7 +87,8 @@ laid-in left x xs f h l =
       full = full-in left x (l .row) (l .later) h (l .full);
     }
 
-laid-next : (left : ℕ) (x : Item) (xs : Content) (f : Filled) → left < length (shown x) → LaidOf (column-cells - length (shown x)) xs f → LaidOf left (x ∷ xs) (in-next-row x f)
+laid-next : (left : ℕ) (x : Item) (xs : Content) (f : Filled) → left < length (shown x)
+    → LaidOf (column-cells - length (shown x)) xs f → LaidOf left (x ∷ xs) (in-next-row x f)
 unfolding in-next-row shown-all gather
 laid-next left x xs f h l =
     record {
@@ -93,14 +98,28 @@ laid-next left x xs f h l =
       shows-row = refl;
       shows-later = ap₂ _∷_ (ap (λ (s : List ℕ). shown x ++ s) (l .shows-row)) (l .shows-later);
       row-within = omega arith;
-      within = each-cons {x = x ∷ l .row} (omega (arith, shown-cons x (l .row), l .row-within, shown-within x)) (l .within);
-      full = (omega arith, full-is (x ∷ l .row) (l .later) (full-in column-cells x (l .row) (l .later) (shown-within x) (l .full)));
+      within = each-cons {x = x ∷ l .row} (omega (arith, shown-cons x (l .row), l .row-within, shown-within x))
+          (l .within);
+      full = (
+        omega arith,
+        full-is (x ∷ l .row) (l .later)
+            (full-in column-cells x (l .row) (l .later) (shown-within x) (l .full)),
+      );
     }
 
 pub laid : (left : ℕ) (xs : Content) → LaidOf left xs (fill left xs)
 unfolding fill shown-all gather
 laid left [] =
-    record { row = []; later = []; in-order = refl; shows-row = refl; shows-later = refl; row-within = omega arith; within = each-nil; full = tt }
+    record {
+      row = [];
+      later = [];
+      in-order = refl;
+      shows-row = refl;
+      shows-later = refl;
+      row-within = omega arith;
+      within = each-nil;
+      full = tt;
+    }
 laid left (x ∷ xs) = by (fits left x) refl (λ k. laid k xs)
   where
     by : (b : Bool) → fits left x ≡ b → ((k : ℕ) → LaidOf k xs (fill k xs)) → LaidOf left (x ∷ xs) (fill left (x ∷ xs))
@@ -109,7 +128,8 @@ laid left (x ∷ xs) = by (fits left x) refl (λ k. laid k xs)
         (laid-in left x xs (fill (left - length (shown x)) xs) (fits-room left x e) (ih (left - length (shown x))))
     by false e ih =
         subst (LaidOf left (x ∷ xs)) (sym (fill-next left x xs e))
-        (laid-next left x xs (fill (column-cells - length (shown x)) xs) (fits-not left x e) (ih (column-cells - length (shown x))))
+        (laid-next left x xs (fill (column-cells - length (shown x)) xs) (fits-not left x e)
+        (ih (column-cells - length (shown x))))
 
 -- the cells read down
 abbrev pub rows-down : List (List ℕ) → List ℕ
@@ -124,7 +144,8 @@ fill-down left (x ∷ xs) = by (fits left x) (fill-down (left-behind left x) xs)
     f = fill (left-behind left x) xs
 
     by : (b : Bool) → f .row ++ rows-down (f .later) ≡ shown-all xs
-        → cond b (in-row x f) (in-next-row x f) .row ++ rows-down (cond b (in-row x f) (in-next-row x f) .later) ≡ shown x ++ shown-all xs
+        → cond b (in-row x f) (in-next-row x f) .row
+        ++ rows-down (cond b (in-row x f) (in-next-row x f) .later) ≡ shown x ++ shown-all xs
     by true h = append-assoc (shown x) (f .row) (rows-down (f .later)) ∙ ap (λ (s : List ℕ). shown x ++ s) h
     by false h = append-assoc (shown x) (f .row) (rows-down (f .later)) ∙ ap (λ (s : List ℕ). shown x ++ s) h
 

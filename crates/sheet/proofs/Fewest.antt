@@ -1,4 +1,5 @@
--- No other way to put the items into rows, in order and each whole, takes fewer rows than the column. With that, all that is claimed of a column.
+-- No other way to put the items into rows, in order and each whole, takes fewer rows than the column. With that,
+-- all that is claimed of a column.
 use Prim.Native.Nat.{ℕ, suc, _-_, _≤_}
 use native.Mathlib.Omega.{arith}
 use mathlib.Core.Path.{_≡_, refl, ap₂, subst}
@@ -17,11 +18,13 @@ use Rattle.sheet.proofs.Columns.{fits-room, fits-not, fill-fitting, fil
 abbrev more : ℕ → Content → ℕ
 more left xs = length (fill left xs .later)
 
-more-fitting : (left : ℕ) (x : Item) (xs : Content) → fits left x ≡ true → more left (x ∷ xs) ≡ more (left - length (shown x)) xs
+more-fitting : (left : ℕ) (x : Item) (xs : Content) → fits left x ≡ true
+    → more left (x ∷ xs) ≡ more (left - length (shown x)) xs
 unfolding in-row
 more-fitting left x xs e = rw (fill-fitting left x xs e) refl
 
-more-next : (left : ℕ) (x : Item) (xs : Content) → fits left x ≡ false → more left (x ∷ xs) ≡ suc (more (column-cells - length (shown x)) xs)
+more-next : (left : ℕ) (x : Item) (xs : Content) → fits left x ≡ false
+    → more left (x ∷ xs) ≡ suc (more (column-cells - length (shown x)) xs)
 unfolding in-next-row
 more-next left x xs e = rw (fill-next left x xs e) refl
 
@@ -38,9 +41,11 @@ unfolding fill
 steady less left [] h k = (omega arith, omega arith)
 steady less left (x ∷ xs) h k = by (fits less x) refl (fits left x) refl (λ a b p q. steady a b xs p q)
   where
-    by : (b : Bool) → fits less x ≡ b → (c : Bool) → fits left x ≡ c → ((a b : ℕ) → a ≤ b → b ≤ column-cells → Steady a b xs) → Steady less left (x ∷ xs)
+    by : (b : Bool) → fits less x ≡ b → (c : Bool) → fits left x ≡ c
+        → ((a b : ℕ) → a ≤ b → b ≤ column-cells → Steady a b xs) → Steady less left (x ∷ xs)
     by true e true f ih =
-        let r = ih (less - length (shown x)) (left - length (shown x)) (omega (arith, fits-room less x e)) (omega arith) in
+        let r = ih (less - length (shown x)) (left - length (shown x)) (omega (arith, fits-room less x e))
+        (omega arith) in
         let a = more-fitting less x xs e in
         let b = more-fitting left x xs f in
         (omega arith, omega arith)
@@ -50,7 +55,8 @@ steady less left (x ∷ xs) h k = by (fits less x) refl (fits left x) refl (λ a
         let z : ⊥ = omega arith in
         absurd z
     by false e true f ih =
-        let r = ih (left - length (shown x)) (column-cells - length (shown x)) (omega (arith, fits-room left x f)) (omega arith) in
+        let r = ih (left - length (shown x)) (column-cells - length (shown x)) (omega (arith, fits-room left x f))
+        (omega arith) in
         let a = more-next less x xs e in
         let b = more-fitting left x xs f in
         (omega arith, omega arith)
@@ -60,9 +66,11 @@ steady less left (x ∷ xs) h k = by (fits less x) refl (fits left x) refl (λ a
         (omega arith, omega arith)
 
 -- items that have room in the row begun bring no row more
-in-room : (zs rest : Content) (n left : ℕ) → ((k : ℕ) → k ≤ column-cells → more k rest ≤ n) → left ≤ column-cells → length (shown-all zs) ≤ left → more left (zs ++ rest) ≤ n
+in-room : (zs rest : Content) (n left : ℕ) → ((k : ℕ) → k ≤ column-cells → more k rest ≤ n) → left ≤ column-cells
+    → length (shown-all zs) ≤ left → more left (zs ++ rest) ≤ n
 in-room [] rest n left h k l = h left k
-in-room (z ∷ zs) rest n left h k l = goes-in (in-room zs rest n (left - length (shown z)) h (omega arith) (omega (arith, shown-cons z zs)))
+in-room (z ∷ zs) rest n left h k l =
+    goes-in (in-room zs rest n (left - length (shown z)) h (omega arith) (omega (arith, shown-cons z zs)))
   where
     fitting : fits left z ≡ true
     fitting = fits-long left z (omega (arith, shown-cons z zs))
@@ -78,7 +86,8 @@ at-most (zs ∷ zss) (each-cons p r) k h =
     let b = steady k column-cells (zs ++ joined zss) h (omega arith) in
     omega arith
 
-pub fewest : (xs zs : Content) (zss : List Content) → zs ++ joined zss ≡ xs → Within (zs ∷ zss) → length (column xs) ≤ length (zs ∷ zss)
+pub fewest : (xs zs : Content) (zss : List Content) → zs ++ joined zss ≡ xs → Within (zs ∷ zss)
+    → length (column xs) ≤ length (zs ∷ zss)
 unfolding column
 fewest xs zs zss e (each-cons p r) =
     let a = in-room zs (joined zss) (length zss) column-cells (at-most zss r) (omega arith) p in

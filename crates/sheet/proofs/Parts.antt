@@ -51,7 +51,8 @@ later-targets (s ∷ ss) [] = let (k, e) = later-targets ss [] in (suc k, ap {B 
 later-targets (s ∷ ss) (t ∷ ts) = with-cons t (map target-of (later-rows ss ts)) ts (later-targets ss ts)
 
 -- a column that later rows leave blank
-blank-later : (f : Row → List ℕ) → ((s t : List ℕ) → f (later-row s t) ≡ []) → (ss ts : List (List ℕ)) → map f (later-rows ss ts) ≡ replicate (length (later-rows ss ts)) []
+blank-later : (f : Row → List ℕ) → ((s t : List ℕ) → f (later-row s t) ≡ []) → (ss ts : List (List ℕ))
+    → map f (later-rows ss ts) ≡ replicate (length (later-rows ss ts)) []
 unfolding later-rows
 blank-later f h [] [] = refl
 blank-later f h [] (t ∷ ts) = ap₂ _∷_ (h [] t) (blank-later f h [] ts)
@@ -63,8 +64,10 @@ unfolding part-rows column later-row
 part-of n p =
     let s = fill column-cells (p .source) in
     let t = fill column-cells (target-items (p .target)) in
-    let (k, e) = with-cons (s .row) (map source-of (later-rows (s .later) (t .later))) (s .later) (later-sources (s .later) (t .later)) in
-    let (m, g) = with-cons (t .row) (map target-of (later-rows (s .later) (t .later))) (t .later) (later-targets (s .later) (t .later)) in
+    let (k, e) = with-cons (s .row) (map source-of (later-rows (s .later) (t .later))) (s .later)
+    (later-sources (s .later) (t .later)) in
+    let (m, g) = with-cons (t .row) (map target-of (later-rows (s .later) (t .later))) (t .later)
+    (later-targets (s .later) (t .later)) in
     record {
       count = omega (arith, later-count (s .later) (t .later));
       source-blank = k;
@@ -72,9 +75,12 @@ part-of n p =
       target-blank = m;
       target = g;
       later = length (later-rows (s .later) (t .later));
-      positions = ap {B = List (List ℕ)} (λ l. decimal n ∷ l) (blank-later (λ (r : Row). r .position) (λ a b. refl) (s .later) (t .later));
-      ids = ap {B = List (List ℕ)} (λ l. id-cells (head-id (p .head)) ∷ l) (blank-later (λ (r : Row). r .id) (λ a b. refl) (s .later) (t .later));
-      states = ap {B = List (List ℕ)} (λ l. state-cells (p .head) ∷ l) (blank-later (λ (r : Row). r .state) (λ a b. refl) (s .later) (t .later));
+      positions = ap {B = List (List ℕ)} (λ l. decimal n ∷ l)
+          (blank-later (λ (r : Row). r .position) (λ a b. refl) (s .later) (t .later));
+      ids = ap {B = List (List ℕ)} (λ l. id-cells (head-id (p .head)) ∷ l)
+          (blank-later (λ (r : Row). r .id) (λ a b. refl) (s .later) (t .later));
+      states = ap {B = List (List ℕ)} (λ l. state-cells (p .head) ∷ l)
+          (blank-later (λ (r : Row). r .state) (λ a b. refl) (s .later) (t .later));
     }
 
 pub order-5-parts : Order-5-parts

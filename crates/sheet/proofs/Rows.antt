@@ -33,7 +33,8 @@ pub record Cells (n : ℕ) (s : List ℕ) : Type 0 where
 pub clean-append : (s t : List ℕ) → Clean s → Clean t → Clean (s ++ t)
 unfolding among
 clean-append [] t h k = k
-clean-append (a ∷ s) t h k = or-both (eqb line-feed a) _ (or-left (eqb line-feed a) _ h) (clean-append s t (or-right (eqb line-feed a) _ h) k)
+clean-append (a ∷ s) t h k =
+    or-both (eqb line-feed a) _ (or-left (eqb line-feed a) _ h) (clean-append s t (or-right (eqb line-feed a) _ h) k)
 
 clean-cons : (a : ℕ) (s : List ℕ) → (line-feed ≡ a → ⊥) → Clean s → Clean (a ∷ s)
 unfolding among
@@ -87,7 +88,8 @@ start-clean i = clean-cons 123 (decimal i) (λ q. omega arith) (decimal-clean i)
 
 end-clean : (i : ℕ) → Clean (end-form i)
 unfolding end-form
-end-clean i = clean-append (decimal i) (right-brace ∷ []) (decimal-clean i) (clean-cons 125 [] (λ q. omega arith) clean-none)
+end-clean i =
+    clean-append (decimal i) (right-brace ∷ []) (decimal-clean i) (clean-cons 125 [] (λ q. omega arith) clean-none)
 
 shown-clean : (x : Item) → Clean (shown x)
 unfolding shown
@@ -110,7 +112,8 @@ all-clean (x ∷ xs) = clean-append (shown x) (shown-all xs) (shown-clean x) (al
 abbrev Rows : List (List ℕ) → Type 0
 Rows rows = Each (λ (s : List ℕ). Cells column-cells s) rows
 
-shown-rows : (yss : List Content) → Each (λ (ys : Content). length (shown-all ys) ≤ column-cells) yss → Rows (map shown-all yss)
+shown-rows : (yss : List Content) → Each (λ (ys : Content). length (shown-all ys) ≤ column-cells) yss
+    → Rows (map shown-all yss)
 shown-rows yss h = each-map shown-all (λ ys k. record { few = k; clean = all-clean ys }) yss h
 
 pub row-good : (xs : Content) → Cells column-cells (fill column-cells xs .row)
@@ -134,7 +137,8 @@ empty-cells n = record { few = omega arith; clean = clean-none }
 
 later-roomy : (s t : List ℕ) → Cells column-cells s → Cells column-cells t → Roomy (later-row s t)
 unfolding later-row
-later-roomy s t h k = record { position = empty-cells 3; id = empty-cells 5; state = empty-cells 1; source = h; target = k }
+later-roomy s t h k =
+    record { position = empty-cells 3; id = empty-cells 5; state = empty-cells 1; source = h; target = k }
 
 targets-roomy : (ts : List (List ℕ)) → Rows ts → Each Roomy (map (later-row []) ts)
 targets-roomy ts h = each-map (later-row []) (λ t k. later-roomy [] t (empty-cells column-cells) k) ts h
@@ -142,8 +146,10 @@ targets-roomy ts h = each-map (later-row []) (λ t k. later-roomy [] t (empty-ce
 later-rows-roomy : (ss ts : List (List ℕ)) → Rows ss → Rows ts → Each Roomy (later-rows ss ts)
 unfolding later-rows
 later-rows-roomy [] ts h k = targets-roomy ts k
-later-rows-roomy (s ∷ ss) [] (each-cons p h) k = each-cons (later-roomy s [] p (empty-cells column-cells)) (later-rows-roomy ss [] h k)
-later-rows-roomy (s ∷ ss) (t ∷ ts) (each-cons p h) (each-cons q k) = each-cons (later-roomy s t p q) (later-rows-roomy ss ts h k)
+later-rows-roomy (s ∷ ss) [] (each-cons p h) k =
+    each-cons (later-roomy s [] p (empty-cells column-cells)) (later-rows-roomy ss [] h k)
+later-rows-roomy (s ∷ ss) (t ∷ ts) (each-cons p h) (each-cons q k) =
+    each-cons (later-roomy s t p q) (later-rows-roomy ss ts h k)
 
 id-roomy : (i : ℕ) → i < 65536 → Cells 5 (id-cells i)
 unfolding id-cells
@@ -156,7 +162,8 @@ id-roomy i h = by (eqb i 0)
 no-feed : (s : ℕ) → among s state-letters ≡ true → line-feed ≡ s → ⊥
 no-feed s k =
     each-among (λ (z : ℕ). line-feed ≡ z → ⊥) state-letters
-    (each-cons (λ q. omega arith) (each-cons (λ q. omega arith) (each-cons (λ q. omega arith) (each-cons (λ q. omega arith)
+    (each-cons (λ q. omega arith)
+    (each-cons (λ q. omega arith) (each-cons (λ q. omega arith) (each-cons (λ q. omega arith)
     each-nil)))) s k
 
 state-roomy : (h : Head) → GoodHead h → Cells 1 (state-cells h)
@@ -165,7 +172,8 @@ state-roomy (segment f) (g, k) =
     record { few = omega arith; clean = clean-cons (f .state) [] (no-feed (f .state) k) clean-none }
 state-roomy (ignorable i) g = empty-cells 1
 
-pub part-roomy : (n : ℕ) (p : Part) → n < 1000 → head-id (p .head) < 65536 → GoodHead (p .head) → Each Roomy (part-rows n p)
+pub part-roomy : (n : ℕ) (p : Part) → n < 1000 → head-id (p .head) < 65536 → GoodHead (p .head)
+    → Each Roomy (part-rows n p)
 unfolding part-rows
 part-roomy n p h k g =
     each-cons
@@ -176,16 +184,19 @@ part-roomy n p h k g =
       source = row-good (p .source);
       target = row-good (target-items (p .target));
     })
-    (later-rows-roomy (fill column-cells (p .source) .later) (fill column-cells (target-items (p .target)) .later) (later-good (p .source)) (later-good (target-items (p .target))))
+    (later-rows-roomy (fill column-cells (p .source) .later) (fill column-cells (target-items (p .target)) .later)
+    (later-good (p .source)) (later-good (target-items (p .target))))
 
 -- 79 cells
 aligned-length : (n : ℕ) (s : List ℕ) → length s ≤ n → length (right-aligned n s) ≡ n
 unfolding right-aligned
-aligned-length n s h = omega (arith, length-append (replicate (n - length s) blank) s, length-replicate (n - length s) blank)
+aligned-length n s h =
+    omega (arith, length-append (replicate (n - length s) blank) s, length-replicate (n - length s) blank)
 
 padded-length : (n : ℕ) (s : List ℕ) → length s ≤ n → length (padded n s) ≡ n
 unfolding padded
-padded-length n s h = omega (arith, length-append s (replicate (n - length s) blank), length-replicate (n - length s) blank)
+padded-length n s h =
+    omega (arith, length-append s (replicate (n - length s) blank), length-replicate (n - length s) blank)
 
 aligned-clean : (n : ℕ) (s : List ℕ) → Clean s → Clean (right-aligned n s)
 unfolding right-aligned
@@ -216,7 +227,8 @@ take-is : (n : ℕ) (a b : List ℕ) → length a ≡ n → take n (a ++ b) ≡ 
 take-is n a b h = subst (λ (k : ℕ). take k (a ++ b) ≡ a) h (take-append-seam a b)
 
 drop-is : (n m : ℕ) (a b : List ℕ) → length a ≡ n → drop (n + suc m) (a ++ (blank ∷ b)) ≡ drop m b
-drop-is n m a b h = subst (λ (k : ℕ). drop (k + suc m) (a ++ (blank ∷ b)) ≡ drop m b) h (drop-append-add a (blank ∷ b) (suc m))
+drop-is n m a b h =
+    subst (λ (k : ℕ). drop (k + suc m) (a ++ (blank ∷ b)) ≡ drop m b) h (drop-append-add a (blank ∷ b) (suc m))
 
 pub row-columns : (r : Row) → Roomy r → Columns r
 unfolding row-cells
@@ -225,8 +237,11 @@ row-columns r g =
       position = take-is 3 p (blank ∷ after-p) l3;
       id = ap (take 5) (drop-is 3 0 p after-p l3) ∙ take-is 5 i (blank ∷ after-i) l5;
       state = ap (take 1) (drop-is 3 6 p after-p l3 ∙ drop-is 5 0 i after-i l5) ∙ take-is 1 st (blank ∷ after-st) l1;
-      source = ap (take column-cells) (drop-is 3 8 p after-p l3 ∙ drop-is 5 2 i after-i l5 ∙ drop-is 1 0 st after-st l1) ∙ take-is column-cells s (blank ∷ t) l33;
-      target = drop-is 3 42 p after-p l3 ∙ drop-is 5 36 i after-i l5 ∙ drop-is 1 34 st after-st l1 ∙ drop-is 33 0 s t l33;
+      source = ap (take column-cells)
+          (drop-is 3 8 p after-p l3 ∙ drop-is 5 2 i after-i l5 ∙ drop-is 1 0 st after-st l1)
+          ∙ take-is column-cells s (blank ∷ t) l33;
+      target = drop-is 3 42 p after-p l3 ∙ drop-is 5 36 i after-i l5 ∙ drop-is 1 34 st after-st l1
+          ∙ drop-is 33 0 s t l33;
     }
   where
     p : List ℕ

@@ -46,7 +46,8 @@ blank-rows zero = refl
 blank-rows (suc k) = blank-rows k
 
 -- the cells of a column of a part, read down
-down : (f : Row → List ℕ) (rows : List Row) (xs : Content) (k : ℕ) → map f rows ≡ column xs ++ replicate k [] → gather f rows ≡ shown-all xs
+down : (f : Row → List ℕ) (rows : List Row) (xs : Content) (k : ℕ) → map f rows ≡ column xs ++ replicate k []
+    → gather f rows ≡ shown-all xs
 down f rows xs k e =
     gather-map f rows ∙ ap rows-down e ∙ gather-append (λ (row : List ℕ). row) (column xs) (replicate k [])
     ∙ ap₂ _++_ (column-down xs) (blank-rows k) ∙ append-nil (shown-all xs)
@@ -60,20 +61,23 @@ sources-down n (p ∷ ps) =
     ∙ ap₂ _++_ (down source-of (part-rows n p) (p .source) (o .source-blank) (o .source)) (sources-down (suc n) ps)
     ∙ sym (gather-append shown (p .source) (source-sequence ps))
 
-targets-down : (n : ℕ) (ps : List Part) → gather target-of (rows-from n ps) ≡ gather (λ (p : Part). shown-all (target-items (p .target))) ps
+targets-down : (n : ℕ) (ps : List Part)
+    → gather target-of (rows-from n ps) ≡ gather (λ (p : Part). shown-all (target-items (p .target))) ps
 unfolding rows-from gather
 targets-down n [] = refl
 targets-down n (p ∷ ps) =
     let o = part-of n p in
     gather-append target-of (part-rows n p) (rows-from (suc n) ps)
-    ∙ ap₂ _++_ (down target-of (part-rows n p) (target-items (p .target)) (o .target-blank) (o .target)) (targets-down (suc n) ps)
+    ∙ ap₂ _++_ (down target-of (part-rows n p) (target-items (p .target)) (o .target-blank) (o .target))
+    (targets-down (suc n) ps)
 
 -- every row has room for its cells
 rows-roomy : (n : ℕ) (ps : List Part) → n + length ps ≤ 1000 → FitParts ps → GoodParts ps → Each Roomy (rows-from n ps)
 unfolding rows-from
 rows-roomy n [] h each-nil each-nil = each-nil
 rows-roomy n (p ∷ ps) h (each-cons a f) (each-cons b g) =
-    each-append (part-rows n p) (rows-from (suc n) ps) (part-roomy n p (omega arith) (a .head) (b .head)) (rows-roomy (suc n) ps (omega arith) f g)
+    each-append (part-rows n p) (rows-from (suc n) ps) (part-roomy n p (omega arith) (a .head) (b .head))
+    (rows-roomy (suc n) ps (omega arith) f g)
 
 table-roomy : (t : List ℕ) → Bytes t → Valid t → Each Roomy (sheet-rows (unit t))
 unfolding sheet-rows Valid
@@ -86,10 +90,12 @@ row-line : (r : Row) → row-bytes r ≡ utf8s (row-cells r ++ (line-feed ∷ []
 unfolding row-bytes utf8s gather utf8
 row-line r = sym (gather-append utf8 (row-cells r) (line-feed ∷ []))
 
-sheet-result : (t : List ℕ) (room : ℕ) (s : List ℕ) → sheet t room ≡ result s → (s ≡ sheet-bytes (unit t)) × (length s ≤ room)
+sheet-result : (t : List ℕ) (room : ℕ) (s : List ℕ) → sheet t room ≡ result s
+    → (s ≡ sheet-bytes (unit t)) × (length s ≤ room)
 unfolding sheet
 sheet-result t room s h =
-    let (o, e) = unless-result (table-refusal t then applies 15 (ltb room (length (sheet-bytes (unit t))))) (sheet-bytes (unit t)) s h in
+    let (o, e) = unless-result (table-refusal t then applies 15 (ltb room (length (sheet-bytes (unit t)))))
+    (sheet-bytes (unit t)) s h in
     let k = ltb-false room (length (sheet-bytes (unit t))) (applies-none 15 _ (then-right (table-refusal t) _ o)) in
     (sym e, subst (λ (l : List ℕ). length l ≤ room) e k)
 
@@ -108,8 +114,11 @@ order-5 t b v =
     sources : gather source-of (sheet-rows (unit t)) ≡ shown-all (source-sequence (unit t .parts))
     sources = sources-down 1 (unit t .parts)
 
-    targets : gather target-of (sheet-rows (unit t)) ≡ gather (λ (p : Part). shown-all (target-items (p .target))) (unit t .parts)
+    targets : gather target-of (sheet-rows (unit t)) ≡ gather (λ (p : Part). shown-all (target-items (p .target)))
+        (unit t .parts)
     targets = targets-down 1 (unit t .parts)
 
-    all-lines : sheet-bytes (unit t) ≡ gather (λ (r : Row). utf8s (row-cells r ++ (line-feed ∷ []))) (sheet-rows (unit t))
-    all-lines = gather-cong row-bytes (λ (r : Row). utf8s (row-cells r ++ (line-feed ∷ []))) row-line (sheet-rows (unit t))
+    all-lines : sheet-bytes (unit t) ≡ gather (λ (r : Row). utf8s (row-cells r ++ (line-feed ∷ [])))
+        (sheet-rows (unit t))
+    all-lines =
+        gather-cong row-bytes (λ (r : Row). utf8s (row-cells r ++ (line-feed ∷ []))) row-line (sheet-rows (unit t))

@@ -37,7 +37,8 @@ digits-below zero k n rest h = omega arith
 digits-below (suc f) k n rest h = by (ltb n 10) refl k h (λ j g. digits-below f j (n / 10) ((48 + n % 10) ∷ rest) g)
   where
     by : (b : Bool) → ltb n 10 ≡ b → (k : ℕ) → n < tens (suc k)
-        → ((j : ℕ) → n / 10 < tens (suc j) → length (digits f (n / 10) ((48 + n % 10) ∷ rest)) ≤ suc j + suc (length rest))
+        → ((j : ℕ) → n / 10 < tens (suc j)
+        → length (digits f (n / 10) ((48 + n % 10) ∷ rest)) ≤ suc j + suc (length rest))
         → length (cond b ((48 + n % 10) ∷ rest) (digits f (n / 10) ((48 + n % 10) ∷ rest))) ≤ suc k + length rest
     by true e k h ih = omega arith
     by false e zero h ih = let a = ltb-false n 10 e in let z : ⊥ = omega arith in absurd z

@@ -184,7 +184,8 @@ module _ (c : List ℕ) (at : ℕ) (xs : Content) (m : Ahead c at 0 xs) where
       subst (λ (n : ℕ). At c n (m .records)) (let z : at + 0 ≡ at = omega arith in z) (there c at 0 xs m)
 
 -- behind a record others are ahead
-behind-record : (c : List ℕ) (at : ℕ) {a : Bool} (rs : List encode.Record) → Kept a rs → At c at rs → Ahead c at 0 (items rs)
+behind-record : (c : List ℕ) (at : ℕ) {a : Bool} (rs : List encode.Record) → Kept a rs → At c at rs
+    → Ahead c at 0 (items rs)
 unfolding utf8s gather
 behind-record c at {a} rs k r =
     record {

@@ -49,7 +49,13 @@ module _ (c : List ℕ) (f : Filling) (p : Points)
       (w : Wrote (map cell (take (f .at + p .bytes - f .at) (drop (f .at) c))) out (f .draft) last d) where
     abbrev behind : Filling
     behind =
-        record { at = f .at + p .bytes; left = f .at + f .left - (f .at + p .bytes); room = p .left; full = false; draft = d }
+        record {
+          at = f .at + p .bytes;
+          left = f .at + f .left - (f .at + p .bytes);
+          room = p .left;
+          full = false;
+          draft = d;
+        }
 
     points-step : (xs : Content) → Ahead c (f .at) (f .left) xs → Step c f out behind last xs
     points-step xs m =
@@ -70,7 +76,8 @@ module _ (c : List ℕ) (f : Filling) (p : Points)
           ended = λ e. absurd (true≢false (sym e));
         }
 
-    pub points-filled : (xs : Content) → Ahead c (f .at) (f .left) xs → 0 < f .left → 0 < f .room → Filled c f out behind last
+    pub points-filled : (xs : Content) → Ahead c (f .at) (f .left) xs → 0 < f .left → 0 < f .room
+        → Filled c f out behind last
     points-filled xs m h k =
         let some = the-run xs m .some h k in (
           record { onward = λ e. omega arith; stays = λ e. absurd (true≢false (sym e)) },
@@ -78,7 +85,8 @@ module _ (c : List ℕ) (f : Filling) (p : Points)
         )
 
 -- an item that is no text
-module _ (c : List ℕ) (f : Filling) (out : List ℕ) (z : f .left ≡ 0) (i : Item) (w : ℕ) (next : ItemNext c (f .at) i w) where
+module _ (c : List ℕ) (f : Filling) (out : List ℕ) (z : f .left ≡ 0) (i : Item) (w : ℕ)
+    (next : ItemNext c (f .at) i w) where
   from-record : (xs : Content) → Ahead c (f .at) (f .left) xs → Ahead c (f .at) 0 xs
   from-record xs m = subst (λ (n : ℕ). Ahead c (f .at) n xs) z m
 
@@ -161,7 +169,8 @@ shown-then : (xs ys : Content) → shown-all (xs ++ ys) ≡ shown-all xs ++ show
 unfolding shown-all
 shown-then xs ys = gather-append shown xs ys
 
-pub step-then : (c : List ℕ) (f : Filling) (out : List ℕ) (g : Filling) (mid : List ℕ) (r : Filling) (last : List ℕ) (xs : Content)
+pub step-then : (c : List ℕ) (f : Filling) (out : List ℕ) (g : Filling) (mid : List ℕ) (r : Filling) (last : List ℕ)
+    (xs : Content)
     → (s : Step c f out g mid xs) → Step c g mid r last (s .after) → Step c f out r last xs
 step-then c f out g mid r last xs s t =
     let a = s .took in
@@ -174,7 +183,8 @@ step-then c f out g mid r last xs s t =
       takes = s .takes ∙ ap (λ (l : Content). a ++ l) (t .takes) ∙ sym (append-assoc a b (taken (r .room) (t .after)));
       leaves = s .leaves ∙ t .leaves;
       cells = omega (arith, ap length both, length-append (shown-all a) (shown-all b), s .cells, t .cells);
-      wrote = wrote-as (sym (ap utf8s both ∙ utf8s-append (shown-all a) (shown-all b))) (wrote-then (s .wrote) (t .wrote));
+      wrote = wrote-as (sym (ap utf8s both ∙ utf8s-append (shown-all a) (shown-all b)))
+          (wrote-then (s .wrote) (t .wrote));
       ended = t .ended;
     }
 
@@ -189,7 +199,8 @@ pub record SoFar (c : List ℕ) (begun : Filling) (out : List ℕ) (f : Filling)
   pub full : f .full ≡ true → f .room < column-cells
   pub steps : (xs : Content) → Ahead c (begun .at) (begun .left) xs → Step c begun out f last xs
 
-pub so-far-start : (c : List ℕ) (begun : Filling) (out : List ℕ) → Going c begun out → begun .room ≡ 33 → begun .full ≡ false
+pub so-far-start : (c : List ℕ) (begun : Filling) (out : List ℕ) → Going c begun out → begun .room ≡ 33
+    → begun .full ≡ false
     → SoFar c begun out begun out
 unfolding shown-all gather utf8s
 so-far-start c begun out (s, room, inside) all more =
@@ -256,10 +267,12 @@ module _ (c : List ℕ) (begun : Filling) (out : List ℕ) (f : Filling) (last :
       on false e h = omega (arith, moved .onward e, s .forth)
 
   -- the bytes that are left fall, or the row is full
-  pub falls : (r : Filling) (next : List ℕ) → Filled c f last r next → goesOn f (length c) ≡ true → bytes-left c r < bytes-left c f
+  pub falls : (r : Filling) (next : List ℕ) → Filled c f last r next → goesOn f (length c) ≡ true
+      → bytes-left c r < bytes-left c f
   falls r next (moved, steps) e = by (f .full) (r .full) refl refl
     where
-      by : (a b : Bool) → f .full ≡ a → r .full ≡ b → cond b 0 (suc (length c - r .at)) < cond a 0 (suc (length c - f .at))
+      by : (a b : Bool) → f .full ≡ a → r .full ≡ b
+          → cond b 0 (suc (length c - r .at)) < cond a 0 (suc (length c - f .at))
       by true b x y = absurd (true≢false (sym x ∙ more-room f (length c) e .0))
       by false true x y = omega arith
       by false false x y = omega (arith, moved .onward y, more-room f (length c) e .2)
@@ -269,7 +282,8 @@ module _ (c : List ℕ) (begun : Filling) (out : List ℕ) (f : Filling) (last :
     ends : (xs : Content) → Ahead c (f .at) (f .left) xs → (f .full ≡ true → Ends (f .room) xs) → Ends (f .room) xs
     ends xs m ended = by (f .full) refl (ltb 0 (f .room)) refl (ltb (f .at) (length c)) refl
       where
-        by : (a : Bool) → f .full ≡ a → (b : Bool) → ltb 0 (f .room) ≡ b → (d : Bool) → ltb (f .at) (length c) ≡ d → Ends (f .room) xs
+        by : (a : Bool) → f .full ≡ a → (b : Bool) → ltb 0 (f .room) ≡ b → (d : Bool) → ltb (f .at) (length c) ≡ d
+            → Ends (f .room) xs
         by true x b y d z = ended x
         by false x false y d z =
             let none : 0 ≡ f .room = omega (arith, ltb-false 0 (f .room) y) in
@@ -279,12 +293,14 @@ module _ (c : List ℕ) (begun : Filling) (out : List ℕ) (f : Filling) (last :
             subst (Ends (f .room)) (sym over) (ends-over (f .room))
         by false x true y true z = absurd (true≢false (sym (rw (x, y, z) refl) ∙ e))
 
-    row-items : begun .room ≡ 33 → (xs : Content) → Ahead c (begun .at) (begun .left) xs → RowItems c begun out f last xs
+    row-items : begun .room ≡ 33 → (xs : Content) → Ahead c (begun .at) (begun .left) xs
+        → RowItems c begun out f last xs
     row-items all xs m =
         let t = s .steps xs m in
         let (a, b) = ends (t .after) (t .ahead) (t .ended) in
         let took : taken column-cells xs ≡ t .took
-        = ap (λ (n : ℕ). taken n xs) (sym all) ∙ t .takes ∙ ap (λ (l : Content). t .took ++ l) a ∙ append-nil (t .took) in
+        = ap (λ (n : ℕ). taken n xs) (sym all) ∙ t .takes ∙ ap (λ (l : Content). t .took ++ l) a
+        ∙ append-nil (t .took) in
         let leaves : untaken column-cells xs ≡ t .after
         = ap (λ (n : ℕ). untaken n xs) (sym all) ∙ t .leaves ∙ b in
         record {
@@ -296,7 +312,8 @@ module _ (c : List ℕ) (begun : Filling) (out : List ℕ) (f : Filling) (last :
     further : begun .at < length c → begun .at < f .at
     further h = by (f .full) refl (ltb 0 (f .room)) refl (ltb (f .at) (length c)) refl
       where
-        by : (a : Bool) → f .full ≡ a → (b : Bool) → ltb 0 (f .room) ≡ b → (d : Bool) → ltb (f .at) (length c) ≡ d → begun .at < f .at
+        by : (a : Bool) → f .full ≡ a → (b : Bool) → ltb 0 (f .room) ≡ b → (d : Bool) → ltb (f .at) (length c) ≡ d
+            → begun .at < f .at
         by true x b y d z = s .further (s .full x)
         by false x false y d z = s .further (omega (arith, ltb-false 0 (f .room) y))
         by false x true y false z = omega (arith, ltb-false (f .at) (length c) z)
@@ -306,7 +323,8 @@ module _ (c : List ℕ) (begun : Filling) (out : List ℕ) (f : Filling) (last :
     row-done all = (s .forth, further, row-items all)
 
 -- the padding
-pub row-put : (c : List ℕ) (begun : Filling) (out : List ℕ) (f : Filling) (mid : List ℕ) (xs : Content) → RowItems c begun out f mid xs
+pub row-put : (c : List ℕ) (begun : Filling) (out : List ℕ) (f : Filling) (mid : List ℕ) (xs : Content)
+    → RowItems c begun out f mid xs
     → (last : List ℕ) (d : Draft) → Wrote (replicate (f .room) blank) mid (f .draft) last d
     → RowPut c out (begun .draft) last (record { next = record { at = f .at; left = f .left }; draft = d }) xs
 unfolding next-row

@@ -17,16 +17,19 @@ use Rattle.sheet_columns.specs.Taken.{taken, untaken, Ends, rows-left}
 abbrev ByRow : ℕ → Content → Filled → Type 0
 ByRow left xs f = (f .row ≡ shown-all (taken left xs)) × (f .later ≡ rows-left (untaken left xs))
 
-begins-row : (x : Item) (xs : Content) → in-next-row x (fill (column-cells - length (shown x)) xs) .later ≡ column (x ∷ xs)
+begins-row : (x : Item) (xs : Content)
+    → in-next-row x (fill (column-cells - length (shown x)) xs) .later ≡ column (x ∷ xs)
 unfolding in-next-row in-row column
 begins-row x xs = rw (fill-fitting column-cells x xs (fits-alone x)) refl
 
-pub fill-by-row : (left : ℕ) (xs : Content) → (fill left xs .row ≡ shown-all (taken left xs)) × (fill left xs .later ≡ rows-left (untaken left xs))
+pub fill-by-row : (left : ℕ) (xs : Content)
+    → (fill left xs .row ≡ shown-all (taken left xs)) × (fill left xs .later ≡ rows-left (untaken left xs))
 unfolding fill taken untaken rows-left shown-all gather in-row in-next-row
 fill-by-row left [] = (refl, refl)
 fill-by-row left (x ∷ xs) = by (fits left x) refl (fill-by-row (left - length (shown x)) xs)
   where
-    by : (b : Bool) → fits left x ≡ b → ByRow (left - length (shown x)) xs (fill (left - length (shown x)) xs) → ByRow left (x ∷ xs) (fill left (x ∷ xs))
+    by : (b : Bool) → fits left x ≡ b → ByRow (left - length (shown x)) xs (fill (left - length (shown x)) xs)
+        → ByRow left (x ∷ xs) (fill left (x ∷ xs))
     by true e (h, k) =
         subst (ByRow left (x ∷ xs)) (sym (fill-fitting left x xs e))
         (rw e (ap (λ (s : List ℕ). shown x ++ s) h, k))

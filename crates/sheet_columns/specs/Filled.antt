@@ -103,10 +103,11 @@ abbrev pub entered : Filling → ℕ → Filling
 entered f w = record { at = f .at + 4; left = w - 4; room = f .room; full = false; draft = f .draft }
 
 -- all that fits is taken
-pub record RowItems (c : List ℕ) (f : Filling) (out : List ℕ) (r : Filling) (last : List ℕ) (xs : Content) : Type 0 where
-  pub cells : length (shown-all (taken column-cells xs)) + r .room ≡ column-cells
-  pub wrote : Wrote (utf8s (shown-all (taken column-cells xs))) out (f .draft) last (r .draft)
-  pub ahead : Ahead c (r .at) (r .left) (untaken column-cells xs)
+pub record RowItems (c : List ℕ) (f : Filling) (out : List ℕ) (r : Filling) (last : List ℕ) (xs : Content) : Type 0
+  where
+    pub cells : length (shown-all (taken column-cells xs)) + r .room ≡ column-cells
+    pub wrote : Wrote (utf8s (shown-all (taken column-cells xs))) out (f .draft) last (r .draft)
+    pub ahead : Ahead c (r .at) (r .left) (untaken column-cells xs)
 
 abbrev pub PutItems : List ℕ → Filling → List ℕ → Filling → List ℕ → Type 0
 PutItems c f out r last =

@@ -107,7 +107,8 @@ fn goes_on(c: Columns, n: usize, m: usize) -> bool
 fn put_later(out: &mut [u8], first: Columns, source: &[u8], target: &[u8]) -> Draft
     requires { ⌜ (first .draft .used ≤ length (now out)) × SomeAhead (now source) (first .source) × SomeAhead (now
         target) (first .target) ⌝ }
-    ensures { λ r. ⌜ PutLater (now (source .entry)) (now (target .entry)) first (now (out .entry)) (now (out .exit)) r ⌝ }
+    ensures { λ r. ⌜ PutLater (now (source .entry)) (now (target .entry)) first (now (out .entry)) (now (out .exit)) r
+        ⌝ }
 {
     let mut row = first;
     while goes_on(row, source.len(), target.len()) {
@@ -123,7 +124,8 @@ fn put_later(out: &mut [u8], first: Columns, source: &[u8], target: &[u8]) -> Dr
 // The rows of a part behind the margin of its first: its two contents side by side.
 fn put_contents(out: &mut [u8], draft: Draft, source: &[u8], target: &[u8]) -> Draft
     requires { ⌜ (draft .used ≤ length (now out)) × Some (now source) × Some (now target) ⌝ }
-    ensures { λ r. ⌜ PutContents (now (source .entry)) (now (target .entry)) (now (out .entry)) draft (now (out .exit)) r ⌝ }
+    ensures { λ r. ⌜ PutContents (now (source .entry)) (now (target .entry)) (now (out .entry)) draft (now (out
+        .exit)) r ⌝ }
 {
     let begin = Cursor { at: 0, left: 0 };
     let first = put_columns(out, draft, source, begin, target, begin);

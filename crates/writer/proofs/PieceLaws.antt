@@ -14,7 +14,8 @@ pub tail-ends : (n : ℕ) (s : List ℕ) → drop (length s - n) (drop n s) ≡ 
 tail-ends n s = drop-of-length-le (drop n s) {i = length s - n} (omega (arith, length-drop n s))
 
 -- one byte more of a copy
-pub lead-suc : (s out : List ℕ) (i : ℕ) → i < length s → i < length out → set (take i s ++ drop i out) i (getD s i 0) ≡ take (i + 1) s ++ drop (i + 1) out
+pub lead-suc : (s out : List ℕ) (i : ℕ) → i < length s → i < length out
+    → set (take i s ++ drop i out) i (getD s i 0) ≡ take (i + 1) s ++ drop (i + 1) out
 lead-suc s out i h k =
     rw (add-one, take-suc s i 0, append-snoc, drop-cons out i 0)
     (set-at (take i s) (getD out i 0) (drop (suc i) out) (getD s i 0) i (length-take-le i s (omega arith)))
@@ -28,7 +29,8 @@ pub tail-back : (out p ys : List ℕ) (n : ℕ) → ys ≡ lead p (take (length 
 tail-back out p ys n e = rw (e, tail-is, tail-ends, append-nil)
 
 -- the second piece behind the first
-pub two-back : (out a b xs ys : List ℕ) (n : ℕ) → n ≡ length a → xs ≡ lead a out → ys ≡ lead b (take (length xs - n) (drop n xs))
+pub two-back : (out a b xs ys : List ℕ) (n : ℕ) → n ≡ length a → xs ≡ lead a out
+    → ys ≡ lead b (take (length xs - n) (drop n xs))
     → take n xs ++ (ys ++ drop (length xs - n) (drop n xs)) ≡ lead (a ++ b) out
 two-back out a b xs ys n e f g =
     tail-back xs b ys n g
@@ -43,8 +45,11 @@ two-written a b s out xs ys n m e v w =
     )
 
 -- three pieces
-pub three-back : (o a b c l y z : List ℕ) (n e : ℕ) → n ≡ length a → l ≡ lead a o → y ≡ lead b (take (length l - n) (drop n l)) → e ≡ n + length b
-    → z ≡ lead c (take (length (take n l ++ (y ++ drop (length l - n) (drop n l))) - e) (drop e (take n l ++ (y ++ drop (length l - n) (drop n l)))))
+pub three-back : (o a b c l y z : List ℕ) (n e : ℕ) → n ≡ length a → l ≡ lead a o
+    → y ≡ lead b (take (length l - n) (drop n l)) → e ≡ n + length b
+    → z ≡ lead c
+    (take (length (take n l ++ (y ++ drop (length l - n) (drop n l))) - e)
+    (drop e (take n l ++ (y ++ drop (length l - n) (drop n l)))))
     → take e (take n l ++ (y ++ drop (length l - n) (drop n l)))
     ++ (z ++ drop (length (take n l ++ (y ++ drop (length l - n) (drop n l))) - e)
     (drop e (take n l ++ (y ++ drop (length l - n) (drop n l)))))

@@ -45,7 +45,8 @@ not-hyphen name l h = rw (ne-eqb l 45 h)
 
 -- attributes one behind the other
 pub attributes-then : {o p q : List ℕ} {d e f : Draft} (a b : List Attribute)
-    → Wrote (attributes-bytes a) o d p e → Wrote (attributes-bytes b) p e q f → Wrote (attributes-bytes (a ++ b)) o d q f
+    → Wrote (attributes-bytes a) o d p e → Wrote (attributes-bytes b) p e q f
+    → Wrote (attributes-bytes (a ++ b)) o d q f
 attributes-then a b v w = wrote-as (sym (gather-append attribute-bytes a b)) (wrote-then v w)
 
 -- the value of an attribute, said otherwise

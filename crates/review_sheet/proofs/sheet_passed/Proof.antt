@@ -3,7 +3,11 @@ use native.Mathlib.Omega.{arith}
 use Rattle.draft.specs.declared.Draft.{Draft}
 use Rattle.places.proofs.Places.{checked-passes}
 use Rattle.table.proofs.WidthLaws.{bytes-known}
-use Rattle.review_sheet.proofs.ChainLaws.{answers-15, answers-written}
+use lib.ListN.{length}
+use Rattle.xliff.specs.Parse.{unit}
+use Rattle.draft.proofs.AnswerLaws.{answers-15, answers-written}
+use Rattle.sheet.specs.Sheet.{sheet-bytes, sheet}
+use Rattle.review_sheet.proofs.ChainLaws.{refused-15, written}
 use borrow.Author.Needs.{needs}
 use Rattle.review_sheet.proofs.sheet_passed.Statement.{statement}
 use Rattle.review_sheet.proofs.sheet_passed.Tie as tie
@@ -29,7 +33,11 @@ returns c =
     let start = at-put-sheet .before .before .before .before .before in
     let args = start .args in
     let pre = start .pre in
-    answers-15 (args .table .now) (args .out .now) pre _ (begin .ensures) _ _ (put-sheet .ensures) if1
+    let table = args .table .now in
+    let out = args .out .now in
+    let room = length out in
+    answers-15 (sheet table room) (sheet-bytes (unit table)) out (refused-15 table room pre) (written table room pre)
+    _ (begin .ensures) _ _ (put-sheet .ensures) if1
 
 -- let written = sheet_rows::put_sheet(out, draft::begin(false), table)
 put-sheet-requires-2 : tie.Need-put-sheet-requires-2
@@ -56,8 +64,12 @@ returns-2 c =
     let start = at-put-sheet .before .before .before .before .before in
     let args = start .args in
     let pre = start .pre in
-    answers-written (args .table .now) (args .out .now) pre _ (begin .ensures) _ _ (put-sheet .ensures) if1
-    _ (begin2 .ensures) _ _ (put-sheet2 .ensures)
+    let table = args .table .now in
+    let out = args .out .now in
+    let room = length out in
+    answers-written (sheet table room) (sheet-bytes (unit table)) out (refused-15 table room pre)
+    (written table room pre)
+    _ (begin .ensures) _ _ (put-sheet .ensures) if1 _ (begin2 .ensures) _ _ (put-sheet2 .ensures)
 
 pub sheet-passed-spec : {M : Type 1} → statement M
 sheet-passed-spec =

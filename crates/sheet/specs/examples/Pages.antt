@@ -68,7 +68,8 @@ unfolding Sheet·all codes
 empty = refl
 
 -- 33 cells fill a row, the 34th begins the next one; each column wraps by itself
-full-row : sheet-of (SG 12 'T' ∷ TX "abcdefghijklmnopqrstuvwxyz0123456" ∷ TG 1 ∷ TX "abcdefghijklmnopqrstuvwxyz01234567" ∷ [])
+full-row : sheet-of
+    (SG 12 'T' ∷ TX "abcdefghijklmnopqrstuvwxyz0123456" ∷ TG 1 ∷ TX "abcdefghijklmnopqrstuvwxyz01234567" ∷ [])
     ≡ lines ("  1    12 T abcdefghijklmnopqrstuvwxyz0123456 abcdefghijklmnopqrstuvwxyz0123456"
     ∷ "                                              7                                " ∷ [])
 unfolding Sheet·all codes
@@ -81,7 +82,8 @@ unfolding Sheet·all codes
 controls = refl
 
 -- the shown form of each mark
-forms : sheet-of (SG 65535 'I' ∷ PH 7 ∷ PO 8 ∷ PC 8 ∷ SC 9 ∷ EC 9 ∷ IS 10 ∷ IE 11 ∷ MO 12 ∷ MC 12 ∷ SM 65534 ∷ EM 65534 ∷ [])
+forms : sheet-of
+    (SG 65535 'I' ∷ PH 7 ∷ PO 8 ∷ PC 8 ∷ SC 9 ∷ EC 9 ∷ IS 10 ∷ IE 11 ∷ MO 12 ∷ MC 12 ∷ SM 65534 ∷ EM 65534 ∷ [])
     ≡ lines ("  1 65535 I {7}{88}{99}{1011}{1212}{65534                                      "
     ∷ "            65534}                                                             " ∷ [])
 unfolding Sheet·all codes
@@ -102,7 +104,9 @@ unfolding Sheet·all codes
 next-row = refl
 
 -- an end of 6 cells behind 28
-wide-marker : sheet-of (SG 1 'I' ∷ SC 65535 ∷ TX "1234567890123456789012" ∷ EC 65535 ∷ TG 1 ∷ SC 65535 ∷ TX "12345678901234567890123456789" ∷ EC 65535 ∷ [])
+wide-marker : sheet-of
+    (SG 1 'I' ∷ SC 65535 ∷ TX "1234567890123456789012" ∷ EC 65535
+    ∷ TG 1 ∷ SC 65535 ∷ TX "12345678901234567890123456789" ∷ EC 65535 ∷ [])
     ≡ lines ("  1     1 I {655351234567890123456789012      {65535123456789012345678901234567"
     ∷ "            65535}                            8965535}                         " ∷ [])
 unfolding Sheet·all codes
@@ -115,7 +119,9 @@ unfolding Sheet·all codes
 code-points = refl
 
 -- the longer column makes the rows
-longer-source : sheet-of (SG 1 'T' ∷ TX "one two three four five six seven eight nine ten eleven twelve thirteen" ∷ TG 1 ∷ TX "eins" ∷ SG 2 'I' ∷ TX "B" ∷ TG 2 ∷ TX "zwei" ∷ [])
+longer-source : sheet-of
+    (SG 1 'T' ∷ TX "one two three four five six seven eight nine ten eleven twelve thirteen" ∷ TG 1 ∷ TX "eins"
+    ∷ SG 2 'I' ∷ TX "B" ∷ TG 2 ∷ TX "zwei" ∷ [])
     ≡ lines ("  1     1 T one two three four five six seven eins                             "
     ∷ "             eight nine ten eleven twelve thi                                  "
     ∷ "            rteen                                                              "
@@ -138,7 +144,8 @@ ten-parts : sheet-of (IG 1 ∷ IG 2 ∷ IG 3 ∷ IG 4 ∷ IG 5 ∷ IG 6 ∷ IG 7
 unfolding Sheet·all codes
 ten-parts = refl
 
--- 15 where the output is a byte short, the check's refusal before it; the limits bind tables only, so a long output is no matter
+-- 15 where the output is a byte short, the check's refusal before it; the limits bind tables only, so a long
+-- output is no matter
 answers : List Answer
 answers =
     answer (sheet (table (SG 1 'I' ∷ TX "A. B" ∷ [])) 80)

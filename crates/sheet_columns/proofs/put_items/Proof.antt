@@ -53,7 +53,8 @@ loop-again c =
     let start = at-loop .before .before .before in
     let args = start .args in
     let (going, all, more) = start .pre in
-    so-far-on (args .c .now) (args .begun) (args .out .now) (loop .f) (loop .out) going (loop .inv) _ _ (put-next .ensures)
+    so-far-on (args .c .now) (args .begun) (args .out .now) (loop .f) (loop .out) going (loop .inv) _ _
+    (put-next .ensures)
 
 -- the output keeps its length
 same-length : tie.Need-same-length Inv-loop μ-loop
@@ -73,7 +74,8 @@ returns c =
     let start = c .before .before .before .before .before in
     let args = start .args in
     let (going, all, more) = start .pre in
-    row-done (args .c .now) (args .begun) (args .out .now) (loop .f) (loop .out) going (loop .inv) (sym (goes-on .ensures) ∙ off) all
+    row-done (args .c .now) (args .begun) (args .out .now) (loop .f) (loop .out) going (loop .inv)
+    (sym (goes-on .ensures) ∙ off) all
 
 pub put-items-spec : {M : Type 1} → statement M
 put-items-spec =

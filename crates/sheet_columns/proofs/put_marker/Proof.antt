@@ -32,7 +32,8 @@ slice-aggregate-put : tie.Need-slice-aggregate-put
 slice-aggregate-put c =
     let put-item = c .before .before .before .before .before .before .put-item in
     let args = c .before .before .before .before .before .before .before .before .before .before .args in
-    head-long (shown (item (args .i))) _ (put-item .last .0) (put-item .result) (put-item .ensures .0) (put-item .ensures .1)
+    head-long (shown (item (args .i))) _ (put-item .last .0) (put-item .result) (put-item .ensures .0)
+    (put-item .ensures .1)
 
 -- draft::put(out, draft, &piece[..cells])
 put-requires : tie.Need-put-requires
@@ -56,7 +57,8 @@ returns-2 c =
     let start = at-if1 .before .before .before .before .before .before .before .before in
     let args = start .args in
     let (going, none, next) = start .pre in
-    let form = at-head (shown (item (args .i))) _ (put-item .last .0) (put-item .result) (put-item .ensures .0) (put-item .ensures .1) in
+    let form = at-head (shown (item (args .i))) _ (put-item .last .0) (put-item .result) (put-item .ensures .0)
+    (put-item .ensures .1) in
     item-filled (args .c .now) (args .f) (args .out .now) none (args .i) (args .w) next (put-item .result)
     (put-item .ensures .0) (omega (arith, at-if1 .if1 .left)) _ _ (wrote-as form (put .ensures))
 

@@ -19,7 +19,8 @@ put-record-requires c κs =
     let start = c .before .before .before .before .before .before .before .before .before in
     let args = start .args in
     let (((xs, ahead), room, inside), cells, more) = start .pre in
-    let next = known-next (args .c .now) (args .f .at) (args .f .left) xs ahead none more (known-at .result) (known-at .ensures) in
+    let next = known-next (args .c .now) (args .f .at) (args .f .left) xs ahead none more (known-at .result)
+    (known-at .ensures) in
     (((xs, ahead), room, inside), next .0, rw (x .1) at (next .1))
 
 -- Read::Ill => f: a text of a content is good
@@ -31,7 +32,8 @@ returns-3 c =
     let start = c .before .before .before .before .before .before .before in
     let args = start .args in
     let (((xs, ahead), room, inside), cells, more) = start .pre in
-    let next = known-next (args .c .now) (args .f .at) (args .f .left) xs ahead none more (known-at .result) (known-at .ensures) in
+    let next = known-next (args .c .now) (args .f .at) (args .f .left) xs ahead none more (known-at .result)
+    (known-at .ensures) in
     absurd (rw (told .1) at (next .1))
 
 -- Read::Broken(_) => f: a record of a content is good
@@ -43,7 +45,8 @@ returns-4 c =
     let start = c .before .before .before .before .before .before .before in
     let args = start .args in
     let (((xs, ahead), room, inside), cells, more) = start .pre in
-    let next = known-next (args .c .now) (args .f .at) (args .f .left) xs ahead none more (known-at .result) (known-at .ensures) in
+    let next = known-next (args .c .now) (args .f .at) (args .f .left) xs ahead none more (known-at .result)
+    (known-at .ensures) in
     absurd (rw (told .1) at (next .1))
 
 pub put-next-spec : {M : Type 1} → statement M

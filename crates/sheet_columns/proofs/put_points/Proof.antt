@@ -82,7 +82,8 @@ returns c =
     let start = at-pass-points .before .before .before .before .before in
     let args = start .args in
     let (((xs, ahead), room, inside), some, cells) = start .pre in
-    points-filled (args .c .now) (args .f) (pass-points .result) (pass-points .ensures) (args .out .now) _ _ (put-text .ensures)
+    points-filled (args .c .now) (args .f) (pass-points .result) (pass-points .ensures) (args .out .now) _ _
+    (put-text .ensures)
     xs ahead some cells
 
 pub put-points-spec : {M : Type 1} → statement M

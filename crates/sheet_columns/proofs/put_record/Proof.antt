@@ -76,7 +76,8 @@ put-record-spec =
     tie.close
     (tie.spec
     -- by search: enum-told, enum-told-2, enum-told-3, enum-told-4, enum-told-5, enum-told-6
-    (λ c. search needs) (λ c. search needs) (λ c. search needs) (λ c. search needs) (λ c. search needs) (λ c. search needs)
+    (λ c. search needs) (λ c. search needs) (λ c. search needs) (λ c. search needs) (λ c. search needs)
+    (λ c. search needs)
     enter-requires
     -- by search: enum-known-x
     (λ c. search needs)

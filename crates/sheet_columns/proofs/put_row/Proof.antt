@@ -27,7 +27,8 @@ returns c =
     let args = c .before .before .before .before .before .before .before .before .before .before .before .args in (
       put-items .ensures .0,
       put-items .ensures .1,
-      λ xs ahead. row-put (args .c .now) _ (args .out .now) (put-items .result) _ xs (put-items .ensures .2 xs ahead) _ _ (put-blanks .ensures),
+      λ xs ahead. row-put (args .c .now) _ (args .out .now) (put-items .result) _ xs (put-items .ensures .2 xs ahead)
+          _ _ (put-blanks .ensures),
     )
 
 pub put-row-spec : {M : Type 1} → statement M

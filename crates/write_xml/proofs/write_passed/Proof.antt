@@ -5,7 +5,11 @@ use Rattle.draft.specs.declared.Draft.{Draft}
 use Rattle.places.proofs.Places.{checked-passes}
 use Rattle.table.proofs.WidthLaws.{bytes-known}
 use Rattle.outcomes.proofs.OutcomeLaws.{answers-refused}
-use Rattle.write_xml.proofs.ChainLaws.{refused-22, answers-15, answers-written}
+use Rattle.draft.proofs.AnswerLaws.{answers-15, answers-written}
+use Rattle.xliff.specs.Parse.{unit}
+use Rattle.xml.specs.Write.{unit-text}
+use Rattle.xml.specs.Xml.{write-xml}
+use Rattle.write_xml.proofs.ChainLaws.{refused-22, refused-15, written}
 use borrow.Author.Needs.{needs}
 use Rattle.write_xml.proofs.write_passed.Statement.{statement}
 use Rattle.write_xml.proofs.write_passed.Tie as tie
@@ -37,8 +41,11 @@ put-unit-requires c κs =
     let shared-slice-known = c .before .before .before .before .before .shared-slice-known .given in
     let start = c .before .before .before .before .before .before in
     let args = start .args in
-    let pre = start .pre in
-    (omega (arith, ap (λ (d : Draft). d .used) (begin .ensures)), checked-passes (args .table .now) (bytes-known (args .table .now) shared-slice-known) pre)
+    let pre = start .pre in (
+      omega (arith, ap (λ (d : Draft). d .used) (begin .ensures)),
+      checked-passes (args .table .now)
+          (bytes-known (args .table .now) shared-slice-known) pre,
+    )
 
 -- return Answer::Refused(15, 0)
 returns-2 : tie.Need-returns-2
@@ -52,17 +59,27 @@ returns-2 c =
     let start = at-put-unit .before .before .before .before .before .before .before in
     let args = start .args in
     let pre = start .pre in
-    answers-15 (args .table .now) (args .out .now) pre (sym (too-deep .ensures) ∙ if1) _ (begin .ensures) _ _ (put-unit .ensures) if2
+    let table = args .table .now in
+    let out = args .out .now in
+    let room = length out in
+    let flat = sym (too-deep .ensures) ∙ if1 in
+    answers-15 (write-xml table room) (unit-text (unit table)) out (refused-15 table room pre flat)
+    (written table room pre flat)
+    _ (begin .ensures) _ _ (put-unit .ensures) if2
 
 -- xml_writer::put_unit, written
 put-unit-requires-2 : tie.Need-put-unit-requires-2
 put-unit-requires-2 c κs =
     let begin2 = c .begin2 in
-    let at-shared-slice-known = c .before .before .before .before .before .before .before .before .before .before .before in
+    let at-shared-slice-known = c .before .before .before .before .before .before .before .before .before .before
+    .before in
     let shared-slice-known = at-shared-slice-known .shared-slice-known .given in
     let args = at-shared-slice-known .before .args in
-    let pre = at-shared-slice-known .before .pre in
-    (omega (arith, ap (λ (d : Draft). d .used) (begin2 .ensures)), checked-passes (args .table .now) (bytes-known (args .table .now) shared-slice-known) pre)
+    let pre = at-shared-slice-known .before .pre in (
+      omega (arith, ap (λ (d : Draft). d .used) (begin2 .ensures)),
+      checked-passes (args .table .now)
+          (bytes-known (args .table .now) shared-slice-known) pre,
+    )
 
 -- Answer::Accepted(written.used)
 returns-3 : tie.Need-returns-3
@@ -79,8 +96,13 @@ returns-3 c =
     let start = at-put-unit .before .before .before .before .before .before .before in
     let args = start .args in
     let pre = start .pre in
-    answers-written (args .table .now) (args .out .now) pre (sym (too-deep .ensures) ∙ if1) _ (begin .ensures) _ _ (put-unit .ensures) if2
-    _ (begin2 .ensures) _ _ (put-unit2 .ensures)
+    let table = args .table .now in
+    let out = args .out .now in
+    let room = length out in
+    let flat = sym (too-deep .ensures) ∙ if1 in
+    answers-written (write-xml table room) (unit-text (unit table)) out (refused-15 table room pre flat)
+    (written table room pre flat) _ (begin .ensures) _ _ (put-unit .ensures) if2 _ (begin2 .ensures) _ _
+    (put-unit2 .ensures)
 
 pub write-passed-spec : {M : Type 1} → statement M
 write-passed-spec =

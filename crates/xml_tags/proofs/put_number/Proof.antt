@@ -12,7 +12,8 @@ slice-aggregate-put-attribute : tie.Need-slice-aggregate-put-attribute
 slice-aggregate-put-attribute c =
     let put-decimal = c .before .before .before .put-decimal in
     let wide = c .before .before .before .before .wide in
-    head-long (decimal (wide .result)) _ (put-decimal .last .0) (put-decimal .result) (put-decimal .ensures .0) (put-decimal .ensures .1)
+    head-long (decimal (wide .result)) _ (put-decimal .last .0) (put-decimal .result) (put-decimal .ensures .0)
+    (put-decimal .ensures .1)
 
 -- put_attribute(out, draft, name, &digits[..k])
 returns : tie.Need-returns
@@ -23,7 +24,8 @@ returns c =
     let put-decimal = at-put-decimal .put-decimal in
     let wide = at-put-decimal .before .wide in
     let args = at-put-decimal .before .before .before .before .before .args in
-    let digits = at-head (decimal (wide .result)) _ (put-decimal .last .0) (put-decimal .result) (put-decimal .ensures .0) (put-decimal .ensures .1) in
+    let digits = at-head (decimal (wide .result)) _ (put-decimal .last .0) (put-decimal .result)
+    (put-decimal .ensures .0) (put-decimal .ensures .1) in
     value-as (args .name .now) (digits ∙ ap decimal (wide .ensures .0)) (put-attribute .ensures)
 
 pub put-number-spec : {M : Type 1} → statement M

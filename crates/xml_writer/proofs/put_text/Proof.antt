@@ -68,7 +68,8 @@ returns c =
     let put-text = c .before .before .put-text in
     let args = c .before .before .before .before .before .before .before .args in
     λ cs rs a e.
-    wrote-as (ap escaped-bytes (text-there (args .t .now) (args .at) (args .w) cs rs a e) ∙ escaped-text cs) (put-text .ensures)
+    wrote-as (ap escaped-bytes (text-there (args .t .now) (args .at) (args .w) cs rs a e) ∙ escaped-text cs)
+    (put-text .ensures)
 
 pub put-text-spec : {M : Type 1} → statement M
 put-text-spec =
