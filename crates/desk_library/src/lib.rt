@@ -11,6 +11,7 @@ ghost use Rattle.xliff.specs.RemoveTarget.{remove-target};
 ghost use Rattle.xliff.specs.Rewrite.{rewrite};
 ghost use Rattle.xliff.specs.Desk.{desk};
 ghost use Rattle.xml.specs.Xml.{read-xml, write-xml};
+ghost use Rattle.sheet.specs.Sheet.{sheet};
 ghost use Rattle.answers.specs.Answers.{answer-meaning};
 ghost use Rattle.writer.specs.Pieces.{lead};
 ghost use Rattle.both_ends.specs.Received.{Meets};
@@ -149,6 +150,21 @@ pub extern "C" fn xliff_desk_write_xml(
         (now (out .exit)) ⌝ }
 {
     let a = write_xml::write_xml(table, out);
+    tell(a, number, value)
+}
+
+// The review sheet of a table.
+#[no_mangle]
+pub extern "C" fn xliff_desk_sheet(
+    table: &[u8],
+    out: &mut [u8],
+    number: &mut u8,
+    value: &mut usize,
+) -> bool
+    ensures { λ r. ⌜ Tells (sheet (now (table .entry)) (length (now (out .entry)))) r (now (number .exit)) (now (value .exit)) (now (out .entry))
+        (now (out .exit)) ⌝ }
+{
+    let a = review_sheet::sheet(table, out);
     tell(a, number, value)
 }
 

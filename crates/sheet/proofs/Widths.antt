@@ -51,8 +51,8 @@ pub decimal-5 : (n : ℕ) → n < 100000 → length (decimal n) ≤ 5
 unfolding decimal
 decimal-5 n h = digits-below 20 4 n [] h
 
--- every shown form has room in a row
-start-within : (i : ℕ) → length (start-form i) ≤ column-cells
+-- a shown form has at most 22 cells, so that each has room in a row
+start-within : (i : ℕ) → length (start-form i) ≤ 21
 unfolding start-form
 start-within i = omega (arith, decimal-within i)
 
@@ -60,17 +60,20 @@ pub end-within : (i : ℕ) → length (end-form i) ≤ 21
 unfolding end-form
 end-within i = omega (arith, decimal-within i, length-append (decimal i) (right-brace ∷ []))
 
-pub shown-within : (x : Item) → length (shown x) ≤ column-cells
+pub shown-short : (x : Item) → length (shown x) ≤ 22
 unfolding shown
-shown-within (text c) = omega arith
-shown-within (character c) = omega arith
-shown-within (standalone f) = omega (arith, end-within (f .id))
-shown-within (isolated start f) = start-within (f .id)
-shown-within (isolated end f) = omega (arith, end-within (f .id))
-shown-within (pair start w f) = start-within (f .id)
-shown-within (pair end w f) = omega (arith, end-within (f .id))
-shown-within (annotation-start w i t) = start-within i
-shown-within (annotation-end w i) = omega (arith, end-within i)
+shown-short (text c) = omega arith
+shown-short (character c) = omega arith
+shown-short (standalone f) = omega (arith, end-within (f .id))
+shown-short (isolated start f) = omega (arith, start-within (f .id))
+shown-short (isolated end f) = omega (arith, end-within (f .id))
+shown-short (pair start w f) = omega (arith, start-within (f .id))
+shown-short (pair end w f) = omega (arith, end-within (f .id))
+shown-short (annotation-start w i t) = omega (arith, start-within i)
+shown-short (annotation-end w i) = omega (arith, end-within i)
+
+pub shown-within : (x : Item) → length (shown x) ≤ column-cells
+shown-within x = omega (arith, shown-short x)
 
 -- and at least one cell
 end-some : (i : ℕ) → 1 ≤ length (end-form i)

@@ -276,7 +276,7 @@ met c at h r k xs m =
     let split = s .split ∙ ap (λ (q : encode.Record). q ∷ s .others) (sym (s .means)) in
     (s .others, in-content (subst (Kept (m .behind)) split (m .kept)))
 
-pub read-next : (c : List ℕ) (at : ℕ) (xs : Content) → Ahead c at 0 xs → at < length c → (r : Read) → Known (drop at c) r
+read-next : (c : List ℕ) (at : ℕ) (xs : Content) → Ahead c at 0 xs → at < length c → (r : Read) → Known (drop at c) r
     → ReadNext c at r
 read-next c at xs m h (Good (UnitStart u) w) k = met c at h (Good (UnitStart u) w) k xs m .1
 read-next c at xs m h (Good UnitEnd w) k = met c at h (Good UnitEnd w) k xs m .1
@@ -291,3 +291,9 @@ read-next c at xs m h (Good (Inline i) w) k =
     record { wide = s .moves; fits = s .fits; then = λ ys n. item-next c at i w ys k h n }
 read-next c at xs m h Ill k = met c at h Ill k xs m .1
 read-next c at xs m h (Broken b) k = met c at h (Broken b) k xs m .1
+
+pub known-next : (c : List ℕ) (at left : ℕ) (xs : Content) → Ahead c at left xs → left ≤ 0 → at < length c → (r : Read)
+    → Known (drop at c) r → (left ≡ 0) × ReadNext c at r
+known-next c at left xs m h l r k =
+    let z : left ≡ 0 = omega arith in
+    (z, read-next c at xs (subst (λ (n : ℕ). Ahead c at n xs) z m) l r k)

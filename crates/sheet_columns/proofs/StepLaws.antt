@@ -70,8 +70,8 @@ module _ (c : List ℕ) (f : Filling) (p : Points)
           ended = λ e. absurd (true≢false (sym e));
         }
 
-    pub put-points : (xs : Content) → Ahead c (f .at) (f .left) xs → 0 < f .left → 0 < f .room → Filled c f out behind last
-    put-points xs m h k =
+    pub points-filled : (xs : Content) → Ahead c (f .at) (f .left) xs → 0 < f .left → 0 < f .room → Filled c f out behind last
+    points-filled xs m h k =
         let some = the-run xs m .some h k in (
           record { onward = λ e. omega arith; stays = λ e. absurd (true≢false (sym e)) },
           points-step,
@@ -107,8 +107,8 @@ module _ (c : List ℕ) (f : Filling) (out : List ℕ) (z : f .left ≡ 0) (i : 
             ended = λ e. absurd (true≢false (sym e));
           }
 
-      pub put-item : Filled c f out past last
-      put-item =
+      pub item-filled : Filled c f out past last
+      item-filled =
           (record { onward = λ e. omega (arith, next .wide); stays = λ e. absurd (true≢false (sym e)) }, item-step)
 
     -- it does not, and nothing is taken
@@ -133,29 +133,28 @@ module _ (c : List ℕ) (f : Filling) (out : List ℕ) (z : f .left ≡ 0) (i : 
             ended = λ e. subst (Ends (f .room)) (sym (t .all)) (ends-full (f .room) x (t .others) over);
           }
 
-      pub put-none : Filled c f out full out
-      put-none =
+      pub full-filled : Filled c f out full out
+      full-filled =
           let few = shown-within (item i) in
           (record { onward = λ e. absurd (true≢false e); stays = λ e. (refl, refl, omega (arith, cells)) }, full-step)
 
 -- a text that is entered: nothing of it is taken yet
-pub put-entered : (c : List ℕ) (f : Filling) (out : List ℕ) → f .left ≡ 0 → (w : ℕ) → TextNext c (f .at) w
+pub entered-filled : (c : List ℕ) (f : Filling) (out : List ℕ) → f .left ≡ 0 → (w : ℕ) → TextNext c (f .at) w
     → f .draft .used ≤ length out → Filled c f out (entered f w) out
 unfolding shown-all gather utf8s
-put-entered c f out z w next inside =
-    (
-      record { onward = λ e. omega arith; stays = λ e. absurd (true≢false (sym e)) },
-      λ xs m. record {
-        took = [];
-        after = xs;
-        ahead = next .then xs (subst (λ (n : ℕ). Ahead c (f .at) n xs) z m);
-        takes = refl;
-        leaves = refl;
-        cells = omega arith;
-        wrote = wrote-nothing inside;
-        ended = λ e. absurd (true≢false (sym e));
-      },
-    )
+entered-filled c f out z w next inside = (
+  record { onward = λ e. omega arith; stays = λ e. absurd (true≢false (sym e)) },
+  λ xs m. record {
+    took = [];
+    after = xs;
+    ahead = next .then xs (subst (λ (n : ℕ). Ahead c (f .at) n xs) z m);
+    takes = refl;
+    leaves = refl;
+    cells = omega arith;
+    wrote = wrote-nothing inside;
+    ended = λ e. absurd (true≢false (sym e));
+  },
+)
 
 -- one step behind others
 shown-then : (xs ys : Content) → shown-all (xs ++ ys) ≡ shown-all xs ++ shown-all ys
@@ -229,6 +228,9 @@ module _ (c : List ℕ) (begun : Filling) (out : List ℕ) (f : Filling) (last :
 
   pub goes : Going c f last
   goes = ((so-far .after, so-far .ahead), omega (arith, so-far .cells, going .1), so-far .wrote .inside)
+
+  pub room-kept : length last ≡ length out
+  room-kept = so-far .wrote .room
 
   -- one step more
   pub so-far-on : (r : Filling) (next : List ℕ) → Filled c f last r next → SoFar c begun out r next

@@ -21,6 +21,9 @@ const PASSES: usize = 10;
 const ROUNDS: usize = 40;
 const ROOM: usize = 8192;
 
+/// An output that every sheet fits.
+const SHEET_ROOM: usize = 20 * ROOM;
+
 /// An operation on a unit: the best times of proved, plain and tuned, in microseconds.
 struct Row {
     unit: &'static str,
@@ -56,6 +59,7 @@ fn measure(units: &[Unit], chains: &[Unit]) -> Vec<Row> {
         rows.extend(measure_parts(unit));
         rows.push(measure_set_target(unit));
         rows.extend(measure_targets(unit));
+        rows.push(measure_sheet(unit));
         rows.push(measure_job(unit));
     }
     rows.extend(chains.iter().map(measure_set_target));
@@ -123,6 +127,22 @@ fn measure_targets(unit: &Unit) -> [Row; 2] {
         || accepted(tuned::rewrite(table, b'S', *pair, b'S', tuned_out)),
     );
     [remove_target_row, rewrite_row]
+}
+
+/// The three sheets are equal too.
+fn measure_sheet(unit: &Unit) -> Row {
+    let table = &unit.table;
+    let (out, tuned_out) = (&mut vec![0; SHEET_ROOM], &mut vec![0; SHEET_ROOM]);
+    let measured = row(
+        unit,
+        "sheet",
+        || ok(xliff_desk::sheet(table, out)),
+        || second::sheet::sheet(table, SHEET_ROOM).is_ok(),
+        || accepted(tuned::sheet(table, tuned_out)),
+    );
+    let plain_out = second::sheet::sheet(table, SHEET_ROOM).expect("a valid unit");
+    assert!(out.starts_with(&plain_out) && out == tuned_out, "the sheets of {} differ", unit.name);
+    measured
 }
 
 fn measure_job(unit: &Unit) -> Row {

@@ -20,6 +20,7 @@ bool by_address_rewrite(slice *table, uint8_t side, uint16_t id, uint8_t form, s
                         size_t *value);
 bool by_address_read_xml(slice *xml, slice *out, uint8_t *number, size_t *value);
 bool by_address_write_xml(slice *table, slice *out, uint8_t *number, size_t *value);
+bool by_address_sheet(slice *table, slice *out, uint8_t *number, size_t *value);
 size_t by_address_job(slice *job, uint8_t *out);
 
 bool xliff_desk_check(const uint8_t *table, size_t length, uint8_t *number, size_t *value) {
@@ -71,4 +72,9 @@ bool xliff_desk_write_xml(const uint8_t *table, size_t length, uint8_t *out, siz
                           size_t *value) {
     slice lent = {table, length}, output = {out, room};
     return by_address_write_xml(&lent, &output, number, value);
+}
+
+bool xliff_desk_sheet(const uint8_t *table, size_t length, uint8_t *out, size_t room, uint8_t *number, size_t *value) {
+    slice lent = {table, length}, output = {out, room};
+    return by_address_sheet(&lent, &output, number, value);
 }

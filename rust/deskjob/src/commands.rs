@@ -7,8 +7,8 @@ use crate::job::{Job, Unit, ROOM};
 use crate::table::{set_in, texts};
 use crate::{lines, requests};
 
-/// Enough for every table's text: no record is spelled with 16 bytes for each of its own.
-const TEXT_ROOM: usize = 16 * ROOM;
+/// Enough for every table's text in XML and for its sheet: 16 and 20 bytes for each of its own.
+const TEXT_ROOM: usize = 20 * ROOM;
 
 /// What a command prints to standard output, and how it ends.
 #[derive(Clone, Debug, PartialEq, Eq)]
@@ -94,11 +94,25 @@ pub fn show(unit: &Unit) -> Shown {
 
 /// The table after the job's requests, as XML; where anything is refused, the answers.
 pub fn xml(job: &Job) -> Shown {
+    let mut shown = after_requests(job, xliff_desk::write_xml);
+    if shown.end == End::Accepted {
+        shown.text.push('\n');
+    }
+    shown
+}
+
+/// The review sheet of the table after the job's requests; where anything is refused, the answers.
+pub fn sheet(job: &Job) -> Shown {
+    after_requests(job, xliff_desk::sheet)
+}
+
+/// What the operation makes of the table after the job's requests.
+fn after_requests(job: &Job, operation: fn(&[u8], &mut [u8]) -> Answer) -> Shown {
     let (answers, table) = session(job);
     let Some(table) = table.filter(|_| answers.end == End::Accepted) else { return answers };
     let mut out = vec![0; TEXT_ROOM];
-    match xliff_desk::write_xml(&table, &mut out) {
-        Ok(length) => Shown::accepted(String::from_utf8_lossy(&out[..length]) + "\n"),
+    match operation(&table, &mut out) {
+        Ok(length) => Shown::accepted(String::from_utf8_lossy(&out[..length])),
         Err(refusal) => Shown::refused(format!("{refusal}\n")),
     }
 }

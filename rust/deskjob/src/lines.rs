@@ -19,6 +19,7 @@ pub fn answer(line: &str) -> Result<String, String> {
         "call" => call(words),
         "xmlread" => with_input(xliff_desk::read_xml, words),
         "xmlwrite" => with_input(xliff_desk::write_xml, words),
+        "sheet" => with_input(xliff_desk::sheet, words),
         _ => Err(format!("\"{operation}\" is no operation of the line protocol")),
     }
 }
@@ -46,7 +47,7 @@ fn call(words: &[&str]) -> Result<String, String> {
     Ok(with_output(ask(&request, &table, &mut out), &out))
 }
 
-/// `xmlread CAP X`, `xmlwrite CAP T`
+/// `xmlread CAP X`, `xmlwrite CAP T`, `sheet CAP T`
 fn with_input(operation: fn(&[u8], &mut [u8]) -> Answer, words: &[&str]) -> Result<String, String> {
     let [room, input] = exactly(words)?;
     let (mut out, input) = (lent(room)?, bytes(input)?);

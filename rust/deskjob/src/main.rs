@@ -7,20 +7,21 @@ use deskjob::commands::{self, End, Shown};
 use deskjob::job::{Job, Unit};
 
 const USAGE: &str = "\
-deskjob run JOB [REQUESTS]   run the requests, and show each answer and what it changed
-deskjob xml JOB [REQUESTS]   run the requests, and write the table after them as XML
-deskjob check JOB            check the unit; of a refused one, show what is blamed
-deskjob show JOB|HEX         show the unit's table, or one that the desk printed in hexadecimal
-deskjob lines                answer lines from standard input (line protocol: vectors/README.md)
-deskjob --help               show this text
+deskjob run JOB [REQUESTS]    run the requests, and show each answer and what it changed
+deskjob xml JOB [REQUESTS]    run the requests, and write the table after them as XML
+deskjob sheet JOB [REQUESTS]  run the requests, and print the review sheet of the table after them
+deskjob check JOB             check the unit; of a refused one, show what is blamed
+deskjob show JOB|HEX          show the unit's table, or one that the desk printed in hexadecimal
+deskjob lines                 answer lines from standard input (line protocol: vectors/README.md)
+deskjob --help                show this text
 
 JOB is a file with a job in notation, or with a unit in XML (its first byte that is no blank is <);
 REQUESTS is a file with requests in notation, which come behind those of the job. - is standard
 input. README.md has examples.
 
 Exit status: 0 if nothing is refused; 1 if the unit or a request is refused (standard output shows
-it; xml then writes no XML); 2 if the command, a file, the notation or a line cannot be read
-(standard error says why).
+it; xml then writes no XML, sheet no sheet); 2 if the command, a file, the notation or a line cannot
+be read (standard error says why).
 ";
 
 fn main() -> ExitCode {
@@ -48,6 +49,9 @@ fn command(words: &[&str]) -> Shown {
         ["--help" | "-h" | "help"] => Shown::accepted(USAGE),
         ["run", job, requests @ ..] if requests.len() < 2 => with_job(job, requests, commands::run),
         ["xml", job, requests @ ..] if requests.len() < 2 => with_job(job, requests, commands::xml),
+        ["sheet", job, requests @ ..] if requests.len() < 2 => {
+            with_job(job, requests, commands::sheet)
+        }
         ["check", job] => with_job(job, &[], commands::check),
         ["show", digits_or_job] => show(digits_or_job),
         ["lines"] => match read("-") {

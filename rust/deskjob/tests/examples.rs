@@ -9,6 +9,7 @@ const DOOR_XML: &str = include_str!("../examples/door.xml");
 const DOOR_REQUESTS: &str = include_str!("../examples/door-requests.txt");
 const DOOR_BROKEN_XML: &str = include_str!("../examples/door-broken.xml");
 const ACCENT: &str = include_str!("../examples/accent.txt");
+const REVIEW: &str = include_str!("../examples/review.txt");
 
 fn job(text: &str) -> Job {
     Job::read(text.into()).unwrap()
@@ -41,6 +42,8 @@ fn the_readme_is_true() {
     readme_has(&blamed.text);
     let Shown { text, .. } = commands::xml(&job("UN Y\nSG 1 - I\nTX \"A. B\"\nUE\n"));
     readme_has(&text);
+    readme_has(REVIEW);
+    readme_has(&commands::sheet(&job(REVIEW)).text);
 }
 
 /// Order 2 of document 02, here in the target alone.
@@ -109,4 +112,36 @@ fn the_table_is_written_as_xml() {
     let (_, after) = shown.split_once("the table:\n").unwrap();
     assert_eq!(commands::show(&self::job(&text).unit), Shown::accepted(after));
     assert_eq!(commands::xml(&self::job(&text)), Shown::accepted(text));
+}
+
+/// Order 5 of document 02. Code 14 does not fit the first row of the source; in the target the last
+/// letter does not, behind a blank that is its text's.
+#[test]
+fn the_review_sheet_is_printed() {
+    let expected = concat!(
+        "  1     5 T Door {11}: {12} s, door {13}:     Ovi {13}: {14} s, ovi {11}: {12} \n",
+        "            {14} s                            s                                \n",
+        "  2         .                                                                  \n",
+        "  3     6 R {15Warning:15} keep your hands of {15Varoitus:15} älä koske oviin. \n",
+        "            f the doors.                                                       \n",
+    );
+    assert_eq!(commands::sheet(&job(REVIEW)), Shown::accepted(expected));
+}
+
+/// Where a request is refused no sheet is printed, but the answers; so too of a refused unit.
+#[test]
+fn no_sheet_where_anything_is_refused() {
+    for refused in [with_requests(REVIEW, "RT 2\n"), job("UN Y\nUE\n")] {
+        assert_eq!(commands::sheet(&refused).end, End::Refused);
+        assert_eq!(commands::sheet(&refused), commands::xml(&refused));
+    }
+    let text = commands::sheet(&with_requests(REVIEW, "RT 2\n")).text;
+    assert!(text.starts_with("check: OK 249: accepted\n"), "{text}");
+    assert!(
+        text.ends_with(
+            "\nremove the target of part 2\nNO 20 0: no target, no complete pair or \
+        annotation of that id, or already so\n"
+        ),
+        "{text}"
+    );
 }

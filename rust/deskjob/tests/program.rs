@@ -46,13 +46,17 @@ fn accepted_is_0_and_refused_is_1() {
     assert_eq!(status(&["show", "5545"], ""), 0);
     assert_eq!(status(&["lines"], "check 554E59534700012D495545\n"), 0);
     assert_eq!(status(&["lines"], "xmlwrite 200 554E59534700012D495545\n"), 0);
+    assert_eq!(status(&["lines"], "sheet 80 554E59534700012D495545\n"), 0);
+    assert_eq!(status(&["sheet", "-"], ACCEPTED), 0);
+    assert_eq!(status(&["sheet", "-"], REFUSED), 1);
+    assert_eq!(status(&["sheet", example!("review.txt")], ""), 0);
     // a refusal is an answer like others
     assert_eq!(status(&["lines"], "check -\n"), 0);
 }
 
 #[test]
 fn units_in_xml_are_0_and_1_too() {
-    for command in ["check", "run", "show", "xml"] {
+    for command in ["check", "run", "show", "xml", "sheet"] {
         assert_eq!(status(&[command, "-"], UNIT), 0, "{command}");
         assert_eq!(status(&[command, "-"], "<unit id=\"1\"/>"), 1, "{command}");
         assert_eq!(status(&[command, "-"], "<unit id=\"1\""), 1, "{command}");
@@ -63,7 +67,7 @@ fn units_in_xml_are_0_and_1_too() {
     assert_eq!(status(&["show", example!("door.txt")], ""), 0);
     // three requests, the first refused
     let requests = example!("door-requests.txt");
-    for command in ["run", "xml"] {
+    for command in ["run", "xml", "sheet"] {
         assert_eq!(status(&[command, example!("door.xml"), requests], ""), 1);
         assert_eq!(status(&[command, example!("door.xml"), "-"], "ST 1 I\n"), 1);
         assert_eq!(status(&[command, "-", "/dev/null"], UNIT), 0);
@@ -79,6 +83,15 @@ fn xml_is_written_with_a_line_feed() {
     assert_eq!(stdout, written.as_bytes());
 }
 
+/// The rows as they are, and no line behind them.
+#[test]
+fn a_sheet_is_its_rows() {
+    let row = "  1     1 I                                                                    \n";
+    for input in [ACCEPTED, UNIT] {
+        assert_eq!(deskjob(&["sheet", "-"], input).stdout, row.as_bytes());
+    }
+}
+
 #[test]
 fn what_cannot_be_read_is_2() {
     assert_eq!(status(&[], ""), 2);
@@ -86,6 +99,8 @@ fn what_cannot_be_read_is_2() {
     assert_eq!(status(&["run"], ACCEPTED), 2);
     assert_eq!(status(&["run", "-", "-"], ACCEPTED), 2);
     assert_eq!(status(&["run", "-", "-", "-"], ACCEPTED), 2);
+    assert_eq!(status(&["sheet"], ACCEPTED), 2);
+    assert_eq!(status(&["sheet", "-", "-"], ACCEPTED), 2);
     assert_eq!(status(&["check", "-", example!("door-requests.txt")], UNIT), 2);
     // records behind the unit, in either form
     assert_eq!(status(&["run", "-", example!("door.txt")], ACCEPTED), 2);
@@ -113,7 +128,7 @@ fn help_goes_to_standard_output() {
         let Output { status, stdout, stderr } = deskjob(&[word], "");
         assert_eq!((status.code(), stderr.is_empty()), (Some(0), true));
         let help = String::from_utf8(stdout).unwrap();
-        for said in ["run", "xml", "check", "show", "lines", "--help"] {
+        for said in ["run", "xml", "sheet", "check", "show", "lines", "--help"] {
             let said = format!("deskjob {said} ");
             assert!(help.contains(&said), "{said} is missing in: {help}");
         }

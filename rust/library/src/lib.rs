@@ -2,9 +2,10 @@
 //! documents 01 and 02; nothing here repeats one.
 //!
 //! Each operation takes a table's bytes and writes its result at the head of `out`; [`read_xml`]
-//! takes a unit in XML and gives its table, [`write_xml`] a table and gives its unit in XML. Accepted:
-//! the result's length, and the bytes of `out` behind it are as they were. Refused: a
-//! [`Refusal`], and all of `out` is as it was. Any bytes of any length get an answer.
+//! takes a unit in XML and gives its table, [`write_xml`] a table and gives its unit in XML,
+//! [`sheet`] a table and gives its review sheet. Accepted: the result's length, and the bytes of
+//! `out` behind it are as they were. Refused: a [`Refusal`], and all of `out` is as it was. Any
+//! bytes of any length get an answer.
 //!
 //! ```
 //! // UN Y, SG 1 - I, TX "A. B", UE
@@ -218,6 +219,38 @@ pub fn write_xml(table: &[u8], out: &mut [u8]) -> Answer {
     answer(|number, value| unsafe {
         let (to, room) = (out.as_mut_ptr(), out.len());
         raw::xliff_desk_write_xml(table.as_ptr(), table.len(), to, room, number, value)
+    })
+}
+
+/// Lays a table's unit out as a review sheet: rows of 79 cells, each with a line feed behind it.
+/// They show a part's position, id, state, source and target in columns of 3, 5, 1, 33 and 33 cells,
+/// one blank between two. A source or target that is longer goes on in further rows. An output of
+/// 20 times the table's length is enough.
+///
+/// ```
+/// // SG 7 - T, TX "Floor " and PH 9, translated: TX "Stock " and PH 9
+/// let table = [
+///     b"UNYSG\0\x07-TTX\0\x06Floor PH\0\x09\0\0\0\0YY-Y".as_slice(),
+///     b"TG\0\x01TX\0\x06Stock PH\0\x09\0\0\0\0YY-YUE",
+/// ]
+/// .concat();
+/// let mut out = [0; 80];
+/// let length = xliff_desk::sheet(&table, &mut out)?;
+/// let row = "  1     7 T Floor {9}                         Stock {9}                        \n";
+/// assert_eq!(&out[..length], row.as_bytes());
+/// # Ok::<(), xliff_desk::Refusal>(())
+/// ```
+pub fn sheet(table: &[u8], out: &mut [u8]) -> Answer {
+    // Why 20 times is enough: a row has 80 bytes, and what characters have beyond one byte each.
+    // - The first row of a part: its SG or IG has at least 4 bytes, and 20 times 4 is 80.
+    // - A later row: in the column that needs it, the row before had no place for an item of at
+    //   most 7 cells, so that at least 27 of its cells are taken. No item has more than 6 cells for
+    //   4 bytes (an annotation's end, id of five digits), so these are at least 18 bytes of the
+    //   content: less than 5 bytes of the row for each.
+    // - Characters: less than 1 more for each byte of a text.
+    answer(|number, value| unsafe {
+        let (to, room) = (out.as_mut_ptr(), out.len());
+        raw::xliff_desk_sheet(table.as_ptr(), table.len(), to, room, number, value)
     })
 }
 

@@ -85,6 +85,15 @@ extern "C" {
         value: *mut usize,
     ) -> bool;
 
+    pub fn xliff_desk_sheet(
+        table: *const u8,
+        length: usize,
+        out: *mut u8,
+        room: usize,
+        number: *mut u8,
+        value: *mut usize,
+    ) -> bool;
+
     /// `out` is an array of 1,048,576 bytes.
     pub fn xliff_desk_job(job: *const u8, length: usize, out: *mut u8) -> usize;
 }

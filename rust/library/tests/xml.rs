@@ -4,7 +4,7 @@
 mod common;
 
 use second::generate::{
-    deep_unit, valid_unit, xml_job, xml_neighbours, Random, XmlJob, XmlOperation, ENOUGH,
+    deep_unit, valid_unit, xml_job, xml_neighbours, LineOperation, Random, XmlJob, ENOUGH,
 };
 use second::xml::unit_of;
 use second::MOST_BYTES;
@@ -21,8 +21,8 @@ fn compare(job: &XmlJob, room: usize) {
     let XmlJob { input, .. } = job;
     let operation = job.operation();
     let call = |out: &mut [u8]| match operation {
-        XmlOperation::Read => read_xml(input, out),
-        XmlOperation::Write => write_xml(input, out),
+        LineOperation::ReadXml => read_xml(input, out),
+        _ => write_xml(input, out),
     };
     let context = || format!("{} {}", operation.word(), input.escape_ascii());
     common::compare(call, operation.run(input, room), room, context);
@@ -32,8 +32,8 @@ fn compare(job: &XmlJob, room: usize) {
 /// far from it.
 fn rooms(job: &XmlJob) -> Vec<usize> {
     let needed = match job.operation() {
-        XmlOperation::Read => unit_of(&job.input).map(|unit| unit.write().len()).ok(),
-        XmlOperation::Write => job.operation().run(&job.input, ENOUGH).map(|text| text.len()).ok(),
+        LineOperation::ReadXml => unit_of(&job.input).map(|unit| unit.write().len()).ok(),
+        operation => operation.run(&job.input, ENOUGH).map(|text| text.len()).ok(),
     };
     let mut rooms = vec![0, job.room, ENOUGH];
     rooms.extend(needed.map_or(vec![], |length| vec![length - 1, length, length + 1]));

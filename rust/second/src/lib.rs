@@ -10,6 +10,7 @@ pub mod operations;
 pub mod record;
 pub mod rejoin;
 pub mod rules;
+pub mod sheet;
 pub mod table;
 pub mod tally;
 pub mod xml;

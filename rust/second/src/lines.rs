@@ -3,6 +3,7 @@
 use crate::desk::{desk, from_hexadecimal, hexadecimal, read_request};
 use crate::operations::Outcome;
 use crate::rules::check;
+use crate::sheet::sheet;
 use crate::xml::{read_xml, write_xml};
 use crate::Refusal;
 
@@ -18,6 +19,7 @@ pub fn answer(line: &str) -> Option<String> {
         ["call", room, table, request] => call(number(room)?, &bytes(table)?, &bytes(request)?),
         ["xmlread", room, text] => answered(read_xml(&bytes(text)?, number(room)?)),
         ["xmlwrite", room, table] => answered(write_xml(&bytes(table)?, number(room)?)),
+        ["sheet", room, table] => answered(sheet(&bytes(table)?, number(room)?)),
         _ => return None,
     })
 }

@@ -1,6 +1,8 @@
 //! `differential lines` against programs that answer right, wrong or not at all. The one that
 //! answers right is `answers`, which is the second implementation itself.
 
+use std::fs::Permissions;
+use std::os::unix::fs::PermissionsExt;
 use std::path::Path;
 use std::process::{Command, Output};
 
@@ -19,7 +21,9 @@ fn right_answers_pass() {
     let printed = printed(&output);
     assert!(output.status.success(), "{printed}");
     assert!(printed.ends_with(" passed, 0 failed\n"), "{printed}");
-    assert!(printed.contains("valid units in any spelling"), "{printed}");
+    for kind in ["valid units in any spelling", "contents of about 33 cells"] {
+        assert!(printed.contains(kind), "{printed}");
+    }
 }
 
 #[test]
@@ -35,6 +39,20 @@ fn wrong_and_missing_answers_fail() {
         assert!(printed.starts_with("DIFFERENCE in XML job 0 of seed "), "{printed}");
         assert!(printed.ends_with("0 passed, 1 failed\n"), "{printed}");
     }
+}
+
+/// A program that is wrong in sheets alone: `answers`, with another first cell for each.
+#[test]
+fn wrong_sheets_fail() {
+    let script = Path::new(env!("CARGO_TARGET_TMPDIR")).join("wrong_sheets");
+    let (answers, change) = (env!("CARGO_BIN_EXE_answers"), r"s/^\(OK [0-9]* \)2020/\12E20/");
+    std::fs::write(&script, format!("#!/bin/sh\n'{answers}' | sed '{change}'\n")).unwrap();
+    std::fs::set_permissions(&script, Permissions::from_mode(0o755)).unwrap();
+    let output = differential(script.to_str().unwrap(), &["--jobs", "100"]);
+    let printed = printed(&output);
+    assert_eq!(output.status.code(), Some(1), "{printed}");
+    assert!(printed.contains("\nDIFFERENCE in review sheet "), "{printed}");
+    assert!(printed.ends_with(" passed, 1 failed\n"), "{printed}");
 }
 
 #[test]

@@ -1,24 +1,41 @@
-//! Every line of `vectors/after-04.txt`, answered by the second implementation: a third opinion
-//! beside the proved desk.
+//! Every line of `vectors/after-05.txt` and `vectors/chains.txt`, answered by the second
+//! implementation: a third opinion beside the proved desk.
 
 use std::collections::BTreeMap;
 
 use second::lines::answer;
 
-#[test]
-fn the_vectors_are_answered() {
-    let path = concat!(env!("CARGO_MANIFEST_DIR"), "/../../vectors/after-04.txt");
+/// How many lines of each operation the file has; each must be answered as it says.
+fn answered(name: &str) -> BTreeMap<String, usize> {
+    let path = format!("{}/../../vectors/{name}", env!("CARGO_MANIFEST_DIR"));
     let file = std::fs::read_to_string(path).expect("the file of vectors");
-    let mut lines: BTreeMap<&str, usize> = BTreeMap::new();
+    let mut lines = BTreeMap::new();
     for line in file.lines() {
         let (asked, expected) = line.split_once(" = ").expect("a line with its answer");
         assert_eq!(answer(asked).as_deref(), Some(expected), "{asked}");
-        *lines.entry(asked.split(' ').next().unwrap_or_default()).or_default() += 1;
+        let operation = asked.split(' ').next().unwrap_or_default();
+        *lines.entry(operation.to_string()).or_default() += 1;
     }
     println!("{lines:?}");
-    for (operation, least) in
-        [("check", 25), ("job", 120), ("call", 342), ("xmlread", 25), ("xmlwrite", 25)]
-    {
+    lines
+}
+
+#[test]
+fn the_vectors_are_answered() {
+    let lines = answered("after-05.txt");
+    for (operation, least) in [
+        ("check", 25),
+        ("job", 25),
+        ("call", 25),
+        ("xmlread", 25),
+        ("xmlwrite", 25),
+        ("sheet", 336),
+    ] {
         assert!(lines.get(operation) >= Some(&least), "too few lines of {operation}");
     }
+}
+
+#[test]
+fn set_targets_of_order_4_are_answered() {
+    assert!(answered("chains.txt").get("call") >= Some(&250));
 }

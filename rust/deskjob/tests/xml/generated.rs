@@ -3,7 +3,7 @@
 
 use std::collections::BTreeMap;
 
-use second::generate::{xml_job, xml_neighbours, Random, XmlJob, XmlOperation};
+use second::generate::{xml_job, xml_neighbours, LineOperation, Random, XmlJob};
 use second::xml::{unit_of, Reason};
 
 use super::*;
@@ -59,7 +59,7 @@ fn words_of(reason: Reason) -> &'static [&'static str] {
 /// How often each reason was told.
 fn compare(jobs: impl Iterator<Item = XmlJob>) -> BTreeMap<Reason, usize> {
     let mut reasons = BTreeMap::new();
-    for job in jobs.filter(|job| job.operation() == XmlOperation::Read) {
+    for job in jobs.filter(|job| job.operation() == LineOperation::ReadXml) {
         let Err(fault) = unit_of(&job.input) else { continue };
         let lines = told(&job.input);
         let [place, wrong] = &lines[..] else { panic!("{lines:?}") };

@@ -32,15 +32,15 @@ fn cuts_of(table: &[u8]) -> Vec<Vec<u8>> {
     jobs
 }
 
-fn text(text: &str) -> Vec<u8> {
+pub fn text(text: &str) -> Vec<u8> {
     let mut record = b"TX".to_vec();
     record.extend((text.len() as u16).to_be_bytes());
     record.extend(text.as_bytes());
     record
 }
 
-fn code(mark: &[u8; 2], id: u8, letters: &[u8; 4]) -> Vec<u8> {
-    [mark.as_slice(), &[0, id, 0, 0, 0, 0], letters].concat()
+pub fn code(mark: &[u8; 2], id: u16, letters: &[u8; 4]) -> Vec<u8> {
+    [mark.as_slice(), &id.to_be_bytes(), &[0, 0, 0, 0], letters].concat()
 }
 
 fn segment(id: u8) -> Vec<u8> {

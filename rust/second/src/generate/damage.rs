@@ -1,7 +1,26 @@
 //! Bytes that are no table, or hardly one.
 
+use super::limits::at_limit;
+use super::mutations::table_refused_by;
 use super::random::Random;
 use super::unit::{raw_records, valid_table};
+use crate::desk::table_length;
+
+/// A table that the check refuses, mostly by a chosen rule; of those at a limit it accepts some.
+pub fn refused_table(random: &mut Random) -> Vec<u8> {
+    match random.below(10) {
+        0 => damaged(random),
+        1 | 2 => {
+            let mut job = at_limit(random);
+            job.truncate(table_length(&job));
+            job
+        }
+        _ => {
+            let number = *random.pick(&[2, 3, 5, 6, 7, 8, 9, 10]);
+            table_refused_by(random, number)
+        }
+    }
+}
 
 pub fn damaged(random: &mut Random) -> Vec<u8> {
     let mut table = valid_table(random);

@@ -6,11 +6,13 @@ mod cuts;
 mod damage;
 mod inline;
 mod limits;
+mod line_job;
 mod mutations;
 mod random;
 mod rejoin;
 mod requests;
 mod set_target;
+mod sheet;
 mod source;
 mod target;
 mod unit;
@@ -19,12 +21,13 @@ mod xml;
 use crate::rules::check;
 
 pub use cuts::every_cut;
+pub use line_job::{LineJob, LineKind, LineOperation, ENOUGH};
 pub use random::Random;
 pub use rejoin::splits_undone;
+pub use sheet::{sheet_edges, sheet_job, SheetJob, SheetKind};
 pub use unit::{drafted, valid_table};
 pub use xml::{
-    deep_unit, spelled_unit, valid_unit, xml_job, xml_neighbours, XmlJob, XmlKind, XmlOperation,
-    ENOUGH, SMALL_TEXT,
+    deep_unit, spelled_unit, valid_unit, xml_job, xml_neighbours, XmlJob, XmlKind, SMALL_TEXT,
 };
 
 #[derive(Clone, Copy, Debug, PartialEq, Eq)]
@@ -75,15 +78,7 @@ pub const SEED: u64 = 20_260_101;
 /// The job of this seed and number.
 pub fn job(seed: u64, number: u64) -> (Kind, Vec<u8>) {
     let random = &mut Random::of_job(seed, number);
-    let mut left = random.below(100);
-    let mut kind = Kind::Valid;
-    for (candidate, share) in Kind::ALL.into_iter().zip(Kind::SHARES) {
-        kind = candidate;
-        if left < share {
-            break;
-        }
-        left -= share;
-    }
+    let kind = random.by_share(&Kind::ALL, &Kind::SHARES);
     (kind, job_of_kind(random, kind))
 }
 

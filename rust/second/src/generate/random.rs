@@ -43,6 +43,18 @@ impl Random {
         *self.pick(choices)
     }
 
+    /// One of the choices, each with its share of a hundred.
+    pub fn by_share<T: Copy>(&mut self, choices: &[T], shares: &[usize]) -> T {
+        let mut left = self.below(100);
+        for (choice, share) in choices.iter().zip(shares) {
+            if left < *share {
+                return *choice;
+            }
+            left -= share;
+        }
+        panic!("the shares are less than a hundred");
+    }
+
     /// A number up to `most`, often small.
     pub fn number(&mut self, most: u16) -> u16 {
         let number = match self.below(10) {
@@ -76,6 +88,20 @@ impl Ids {
             let id = 1 + random.below(range) as u16;
             if self.used.insert(id) {
                 return id;
+            }
+        }
+    }
+
+    /// One to five digits, each as often; seldom the greatest.
+    pub fn fresh_of_any_width(&mut self, random: &mut Random) -> u16 {
+        loop {
+            let least = *random.pick(&[1, 10, 100, 1_000, 10_000]);
+            let id = match random.below(50) {
+                0 => 65_535,
+                _ => least + random.below((10 * least).min(65_536) - least),
+            };
+            if self.used.insert(id as u16) {
+                return id as u16;
             }
         }
     }

@@ -6,7 +6,7 @@ use super::source::source;
 use super::target::targets;
 use crate::record::record_length;
 use crate::rules::check;
-use crate::table::{Part, PartKind, Target, Unit};
+use crate::table::{Part, PartKind, Placed, Target, Unit};
 
 /// The records of a table, each as its bytes.
 pub type RawRecords = Vec<Vec<u8>>;
@@ -18,6 +18,11 @@ pub fn valid_table(random: &mut Random) -> Vec<u8> {
         3..=40 => 1 + random.below(3),
         _ => 1 + random.below(8),
     };
+    valid_table_of(random, parts)
+}
+
+/// A valid table of so many parts.
+pub fn valid_table_of(random: &mut Random, parts: usize) -> Vec<u8> {
     loop {
         if let Some(table) = repaired(drafted(random, parts).write()) {
             return table;
@@ -45,6 +50,14 @@ pub fn drafted(random: &mut Random, parts: usize) -> Unit {
         unit.parts.push(Part { offset: 0, id, kind, source: placed(content), target });
     }
     unit
+}
+
+/// The contents of these parts, sources and targets.
+pub fn contents(parts: &mut [Part]) -> impl Iterator<Item = &mut Vec<Placed>> {
+    parts.iter_mut().flat_map(|part| {
+        let target = part.target.as_mut().map(|target| &mut target.content);
+        std::iter::once(&mut part.source).chain(target)
+    })
 }
 
 /// The table with the records at fault taken out one by one (an overlap is allowed instead)

@@ -6,8 +6,8 @@ use std::io::Write;
 use std::process::{Child, Command, Stdio};
 
 use second::desk::hexadecimal;
-use second::generate::{deep_unit, valid_unit, xml_job, xml_neighbours, XmlOperation};
-use second::generate::{Random, ENOUGH};
+use second::generate::{deep_unit, valid_unit, xml_job, xml_neighbours};
+use second::generate::{LineOperation, Random, ENOUGH};
 use second::xml::{unit_of, Reason};
 
 use super::events::events;
@@ -111,7 +111,7 @@ fn by_xml(text: &[u8]) -> Option<&'static str> {
 #[test]
 fn expat_takes_what_is_xml() {
     let generated = (0..JOBS).map(|number| xml_job(SEED, number));
-    let texts = generated.filter(|job| job.operation() == XmlOperation::Read);
+    let texts = generated.filter(|job| job.operation() == LineOperation::ReadXml);
     let mut lines = Vec::new();
     for job in texts.chain(xml_neighbours()) {
         // The empty text has no word of its own in a line.

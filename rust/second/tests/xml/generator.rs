@@ -4,8 +4,8 @@
 use std::collections::BTreeMap;
 
 use second::generate::{
-    spelled_unit, valid_unit, xml_job, xml_neighbours, Random, XmlJob, XmlKind, XmlOperation,
-    SMALL_TEXT,
+    spelled_unit, valid_unit, xml_job, xml_neighbours, LineKind, LineOperation, Random, XmlJob,
+    XmlKind, SMALL_TEXT,
 };
 use second::xml::{unit_of, Reason};
 
@@ -53,12 +53,12 @@ impl Tally {
         *self.kinds.entry(job.kind).or_default() += 1;
         let number = job.outcome().map_or_else(|refusal| refusal.number, |_| 0);
         let answers = match job.operation() {
-            XmlOperation::Read => &mut self.read,
-            XmlOperation::Write => &mut self.written,
+            LineOperation::ReadXml => &mut self.read,
+            _ => &mut self.written,
         };
         *answers.entry(number).or_default() += 1;
         let fault = unit_of(&job.input).err();
-        if let Some(fault) = fault.filter(|_| job.operation() == XmlOperation::Read) {
+        if let Some(fault) = fault.filter(|_| job.operation() == LineOperation::ReadXml) {
             *self.reasons.entry(fault.reason).or_default() += 1;
         }
     }
@@ -70,9 +70,9 @@ fn every_kind_answer_and_reason_occurs() {
     (0..JOBS).for_each(|number| tally.count(&xml_job(SEED, number)));
     let Tally { kinds, read, written, reasons } = tally;
     println!("{kinds:?}\nread {read:?}\nwritten {written:?}\n{reasons:?}");
-    for (kind, share) in XmlKind::ALL.into_iter().zip(XmlKind::SHARES) {
+    for (kind, share) in XmlKind::ALL.iter().zip(XmlKind::SHARES) {
         let least = JOBS as usize * share / 100 / 2;
-        assert!(kinds.get(&kind) >= Some(&least), "too few: {}", kind.name());
+        assert!(kinds.get(kind) >= Some(&least), "too few: {}", kind.name());
     }
     let share = |answers: &BTreeMap<u16, usize>, number: u16| {
         100 * answers.get(&number).copied().unwrap_or(0) / answers.values().sum::<usize>()

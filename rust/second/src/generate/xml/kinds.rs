@@ -1,31 +1,6 @@
-//! The kinds of XML jobs, and a job's parts.
+//! The kinds of XML jobs.
 
-use crate::lines::{answered, in_digits};
-use crate::operations::Outcome;
-use crate::xml::{read_xml, write_xml};
-
-#[derive(Clone, Copy, Debug, PartialEq, Eq)]
-pub enum XmlOperation {
-    Read,
-    Write,
-}
-
-impl XmlOperation {
-    /// Its word in the line protocol.
-    pub fn word(self) -> &'static str {
-        match self {
-            XmlOperation::Read => "xmlread",
-            XmlOperation::Write => "xmlwrite",
-        }
-    }
-
-    pub fn run(self, input: &[u8], room: usize) -> Outcome {
-        match self {
-            XmlOperation::Read => read_xml(input, room),
-            XmlOperation::Write => write_xml(input, room),
-        }
-    }
-}
+use crate::generate::{LineKind, LineOperation};
 
 #[derive(Clone, Copy, Debug, PartialEq, Eq, PartialOrd, Ord)]
 pub enum XmlKind {
@@ -41,8 +16,8 @@ pub enum XmlKind {
     WrittenDeep,
 }
 
-impl XmlKind {
-    pub const ALL: [XmlKind; 10] = [
+impl LineKind for XmlKind {
+    const ALL: &'static [XmlKind] = &[
         XmlKind::Spelled,
         XmlKind::RuleBroken,
         XmlKind::Changed,
@@ -55,10 +30,9 @@ impl XmlKind {
         XmlKind::WrittenDeep,
     ];
 
-    /// How many jobs of a hundred, in the sequence of `ALL`.
-    pub const SHARES: [usize; 10] = [24, 8, 20, 10, 10, 5, 3, 10, 6, 4];
+    const SHARES: &'static [usize] = &[24, 8, 20, 10, 10, 5, 3, 10, 6, 4];
 
-    pub fn name(self) -> &'static str {
+    fn name(self) -> &'static str {
         match self {
             XmlKind::Spelled => "valid units in any spelling",
             XmlKind::RuleBroken => "units that break a rule",
@@ -73,41 +47,12 @@ impl XmlKind {
         }
     }
 
-    pub fn operation(self) -> XmlOperation {
+    fn operation(self) -> LineOperation {
         match self {
             XmlKind::Written | XmlKind::WrittenRefused | XmlKind::WrittenDeep => {
-                XmlOperation::Write
+                LineOperation::WriteXml
             }
-            _ => XmlOperation::Read,
+            _ => LineOperation::ReadXml,
         }
-    }
-}
-
-/// A text to read or a table to write, with the length of the lent output.
-#[derive(Clone, Debug)]
-pub struct XmlJob {
-    pub kind: XmlKind,
-    pub room: usize,
-    pub input: Vec<u8>,
-}
-
-impl XmlJob {
-    pub fn operation(&self) -> XmlOperation {
-        self.kind.operation()
-    }
-
-    /// The second implementation's answer.
-    pub fn outcome(&self) -> Outcome {
-        self.operation().run(&self.input, self.room)
-    }
-
-    /// The job as a line of the line protocol.
-    pub fn line(&self) -> String {
-        format!("{} {} {}", self.operation().word(), self.room, in_digits(&self.input))
-    }
-
-    /// The second implementation's answer as a line: `OK n HEX` or `NO number place`.
-    pub fn answer(&self) -> String {
-        answered(self.outcome())
     }
 }

@@ -8,39 +8,28 @@ mod neighbours;
 mod spelling;
 mod units;
 
-use super::damage::damaged;
-use super::limits::at_limit;
-use super::mutations::table_refused_by;
+use super::damage::refused_table;
+use super::line_job::{room, LineJob, LineKind, LineOperation, ENOUGH};
 use super::random::Random;
-use crate::desk::table_length;
 use crate::table::Unit;
 use crate::xml::{unit_of, write_xml};
 use crate::MOST_BYTES;
 
 use document::Piece;
 
-pub use kinds::{XmlJob, XmlKind, XmlOperation};
+pub use kinds::XmlKind;
 pub use neighbours::{xml_neighbours, SMALL_TEXT};
 pub use units::{deep_unit, valid_unit};
 
-/// An output that every written text fits: at most 682 codes, of less than 140 bytes each as a tag,
-/// and 64 parts.
-pub const ENOUGH: usize = 100_000;
+/// A text to read or a table to write.
+pub type XmlJob = LineJob<XmlKind>;
 
 /// The XML job of this seed and number.
 pub fn xml_job(seed: u64, number: u64) -> XmlJob {
     let random = &mut Random::of_job(seed, number);
-    let mut left = random.below(100);
-    let mut kind = XmlKind::Spelled;
-    for (candidate, share) in XmlKind::ALL.into_iter().zip(XmlKind::SHARES) {
-        kind = candidate;
-        if left < share {
-            break;
-        }
-        left -= share;
-    }
+    let kind = random.by_share(XmlKind::ALL, XmlKind::SHARES);
     let input = input_of_kind(random, kind);
-    let room = room(random, kind.operation(), &input);
+    let room = room_for(random, kind.operation(), &input);
     XmlJob { kind, room, input }
 }
 
@@ -112,37 +101,15 @@ fn any_text(random: &mut Random) -> Vec<u8> {
     spelled_unit(random, &unit)
 }
 
-fn refused_table(random: &mut Random) -> Vec<u8> {
-    match random.below(10) {
-        0 => damaged(random),
-        1 | 2 => {
-            let mut job = at_limit(random);
-            job.truncate(table_length(&job));
-            job
-        }
-        _ => {
-            let number = *random.pick(&[2, 3, 5, 6, 7, 8, 9, 10]);
-            table_refused_by(random, number)
-        }
-    }
-}
-
 /// The length of the output: enough, or about what the result needs.
-fn room(random: &mut Random, operation: XmlOperation, input: &[u8]) -> usize {
-    let enough = match operation {
-        XmlOperation::Read => *random.pick(&[MOST_BYTES, MOST_BYTES, MOST_BYTES + 1, 65535]),
-        XmlOperation::Write => ENOUGH,
-    };
-    let needed = match operation {
+fn room_for(random: &mut Random, operation: LineOperation, input: &[u8]) -> usize {
+    let (enough, needed) = match operation {
         // The table read, kept by the rules or not.
-        XmlOperation::Read => unit_of(input).map_or(100, |unit| unit.write().len()),
-        XmlOperation::Write => write_xml(input, enough).map_or(100, |text| text.len()),
+        LineOperation::ReadXml => (
+            *random.pick(&[MOST_BYTES, MOST_BYTES, MOST_BYTES + 1, 65535]),
+            unit_of(input).map_or(100, |unit| unit.write().len()),
+        ),
+        _ => (ENOUGH, write_xml(input, ENOUGH).map_or(100, |text| text.len())),
     };
-    match random.below(12) {
-        0 => needed - 1,
-        1 | 2 => needed,
-        3 => needed + 1,
-        4 => *random.pick(&[0, 1, needed / 2, needed.saturating_sub(7)]),
-        _ => enough,
-    }
+    room(random, needed, enough)
 }

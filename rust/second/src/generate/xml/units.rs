@@ -4,7 +4,7 @@
 use crate::generate::inline::{annotation, character, code, text};
 use crate::generate::mutations::table_refused_by;
 use crate::generate::random::{Ids, Random};
-use crate::generate::unit::valid_table;
+use crate::generate::unit::{contents, valid_table};
 use crate::operations::content::gather;
 use crate::record::Inline;
 use crate::rules::check;
@@ -37,16 +37,9 @@ pub fn valid_unit(random: &mut Random) -> Unit {
     let table = valid_table(random);
     let unit = check(&table).expect("a valid table");
     let mut changed = unit.clone();
-    contents(&mut changed).for_each(|content| change_texts(random, content));
+    contents(&mut changed.parts).for_each(|content| change_texts(random, content));
     // Longer texts may pass the limit of bytes.
     check(&changed.write()).unwrap_or(unit)
-}
-
-fn contents(unit: &mut Unit) -> impl Iterator<Item = &mut Vec<Placed>> {
-    unit.parts.iter_mut().flat_map(|part| {
-        let target = part.target.as_mut().map(|target| &mut target.content);
-        std::iter::once(&mut part.source).chain(target)
-    })
 }
 
 fn change_texts(random: &mut Random, content: &mut [Placed]) {
