@@ -10,7 +10,8 @@ use Rattle.xliff.specs.Unit.{Head, target-items, Part}
 use Rattle.xliff.specs.Encode as encode
 use Rattle.xliff.specs.Encode.{closing, part-head, record-bytes, content-records, target-records, part-records, spell}
 use Rattle.xliff.specs.Parse.{is-part, is-broken}
-use Rattle.xliff.specs.Good.{each-cons, GoodHead, GoodRecord, AllGood}
+use Rattle.xliff.specs.Good.{GoodHead}
+use Rattle.xliff.proofs.lists.Each.{each-apart}
 use Rattle.places.specs.Offsets.{At}
 use Rattle.places.proofs.Places.{Next, at-next}
 use Rattle.table.specs.Known.{Known}
@@ -48,9 +49,6 @@ margin-read n cs (Good (Inline i) w) h e out draft last x m = absurd (false≢tr
 margin-read n cs Ill h e out draft last x m = absurd (false≢true (ap is-part e))
 margin-read n cs (Broken b) h e out draft last x m = absurd (true≢false (ap is-broken e))
 
-good-first : {r : encode.Record} {rs : List encode.Record} → AllGood (r ∷ rs) → GoodRecord r
-good-first (each-cons g a) = g
-
 -- nothing is a content of no items
 holds-nothing : (t : List ℕ) (end start : ℕ) → start ≡ end → Holds (take (end - start) (drop start t)) []
 unfolding content-records spell gather
@@ -82,8 +80,8 @@ module _ (t : List ℕ) (b : List Part) (p : Part) (a : List Part) (place : Part
         length-take (place .end - place .head) (drop (place .head) t),
       )
 
-  pub part-good : GoodHead (p .head)
-  part-good = good-first (there .good)
+  part-good : GoodHead (p .head)
+  part-good = each-apart [] (part-head (p .head)) others (there .good) .1
 
   -- what `walker::known_at` finds there
   head-read : (r : Read) → Known (drop (place .head) t) r
@@ -105,34 +103,36 @@ module _ (t : List ℕ) (b : List Part) (p : Part) (a : List Part) (place : Part
     pub target-fits : TargetFits place
     target-fits e = target-there t h b p a place s e .ordered
 
-    -- the target's from `start` on
+    -- the target's: the bytes from `start` on
     module _ (start : ℕ) (is : TargetStart place start) where
-      abbrev from-start : ℕ → List ℕ
-      from-start n = take (place .end - n) (drop n t)
+      abbrev target-from : ℕ → List ℕ
+      target-from n = take (place .end - n) (drop n t)
 
       abbrev Held : Type 0
-      Held = (start ≤ place .end) × Holds (from-start start) (target-items (p .target))
+      Held = (start ≤ place .end) × Holds (target-from start) (target-items (p .target))
 
+      -- there is one, or there is none
       held-by : (has : Bool) → place .«has_target» ≡ has → Held
       held-by true e =
           let at-head : start ≡ place .target + 4 = is ∙ rw e refl in
           let g = target-there t h b p a place s e in (
             omega (arith, at-head, g .ordered),
-            subst (λ (n : ℕ). Holds (from-start n) (target-items (p .target))) (sym at-head) (g .holds),
+            subst (λ (n : ℕ). Holds (target-from n) (target-items (p .target))) (sym at-head) (g .holds),
           )
       held-by false e =
           let at-end : start ≡ place .end = is ∙ rw e refl in (
             omega (arith, at-end),
-            subst (Holds (from-start start)) (sym (nothing-there t place (p .target) (s .target) e))
+            subst (Holds (target-from start)) (sym (nothing-there t place (p .target) (s .target) e))
                 (holds-nothing t (place .end) start at-end),
           )
 
       pub target-held : Held
       target-held = held-by (place .«has_target») refl
 
+      -- all of its rows
       pub part-put : (n : ℕ) (out : List ℕ) (draft : Draft) (out₁ : List ℕ) (headed : Draft)
           → Wrote (head-margin n (p .head)) out draft out₁ headed
-          → (last : List ℕ) (r : Draft) → PutContents (source-of t place) (from-start start) out₁ headed last r
+          → (last : List ℕ) (r : Draft) → PutContents (source-of t place) (target-from start) out₁ headed last r
           → Wrote (gather row-bytes (part-rows n p)) out draft last r
       part-put n out draft out₁ headed w last r put =
           wrote-as (sym (part-written n p part-good))

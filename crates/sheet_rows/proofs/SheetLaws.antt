@@ -7,7 +7,7 @@ use mathlib.Core.List.{List, [], _∷_, _++_, append-assoc, append-nil}
 use lib.ListN.{length, drop, length-append}
 use Rattle.xliff.specs.Bytes.{gather}
 use Rattle.xliff.specs.Unit.{Part}
-use Rattle.xliff.specs.Parse.{read, is-part, unit}
+use Rattle.xliff.specs.Parse.{read, is-part, unit, most-parts}
 use Rattle.xliff.proofs.lists.Tests.{gather-append}
 use Rattle.places.specs.Passes.{Passes}
 use Rattle.orders.proofs.WalkLaws.{few-parts}
@@ -66,7 +66,7 @@ module _ (t : List ℕ) (h : Passes t) (first : List ℕ) (begun : Draft) (at n 
   sheeted-end e =
       wrote-as (ap rows-bytes (sym (walked-all t h at (l .behind) (l .ahead) (l .walked) e))) (l .wrote)
 
-  -- a part is
+  -- a part is ahead
   module _ (e : is-part (read (drop at t)) ≡ true) where
     abbrev next : (p : Part) × (a : List Part) × (l .ahead ≡ p ∷ a)
     next = next-part t h at (l .behind) (l .ahead) (l .walked) e
@@ -74,7 +74,7 @@ module _ (t : List ℕ) (h : Passes t) (first : List ℕ) (begun : Draft) (at n 
     pub sheeted-part : PartFrom t at
     sheeted-part = walked-part t h at (l .behind) (l .ahead) (l .walked) e
 
-    pub sheeted-few : n < 65
+    pub sheeted-few : n ≤ most-parts
     sheeted-few =
         omega (
           arith,
