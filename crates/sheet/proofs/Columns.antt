@@ -11,7 +11,7 @@ use Rattle.xliff.specs.Item.{Item, Content}
 use Rattle.xliff.specs.Good.{each-nil, each-cons}
 use Rattle.sheet.specs.Column.{shown, shown-all, column-cells, Filled, in-row, in-next-row, fits, left-behind, fill, column}
 use Rattle.sheet.specs.Claims.{joined, Within, Full}
-use Rattle.sheet.proofs.Widths.{shown-within, fits-alone}
+use Rattle.sheet.proofs.Widths.{shown-within}
 
 -- the cells left behind an item that fits, that begins a row
 pub behind-fitting : (left : ℕ) (x : Item) → fits left x ≡ true → left-behind left x ≡ left - length (shown x)

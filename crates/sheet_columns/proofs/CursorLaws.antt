@@ -3,7 +3,7 @@ use Prim.Native.Nat.{ℕ, zero, suc, _+_, _-_, _<_, _≤_}
 use native.Mathlib.Omega.{arith}
 use mathlib.Core.Path.{_≡_, refl, sym, ap, _∙_, subst}
 use mathlib.Core.Bool.{Bool, true, false}
-use mathlib.Core.List.{List, [], _∷_, _++_, map, append-assoc, map-append}
+use mathlib.Core.List.{List, [], _∷_, _++_, map, append-assoc}
 use lib.ListN.{length, take, drop, length-append, length-drop, take-append-drop}
 use lib.Seq.{drop-drop, take-at, drop-at}
 use Rattle.xliff.specs.Bytes.{two, gather}
@@ -28,7 +28,7 @@ use Rattle.table.specs.declared.Read.the-variants.{Good, Ill, Broken}
 use Rattle.orders.proofs.WalkLaws.{Stepped, stepped}
 use Rattle.walk.specs.Kept.{Kept, kept-end, kept-item, kept-text, Holds, items}
 use Rattle.cut.proofs.HalfLaws.{items-of, allowed-back}
-use Rattle.sheet_columns.specs.Filled.{Ahead, TextNext, ItemAhead, ItemNext, ReadNext}
+use Rattle.sheet_columns.specs.Filled.{Ahead, ItemAhead, ReadNext}
 
 kept-good : {a : Bool} {rs : List encode.Record} → Kept a rs → AllGood rs
 kept-good kept-end = each-nil
@@ -109,13 +109,6 @@ module _ (c : List ℕ) (at left : ℕ) (xs : Content) (m : Ahead c at left xs) 
 -- the first k code points passed over
 utf8s-apart : (k : ℕ) (cs : List ℕ) → utf8s cs ≡ utf8s (take k cs) ++ utf8s (drop k cs)
 utf8s-apart k cs = ap utf8s (sym (take-append-drop k cs)) ∙ utf8s-append (take k cs) (drop k cs)
-
-texts-apart : (k : ℕ) (cs : List ℕ) (ys : Content)
-    → map text cs ++ ys ≡ map text (take k cs) ++ (map text (drop k cs) ++ ys)
-texts-apart k cs ys =
-    ap (λ (l : List ℕ). map text l ++ ys) (sym (take-append-drop k cs))
-    ∙ ap (λ (l : Content). l ++ ys) (map-append text (take k cs) (drop k cs))
-    ∙ append-assoc (map text (take k cs)) (map text (drop k cs)) ys
 
 -- the code points of a text that a row with so many cells takes
 pub record Run (c : List ℕ) (at left k : ℕ) (p : Points) (xs : Content) : Type 0 where

@@ -1,7 +1,7 @@
 -- A row filled step by step.
-use Prim.Native.Nat.{ℕ, zero, suc, _+_, _-_, _*_, _<_, _≤_, min}
+use Prim.Native.Nat.{ℕ, suc, _+_, _-_, _<_, _≤_}
 use native.Mathlib.Omega.{arith}
-use mathlib.Core.Path.{_≡_, refl, sym, ap, ap₂, _∙_, subst}
+use mathlib.Core.Path.{_≡_, refl, sym, ap, _∙_, subst}
 use mathlib.Core.Bool.{Bool, true, false, not, _&&_, cond, true≢false}
 use mathlib.Core.List.{List, [], _∷_, _++_, map, append-assoc, append-nil}
 use lib.ListN.{length, take, drop, length-append, length-take, replicate}
@@ -24,7 +24,7 @@ use Rattle.sheet.specs.Column.{cell, shown, shown-all, fits, column-cells}
 use Rattle.sheet.proofs.Widths.{shown-within}
 use Rattle.sheet_columns.specs.declared.Filling.{Filling}
 use Rattle.sheet_columns.specs.Taken.{taken, untaken, Ends, next-row}
-use Rattle.sheet_columns.specs.Filled.{Ahead, Going, goesOn, Step, Moved, Filled, TextNext, ItemNext, entered, RowItems, PutItems, RowPut}
+use Rattle.sheet_columns.specs.Filled.{Ahead, Going, goesOn, Step, Filled, TextNext, ItemNext, entered, RowItems, PutItems, RowPut}
 use Rattle.sheet_columns.proofs.TakenLaws.{takes-fitting, ends-full, ends-over, ends-filled, takes-points}
 use Rattle.sheet_columns.proofs.CursorLaws.{Run, run, ahead-end}
 use Rattle.sheet_columns.proofs.ByteLaws.{text-cells, text-long, bytes-long, item-bytes}
@@ -169,7 +169,7 @@ shown-then : (xs ys : Content) → shown-all (xs ++ ys) ≡ shown-all xs ++ show
 unfolding shown-all
 shown-then xs ys = gather-append shown xs ys
 
-pub step-then : (c : List ℕ) (f : Filling) (out : List ℕ) (g : Filling) (mid : List ℕ) (r : Filling) (last : List ℕ)
+step-then : (c : List ℕ) (f : Filling) (out : List ℕ) (g : Filling) (mid : List ℕ) (r : Filling) (last : List ℕ)
     (xs : Content)
     → (s : Step c f out g mid xs) → Step c g mid r last (s .after) → Step c f out r last xs
 step-then c f out g mid r last xs s t =

@@ -1,5 +1,4 @@
 use native.Mathlib.Omega.{arith}
-use lib.ListN.{length}
 use Rattle.writer.proofs.PieceLaws.{at-head, head-long}
 use Rattle.table.specs.Meaning.{item}
 use Rattle.draft.proofs.DraftLaws.{wrote-as}
