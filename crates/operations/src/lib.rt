@@ -1,15 +1,12 @@
 // The operation that a request asks for.
 use answers::Answer;
-use limits::MOST_BYTES;
 use requests::Request;
-ghost use mathlib.Core.Path.{_≡_};
 ghost use Prim.Native.Nat.{_+_, _≤_};
 ghost use lib.ListN.{length, take, drop};
 ghost use Rattle.xliff.specs.SetTarget.{set-target};
 ghost use Rattle.xliff.specs.Calls.{outcome};
-ghost use Rattle.xliff.specs.Parse.{most-bytes};
 ghost use Rattle.outcomes.specs.Outcomes.{Answers};
-ghost use Rattle.requests.specs.Requests.{request-size, call-of};
+ghost use Rattle.requests.specs.Requests.{request-size, call-with};
 
 // The content stands in the middle of the job: it is handed on as that part of the slice.
 fn set_content(table: &[u8], part: u16, state: u8, s: &[u8], n: u16, out: &mut [u8]) -> Answer
@@ -21,11 +18,11 @@ fn set_content(table: &[u8], part: u16, state: u8, s: &[u8], n: u16, out: &mut [
     set_target::set_target(table, part, state, &s[7..e], out)
 }
 
-// The request `r` at the head of `s`. "lends outputs of 8,192 bytes"
-pub fn perform(table: &[u8], r: Request, s: &[u8], out: &mut [u8; MOST_BYTES]) -> Answer
+// The request `r` at the head of `s`, on an output of any length.
+pub fn perform(table: &[u8], r: Request, s: &[u8], out: &mut [u8]) -> Answer
     requires { ⌜ request-size r ≤ length (now s) ⌝ }
-    ensures { λ a. ⌜ Answers (outcome (now (table .entry)) (call-of (now (s .entry)) r)) a (now (out .entry)) (now (out .exit)) ⌝ }
-    ensures whole { λ a. ⌜ length (now (out .exit)) ≡ most-bytes ⌝ }
+    ensures { λ a. ⌜ Answers (outcome (now (table .entry)) (call-with (length (now (out .entry))) (now (s .entry)) r)) a
+        (now (out .entry)) (now (out .exit)) ⌝ }
 {
     match r {
         Request::Split(part, source, target, id) => split::split(

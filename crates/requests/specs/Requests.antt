@@ -12,13 +12,18 @@ use Rattle.requests.specs.declared.Request.the-variants.{Split, Join, Se
 use Rattle.requests.specs.declared.Asked.{Asked}
 use Rattle.requests.specs.declared.Asked.the-variants.{Readable, Unreadable}
 
--- the call that a request at the head of s asks for; the content of set target stands behind its first seven bytes
+-- the call that a request at the head of s asks for, on an output of so many bytes; the content of set target stands
+-- behind its first seven bytes
+abbrev pub call-with : ℕ → List ℕ → Request → Call
+call-with room s (Split n source-cut target-cut new) = SP n source-cut target-cut new room
+call-with room s (Join n) = JN n room
+call-with room s (SetTarget n st k) = ST n st (take k (drop 7 s)) room
+call-with room s (RemoveTarget n) = RT n room
+call-with room s (Rewrite side i w) = RW side i w room
+
+-- "lends outputs of 8,192 bytes"
 abbrev pub call-of : List ℕ → Request → Call
-call-of s (Split n source-cut target-cut new) = SP n source-cut target-cut new lent
-call-of s (Join n) = JN n lent
-call-of s (SetTarget n st k) = ST n st (take k (drop 7 s)) lent
-call-of s (RemoveTarget n) = RT n lent
-call-of s (Rewrite side i w) = RW side i w lent
+call-of s r = call-with lent s r
 
 abbrev pub request-size : Request → ℕ
 request-size (Split n source-cut target-cut new) = 10

@@ -1,0 +1,5 @@
+pub mod OutcomeLaws
+pub mod ViewLaws
+pub mod ListLaws
+pub mod HalfLaws
+pub mod BoundLaws
