@@ -12,6 +12,9 @@ ghost use Rattle.xliff.specs.Rewrite.{rewrite};
 ghost use Rattle.xliff.specs.Desk.{desk};
 ghost use Rattle.xml.specs.Xml.{read-xml, write-xml};
 ghost use Rattle.sheet.specs.Sheet.{sheet};
+ghost use Rattle.grants.specs.Grant.{by-letter};
+ghost use Rattle.grants.specs.View.{view};
+ghost use Rattle.grants.specs.Requests.{granted-request};
 ghost use Rattle.answers.specs.Answers.{answer-meaning};
 ghost use Rattle.writer.specs.Pieces.{lead};
 ghost use Rattle.both_ends.specs.Received.{Meets};
@@ -165,6 +168,48 @@ pub extern "C" fn xliff_desk_sheet(
         .exit)) (now (out .entry)) (now (out .exit)) ⌝ }
 {
     let a = review_sheet::sheet(table, out);
+    tell(a, number, value)
+}
+
+// The table as a role, given by its letter, with these part positions sees it.
+#[no_mangle]
+pub extern "C" fn xliff_desk_view(
+    role: u8,
+    positions: &[u8],
+    table: &[u8],
+    out: &mut [u8],
+    number: &mut u8,
+    value: &mut usize,
+) -> bool
+    ensures { λ r. ⌜ Tells (view (now (table .entry)) (by-letter role (now (positions .entry))) (length (now (out
+        .entry)))) r (now (number .exit)) (now (value .exit)) (now (out .entry)) (now (out .exit)) ⌝ }
+{
+    let a = granted_view::view(granted_parts::role_of(role), positions, table, out);
+    tell(a, number, value)
+}
+
+// A request with the grant of a role, given by its letter, and of these part positions.
+#[no_mangle]
+pub extern "C" fn xliff_desk_granted_call(
+    role: u8,
+    positions: &[u8],
+    table: &[u8],
+    request: &[u8],
+    out: &mut [u8],
+    number: &mut u8,
+    value: &mut usize,
+) -> bool
+    ensures { λ r. ⌜ Tells (granted-request (by-letter role (now (positions .entry))) (now (table .entry)) (now
+        (request .entry)) (length (now (out .entry)))) r (now (number .exit)) (now (value .exit)) (now (out .entry))
+        (now (out .exit)) ⌝ }
+{
+    let a = granted_calls::granted_call(
+        granted_parts::role_of(role),
+        positions,
+        table,
+        request,
+        out,
+    );
     tell(a, number, value)
 }
 

@@ -33,7 +33,15 @@ fn inside_next(source: bool, inside: bool, head: u8) -> bool
 }
 
 // Whether the item at an offset is a half of the id, in a content of the side, and its part `n` is outside the grant.
-fn stands_outside(t: &[u8], at: usize, role: Role, positions: &[u8], n: usize, inside: bool, id: u16) -> bool
+fn stands_outside(
+    t: &[u8],
+    at: usize,
+    role: Role,
+    positions: &[u8],
+    n: usize,
+    inside: bool,
+    id: u16,
+) -> bool
     ensures { λ r. ⌜ r ≡ (inside && half-of-id id (item-at (now (t .entry)) at)) && not (within (grant-of role (now (positions .entry))) n) ⌝ }
 {
     let v = views::view_at(t, at);

@@ -27,7 +27,10 @@ unfolding keep
 no-half i [] e = refl
 no-half i (x ∷ xs) e = by (half-of-id i x) refl (no-half i xs (omega arith))
   where
-    by : (b : Bool) → half-of-id i x ≡ b → keep (half-of-id i) xs ≡ [] → cond b (x ∷ keep (half-of-id i) xs) (keep (half-of-id i) xs) ≡ []
+    kept : Content
+    kept = keep (half-of-id i) xs
+
+    by : (b : Bool) → half-of-id i x ≡ b → kept ≡ [] → cond b (x ∷ kept) kept ≡ []
     by true q h = absurd (let w : half-bit i x ≡ 1 = rw q in let z : ⊥ = omega arith in z)
     by false q h = h
 
@@ -39,12 +42,14 @@ two-kept i xs two =
     ∙ rw (no-half i (two .before) (two .none-before), two .opens)
     (ap (λ (l : Content). two .opener ∷ l)
     (keep-append h (two .between) (two .closer ∷ two .behind)
-    ∙ rw (no-half i (two .between) (two .none-between), two .closes) (ap (λ (l : Content). two .closer ∷ l) (no-half i (two .behind) (two .none-behind)))))
+    ∙ rw (no-half i (two .between) (two .none-between), two .closes)
+    (ap (λ (l : Content). two .closer ∷ l) (no-half i (two .behind) (two .none-behind)))))
   where
     h : Item → Bool
     h = half-of-id i
 
-found-both : {e : ℕ → Half → Bool} (i : ℕ) (xs : Content) (w : Whole) → Shape e (marks i xs) → find-whole i xs ≡ some w → keep (half-of-id i) xs ≡ w .start ∷ w .end ∷ []
+found-both : {e : ℕ → Half → Bool} (i : ℕ) (xs : Content) (w : Whole) → Shape e (marks i xs)
+    → find-whole i xs ≡ some w → keep (half-of-id i) xs ≡ w .start ∷ w .end ∷ []
 found-both i xs w s f =
     let two = two-halves i xs s (found-two i xs w f) in
     let same : some w ≡ some (record { start = two .opener; end = two .closer }) = sym f ∙ found i xs two in
@@ -60,8 +65,8 @@ both-halves t side i w b v = by (eqb side 'S')
 
     seven : Good7 ps
     seven =
-        let h = sent t b v in
-        rule-7-good ps (rule-6-counted ps (then-left _ _ (h .rules))) (then-left _ _ (then-right (fault-6 ps) _ (h .rules)))
+        let rules = sent t b v .rules in
+        rule-7-good ps (rule-6-counted ps (then-left _ _ rules)) (then-left _ _ (then-right (fault-6 ps) _ rules))
 
     by : (s : Bool) → find-whole i (cond s (source-sequence ps) (target-sequence ps)) ≡ some w
         → keep (half-of-id i) (cond s (source-sequence ps) (target-sequence ps)) ≡ w .start ∷ w .end ∷ []

@@ -48,7 +48,8 @@ given t c g = by (granted (c .grant) t (c .call))
 pub left-out : Left-out
 unfolding Left-out granted-calls
 left-out t cs =
-    let l : Leaves granted-desk made-granted Any Any = record { stays = λ s c i g. tt; table = λ s c i g. leaves s c } in
+    let l : Leaves granted-desk made-granted Any Any
+    = record { stays = λ s c i g. tt; table = λ s c i g. leaves s c } in
     record {
       table = same-table granted-desk made-granted Any Any l t cs tt (all-any cs);
       counts = λ k. same-counts granted-desk made-granted Any Any l (λ k s c i g. counts k s c) k t cs tt (all-any cs);

@@ -17,22 +17,26 @@ use Rattle.xliff.specs.Focus.{with-parts}
 use Rattle.xliff.proofs.unit.Result.{then-left, then-right}
 use Rattle.xliff.proofs.unit.Table.{encode-unit}
 use Rattle.grants.specs.Grant.{Role, engineer, Grant, part-granted, within}
-use Rattle.grants.specs.View.{shown, view-parts, view-unit, view, SameButState, two-segments, two-ignorables, DifferOutside, no-parts, inside, outside, Same-view, Engineers-view}
+use Rattle.grants.specs.View.{hidden, shown, view-parts, view-unit, view, SameButState, two-segments, two-ignorables, DifferOutside, no-parts, inside, outside, Same-view, Engineers-view}
 
 same-heads : (h k : Head) → SameButState h k → with-state 'I' h ≡ with-state 'I' k
 unfolding with-state
-same-heads _ _ (two-segments f k i c) = ap₂ (λ (i c : ℕ). segment (record { id = i; canResegment = c; state = 'I' })) i c
+same-heads _ _ (two-segments f k i c) =
+    ap₂ (λ (i c : ℕ). segment (record { id = i; canResegment = c; state = 'I' })) i c
 same-heads _ _ (two-ignorables i) = refl
 
 same-parts : (g : Grant) (n : ℕ) (ps qs : List Part) → DifferOutside g n ps qs → view-parts g n ps ≡ view-parts g n qs
 unfolding view-parts shown
 same-parts g n _ _ (no-parts _) = refl
-same-parts g n _ _ (inside _ p ps qs w d) = ap (λ (l : List Part). shown (within g n) p ∷ l) (same-parts g (suc n) ps qs d)
+same-parts g n _ _ (inside _ p ps qs w d) =
+    ap (λ (l : List Part). shown (within g n) p ∷ l) (same-parts g (suc n) ps qs d)
 same-parts g n _ _ (outside _ h k xs a b ps qs w s d) =
-    rw w (ap₂ {C = List Part} _∷_ (ap (λ (x : Head). record { head = x; source = xs; target = no-target }) (same-heads h k s)) (same-parts g (suc n) ps qs d))
+    let headed : Head → Part = λ x. record { head = x; source = xs; target = no-target } in
+    rw w (ap₂ {C = List Part} _∷_ (ap headed (same-heads h k s)) (same-parts g (suc n) ps qs d))
 
 -- on a valid table the view is the outcome of 15 alone
-on-valid : (t : List ℕ) (own : Option Refusal) (u : XliffUnit) → table-refusal t ≡ none → operation t own u ≡ unless own (encode u)
+on-valid : (t : List ℕ) (own : Option Refusal) (u : XliffUnit) → table-refusal t ≡ none
+    → operation t own u ≡ unless own (encode u)
 unfolding operation _then_
 on-valid t own u e = ap (λ (o : Option Refusal). unless (o then own) (encode u)) e
 
@@ -47,12 +51,9 @@ pub same-view : Same-view
 unfolding Same-view view-unit with-parts
 same-view s t g room v w c d =
     view-valid s g room v
-    ∙ ap₂ (λ (o : Opening) (ps : List Part). shown-as room (record { opening = o; parts = ps })) c (same-parts g 1 (unit s .parts) (unit t .parts) d)
+    ∙ ap₂ (λ (o : Opening) (ps : List Part). shown-as room (record { opening = o; parts = ps })) c
+    (same-parts g 1 (unit s .parts) (unit t .parts) d)
     ∙ sym (view-valid t g room w)
-
--- a part outside the grant
-abbrev hidden : Part → Part
-hidden p = record { head = with-state 'I' (p .head); source = p .source; target = no-target }
 
 engineer-parts : (g : Grant) → g .role ≡ engineer → (n : ℕ) (ps : List Part) → view-parts g n ps ≡ ps
 unfolding view-parts shown within part-granted
@@ -66,5 +67,6 @@ unfolding Engineers-view view-unit with-parts Valid table-refusal shown-as
 engineers-view t g room b v e =
     let f : table-fault t ≡ none = then-left _ _ (then-right _ _ v) in
     view-valid t g room v
-    ∙ ap (λ (ps : List Part). shown-as room (record { opening = unit t .opening; parts = ps })) (engineer-parts g e 1 (unit t .parts))
+    ∙ ap (λ (ps : List Part). shown-as room (record { opening = unit t .opening; parts = ps }))
+    (engineer-parts g e 1 (unit t .parts))
     ∙ ap (λ (l : List ℕ). unless (applies 15 (ltb room (length l))) l) (encode-unit t b f)

@@ -28,6 +28,10 @@ pub record Grant : Type 0 where
   pub role : Role
   pub positions : List ℕ
 
+-- the role given by its letter, as to C and in the line protocol
+unfoldable pub by-letter : ℕ → List ℕ → Grant
+by-letter letter positions = record { role = role-of letter; positions = positions }
+
 -- whether a part is within the grant of a role, given whether its position is listed. "An engineer's grant counts as
 -- every part"
 unfoldable pub part-granted : Role → Bool → Bool
@@ -94,14 +98,15 @@ unfoldable pub granted-outcome : List ℕ → GrantedCall → Outcome
 granted-outcome t c =
     unless-refused (table-refusal t then applies 24 (not (granted (c .grant) t (c .call)))) (outcome t (c .call))
 
--- In a valid table the halves of that id on that side are those of the pair or annotation, one start and one end. (A
--- statement, not its proof.)
+-- In a valid table the halves of that id on that side are those of the pair or annotation, one start and one end.
+-- (A statement, not its proof.)
 unfoldable pub Both-halves : Type 0
 Both-halves =
-    (t : List ℕ) (side i : ℕ) (w : Whole) → Bytes t → Valid t → find-whole i (side-sequence side (unit t .parts)) ≡ some w
+    (t : List ℕ) (side i : ℕ) (w : Whole) → Bytes t → Valid t
+    → find-whole i (side-sequence side (unit t .parts)) ≡ some w
     → keep (half-of-id i) (side-sequence side (unit t .parts)) ≡ w .start ∷ w .end ∷ []
 
 unfoldable pub Grant·all : Unit {0}
-unfolding Calls·all role-of part-granted within is-engineer is-whole halves-within whole-granted rewrite-granted granted
-    unless-refused granted-outcome
+unfolding Calls·all role-of by-letter part-granted within is-engineer is-whole halves-within whole-granted
+    rewrite-granted granted unless-refused granted-outcome
 Grant·all = tt

@@ -1,5 +1,5 @@
--- A request with its grant, as bytes: document 01's notation of requests (`SP` part, cut, cut, id; ..), read as the desk
--- program reads it, on an output of any length.
+-- A request with its grant, as bytes: document 01's notation of requests (`SP` part, cut, cut, id; ..), read as the
+-- desk program reads it, on an output of any length.
 use Prim.Native.Nat.{ℕ}
 use mathlib.Core.Bool.{cond}
 use mathlib.Core.List.{List}

@@ -17,9 +17,11 @@ use Rattle.grants.specs.Grant.{engineer, Grant, within, Grant·all}
 
 -- "The view is the table without the targets of parts outside the grant, the state there shown as I, orders kept."
 -- Every segment there, with or without target
+abbrev pub hidden : Part → Part
+hidden p = record { head = with-state 'I' (p .head); source = p .source; target = no-target }
+
 unfoldable pub shown : Bool → Part → Part
-shown inside p =
-    cond inside p (record { head = with-state 'I' (p .head); source = p .source; target = no-target })
+shown inside p = cond inside p (hidden p)
 
 -- the parts from a position on
 unfoldable pub view-parts : Grant → ℕ → List Part → List Part

@@ -10,7 +10,7 @@ use Rattle.xliff.specs.Encode.{Record, spell}
 use Rattle.xliff.specs.SetTarget.{SetTarget·all}
 use Rattle.xliff.specs.Calls.{Call, SP, JN, ST, RT, RW}
 use Rattle.xliff.specs.examples.Notation.{UN, UE, SG, TG, TX, letters, SC, EC}
-use Rattle.grants.specs.Grant.{Grant, role-of, GrantedCall, granted-outcome, Grant·all}
+use Rattle.grants.specs.Grant.{Grant, by-letter, GrantedCall, granted-outcome, Grant·all}
 use Rattle.grants.specs.View.{view, View·all}
 use Rattle.grants.specs.Requests.{granted-request, Requests·all}
 
@@ -44,9 +44,6 @@ table rs = spell (UN 'Y' ∷ (rs ++ (UE ∷ [])))
 three : List ℕ
 three = table (first ++ second ++ third)
 
-by-letter : ℕ → List ℕ → Grant
-by-letter letter positions = record { role = role-of letter; positions = positions }
-
 a-translator : List ℕ → Grant
 a-translator = by-letter 'T'
 
@@ -64,7 +61,7 @@ no n = refuse (record { number = n; place = 0 })
 
 Granted·all : Unit {0}
 unfolding View·all SetTarget·all Requests·all five text first first-shown second second-shown third third-shown table
-    three by-letter a-translator a-reviewer an-engineer try no
+    three a-translator a-reviewer an-engineer try no
 Granted·all = tt
 
 -- Views
