@@ -1,12 +1,14 @@
 -- Document 02, order 6: what a grant allows, and a call with its grant.
 use Prim.Native.Nat.{ℕ, suc}
 use mathlib.Core.Path.{_≡_}
+use mathlib.Core.Logic.{_⊎_}
 use mathlib.Core.Bool.{Bool, true, false, not, _&&_, _||_, cond}
-use mathlib.Core.List.{List, [], _∷_}
+use mathlib.Core.List.{List, [], _∷_, _++_, List·Memᴰ}
 use mathlib.Core.Option.{Option, none, some}
 use lib.Dec.{eqb}
 use Rattle.xliff.specs.Bytes.{'E', 'R', 'S', 'T', Bytes, among, any, keep}
 use Rattle.xliff.specs.Answer.{Refusal, applies, _then_, Outcome, refuse}
+use Rattle.xliff.specs.Item.{Item}
 use Rattle.xliff.specs.Unit.{Part}
 use Rattle.xliff.specs.Parse.{unit}
 use Rattle.xliff.specs.Rules.{half-of-id}
@@ -98,13 +100,18 @@ unfoldable pub granted-outcome : List ℕ → GrantedCall → Outcome
 granted-outcome t c =
     unless-refused (table-refusal t then applies 24 (not (granted (c .grant) t (c .call)))) (outcome t (c .call))
 
--- In a valid table the halves of that id on that side are those of the pair or annotation, one start and one end.
--- (A statement, not its proof.)
+-- What `halves-within` looks at: in a valid table the halves of that id on that side are those of the pair or
+-- annotation, one start and one end; and every half of that id in a content of that side is one of the two. (A
+-- statement, not its proof.)
+pub record TwoHalves (ps : List Part) (side i : ℕ) (w : Whole) : Type 0 where
+  pub both : keep (half-of-id i) (side-sequence side ps) ≡ w .start ∷ w .end ∷ []
+  pub either : (b : List Part) (p : Part) (a : List Part) → ps ≡ b ++ (p ∷ a) → (x : Item)
+      → List·Memᴰ x (side-content side p) → half-of-id i x ≡ true → (x ≡ w .start) ⊎ (x ≡ w .end)
+
 unfoldable pub Both-halves : Type 0
 Both-halves =
     (t : List ℕ) (side i : ℕ) (w : Whole) → Bytes t → Valid t
-    → find-whole i (side-sequence side (unit t .parts)) ≡ some w
-    → keep (half-of-id i) (side-sequence side (unit t .parts)) ≡ w .start ∷ w .end ∷ []
+    → find-whole i (side-sequence side (unit t .parts)) ≡ some w → TwoHalves (unit t .parts) side i w
 
 unfoldable pub Grant·all : Unit {0}
 unfolding Calls·all role-of by-letter part-granted within is-engineer is-whole halves-within whole-granted
