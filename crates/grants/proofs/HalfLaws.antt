@@ -14,16 +14,16 @@ use Rattle.xliff.specs.Item.{Item, Content, Half}
 use Rattle.xliff.specs.Unit.{Target, no-target, target, Part, target-items, source-sequence, of-order, target-of-order, targets, target-sequence, order-list, orders}
 use Rattle.xliff.specs.Parse.{unit}
 use Rattle.xliff.specs.Rules.{half-of-id, fault-5, fault-6, fault-6-to-10}
-use Rattle.xliff.specs.Sequences.{located}
 use Rattle.xliff.specs.Check.{Valid}
 use Rattle.xliff.specs.Rewrite.{Whole, side-content, side-sequence, find-whole}
 use Rattle.xliff.proofs.lists.Sum.{bit}
 use Rattle.xliff.proofs.lists.Tests.{keep-append, gather-append}
-use Rattle.xliff.proofs.rules.Orders.{orders-fit, rule-5, order-fits}
+use Rattle.xliff.proofs.rules.Orders.{orders-fit, order-fits}
 use Rattle.xliff.proofs.rules.Marks.{marks, Shape, waits}
 use Rattle.xliff.proofs.rules.Six.{Rule6, rule-6-counted}
 use Rattle.xliff.proofs.rules.Seven.{Good7, bare-sequence, rule-7-good}
 use Rattle.xliff.proofs.unit.Result.{then-left, then-right, sent}
+use Rattle.xliff.proofs.operations.SplitTarget.{fault-5-fits}
 use Rattle.xliff.proofs.operations.Rewrite as rewriting
 use Rattle.xliff.proofs.operations.Rewrite.{half-bit, halves, two-halves, found, found-two}
 use Rattle.grants.specs.Grant.{TwoHalves, Both-halves}
@@ -113,9 +113,9 @@ module _ (b : List Part) (p : Part) (a : List Part) (five : fault-5 (b ++ (p ∷
   ps = b ++ (p ∷ a)
 
   order-in : (q : ℕ) (xs : Content) → p .target ≡ target q xs → (1 ≤ q) × (q ≤ length ps)
-  unfolding fault-5 located orders gather order-list
+  unfolding orders gather order-list
   order-in q xs e =
-      let fits = rule-5 (length ps) 3 [] ps five in
+      let fits = fault-5-fits ps five in
       let here : orders ps ≡ orders b ++ (q ∷ orders a)
       = gather-append (λ p. order-list (p .target)) b (p ∷ a)
       ∙ ap (λ (g : Target). orders b ++ (order-list g ++ orders a)) e in
