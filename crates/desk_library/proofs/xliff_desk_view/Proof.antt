@@ -1,10 +1,7 @@
-use mathlib.Core.Path.{subst}
 use lib.ListN.{length}
 use borrow.Author.Needs.{needs}
-use Rattle.grants.specs.Grant.{Grant}
 use Rattle.grants.specs.View.{view}
-use Rattle.granted_parts.proofs.RoleLaws.{letter-grant}
-use Rattle.desk_library.proofs.TellLaws.{tells}
+use Rattle.desk_library.proofs.TellLaws.{tells-granted}
 use Rattle.desk_library.proofs.xliff_desk_view.Statement.{statement}
 use Rattle.desk_library.proofs.xliff_desk_view.Tie as tie
 
@@ -13,4 +10,7 @@ returns : tie.Need-returns
 returns c = ?
 
 pub xliff-desk-view-spec : {M : Type 1} → statement M
-xliff-desk-view-spec = ?
+xliff-desk-view-spec =
+    tie.close
+    (tie.spec
+    returns)
