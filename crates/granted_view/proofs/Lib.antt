@@ -1,0 +1,5 @@
+pub mod HeadLaws
+pub mod PartLaws
+pub mod WalkLaws
+pub mod UnitLaws
+pub mod ChainLaws
