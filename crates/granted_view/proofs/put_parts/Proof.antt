@@ -2,8 +2,11 @@ use Prim.Native.Nat.{_-_}
 use native.Mathlib.Omega.{arith}
 use mathlib.Core.Path.{sym, _∙_}
 use lib.ListN.{length}
+use Rattle.xliff.specs.Parse.{unit}
+use Rattle.draft.proofs.DraftLaws.{wrote-as}
 use Rattle.granted_parts.specs.Roles.{grant-of}
-use Rattle.granted_view.proofs.WalkLaws.{Viewed, viewed-start, viewed-end, viewed-part, viewed-few, viewed-stands, viewed-less, viewed-on}
+use Rattle.part_texts.proofs.WalkLaws.{PartsPut, put-start, put-end, put-from, put-few, put-stands, put-less, put-on}
+use Rattle.granted_view.proofs.WalkLaws.{shown-part, view-by-part, shown-as-within}
 use borrow.Author.Needs.{needs}
 use Rattle.granted_view.proofs.put_parts.Statement.{statement}
 use Rattle.granted_view.proofs.put_parts.Tie as tie
@@ -11,7 +14,7 @@ use Rattle.granted_view.proofs.put_parts.Tie as tie
 -- the parts so far are written as the view shows them
 abbrev Inv-loop : tie.InvT-loop
 Inv-loop out₀ t role positions behind₀ at₀ n₀ out behind at n =
-    Viewed t (grant-of role positions) out₀ behind₀ at n out behind
+    PartsPut (shown-part (grant-of role positions)) t out₀ behind₀ at n out behind
 
 abbrev μ-loop : tie.MeasureT-loop
 μ-loop out₀ t role positions behind₀ at₀ n₀ out behind at n = length t - at
@@ -22,8 +25,8 @@ loop-holds c =
     let start = c .before .before .before in
     let args = start .args in
     let pre = start .pre in
-    viewed-start (args .t .now) (grant-of (args .role) (args .positions .now)) (args .out .now) (args .draft) (pre .1)
-    (pre .0)
+    let grant = grant-of (args .role) (args .positions .now) in
+    put-start (shown-part grant) (args .t .now) (args .out .now) (args .draft) (pre .1) (pre .0)
 
 -- let place = part_at::part_from(t, at)
 part-from-requires : tie.Need-part-from-requires Inv-loop μ-loop
@@ -32,7 +35,7 @@ part-from-requires c κs =
     let starts-part = c .before .starts-part in
     let loop = c .before .before .loop in
     let passes = c .before .before .before .before .before .before .pre .1 in
-    viewed-part passes (loop .inv) (sym (starts-part .ensures) ∙ if1)
+    put-from passes (loop .inv) (sym (starts-part .ensures) ∙ if1)
 
 -- behind = put_part(out, behind, t, place, inside)
 put-part-requires : tie.Need-put-part-requires Inv-loop μ-loop
@@ -44,7 +47,7 @@ put-part-requires c κs =
     let loop = at-loop .loop in
     let passes = at-loop .before .before .before .before .pre .1 in
     let is = sym (starts-part .ensures) ∙ if1 in
-    (loop .inv .wrote .inside, viewed-stands passes (loop .inv) is (part-from .result) (part-from .ensures))
+    (loop .inv .wrote .inside, put-stands passes (loop .inv) is (part-from .result) (part-from .ensures))
 
 -- n += 1
 add-n : tie.Need-add-n Inv-loop μ-loop
@@ -55,7 +58,7 @@ add-n c =
     let at-loop = at-if1 .before .before in
     let loop = at-loop .loop in
     let passes = at-loop .before .before .before .before .pre .1 in
-    omega (arith, viewed-few passes (loop .inv) (sym (starts-part .ensures) ∙ if1))
+    omega (arith, put-few passes (loop .inv) (sym (starts-part .ensures) ∙ if1))
 
 -- at = place.end
 loop-less : tie.Need-loop-less Inv-loop μ-loop
@@ -68,7 +71,7 @@ loop-less c =
     let loop = at-loop .loop in
     let passes = at-loop .before .before .before .before .pre .1 in
     let is = sym (starts-part .ensures) ∙ if1 in
-    viewed-less passes (loop .inv) is (part-from .result) (part-from .ensures)
+    put-less passes (loop .inv) is (part-from .result) (part-from .ensures)
 
 -- one part more
 loop-again : tie.Need-loop-again Inv-loop μ-loop
@@ -81,10 +84,11 @@ loop-again c =
     let starts-part = at-if1 .before .starts-part in
     let at-loop = at-if1 .before .before in
     let loop = at-loop .loop in
-    let passes = at-loop .before .before .before .before .pre .1 in
+    let start = at-loop .before .before .before .before in
+    let grant = grant-of (start .args .role) (start .args .positions .now) in
     let is = sym (starts-part .ensures) ∙ if1 in
-    viewed-on passes (loop .inv) is (part-from .result) (part-from .ensures) (within .result) (within .ensures)
-    (put-part .last .0) (put-part .result) (put-part .ensures)
+    put-on (start .pre .1) (loop .inv) is (part-from .result) (part-from .ensures) (put-part .last .0)
+    (put-part .result) (shown-as-within grant (loop .n) (within .result) (within .ensures) (put-part .ensures))
 
 -- the output keeps its length
 same-length : tie.Need-same-length Inv-loop μ-loop
@@ -98,8 +102,11 @@ returns c =
     let if1 = c .if1 .left in
     let starts-part = c .before .starts-part in
     let loop = c .before .before .loop in
-    let passes = c .before .before .before .before .before .before .pre .1 in
-    viewed-end passes (loop .inv) (sym (starts-part .ensures) ∙ if1)
+    let start = c .before .before .before .before .before .before in
+    let args = start .args in
+    let grant = grant-of (args .role) (args .positions .now) in
+    let none = sym (starts-part .ensures) ∙ if1 in
+    wrote-as (view-by-part grant 1 (unit (args .t .now) .parts)) (put-end (start .pre .1) (loop .inv) none)
 
 pub put-parts-spec : {M : Type 1} → statement M
 put-parts-spec =
