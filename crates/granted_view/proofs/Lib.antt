@@ -2,4 +2,3 @@ pub mod HeadLaws
 pub mod PartLaws
 pub mod WalkLaws
 pub mod UnitLaws
-pub mod ChainLaws

@@ -4,11 +4,11 @@ use native.Mathlib.Omega.{arith}
 use mathlib.Core.Path.{_≡_, refl, sym, ap, _∙_, subst}
 use mathlib.Core.Bool.{Bool, true, false, true≢false, false≢true}
 use mathlib.Core.List.{List, [], _∷_, _++_}
-use lib.ListN.{length, take, drop, length-append, length-take}
+use lib.ListN.{length, take, drop}
 use Rattle.xliff.specs.Bytes.{Bytes, gather}
 use Rattle.xliff.specs.Unit.{Head, target-items, Part}
 use Rattle.xliff.specs.Encode as encode
-use Rattle.xliff.specs.Encode.{closing, part-head, record-bytes, content-records, target-records, part-records, spell}
+use Rattle.xliff.specs.Encode.{closing, part-head, content-records, target-records, part-records, spell}
 use Rattle.xliff.specs.Parse.{is-part, is-broken}
 use Rattle.xliff.specs.Good.{GoodHead}
 use Rattle.xliff.proofs.lists.Each.{each-apart}
@@ -67,18 +67,6 @@ module _ (t : List ℕ) (b : List Part) (p : Part) (a : List Part) (place : Part
 
   head-next : Next t (place .head) (part-head (p .head)) others
   head-next = at-next t (place .head) (part-head (p .head)) others there
-
-  pub part-moves : place .head < place .end
-  unfolding part-records spell gather
-  part-moves =
-      let inner = spell (content-records (p .source) ++ target-records (p .target)) in
-      omega (
-        arith,
-        head-next .moves,
-        length-append (record-bytes (part-head (p .head))) inner,
-        ap length (s .whole .is),
-        length-take (place .end - place .head) (drop (place .head) t),
-      )
 
   part-good : GoodHead (p .head)
   part-good = each-apart [] (part-head (p .head)) others (there .good) .1

@@ -1,7 +1,11 @@
 use lib.ListN.{length}
 use Rattle.outcomes.proofs.OutcomeLaws.{answers-refused, accepted-none, refused-some}
 use Rattle.granted_parts.specs.Roles.{grant-of}
-use Rattle.granted_view.proofs.ChainLaws.{refused-table}
+use Rattle.xliff.specs.Encode.{encode}
+use Rattle.xliff.specs.Parse.{unit}
+use Rattle.xliff.specs.Check.{operation}
+use Rattle.draft.proofs.AnswerLaws.{text-refused}
+use Rattle.grants.specs.View.{view-unit, view}
 use borrow.Author.Needs.{needs}
 use Rattle.granted_view.proofs.view_checked.Statement.{statement}
 use Rattle.granted_view.proofs.view_checked.Tie as tie
@@ -17,6 +21,7 @@ view-passed-requires c κs =
 
 -- Answer::Refused(k, at)
 returns-2 : tie.Need-returns-2
+unfolding view operation
 returns-2 c =
     let a = c .before .a .given in
     let start = c .before .before .before .before .before .before in
@@ -26,7 +31,8 @@ returns-2 c =
     let out = args .out .now in
     let grant = grant-of (args .role) (args .positions .now) in
     answers-refused _ _ _ out
-    (refused-table table grant (length out) _ _ (refused-some table _ _ (rw (a .1) at pre)))
+    (text-refused table (length out) (encode (view-unit grant (unit table))) _ _
+    (refused-some table _ _ (rw (a .1) at pre)))
 
 pub view-checked-spec : {M : Type 1} → statement M
 view-checked-spec =

@@ -3,13 +3,13 @@ use native.Mathlib.Omega.{arith}
 use lib.ListN.{length}
 use Rattle.xliff.specs.Encode.{encode}
 use Rattle.xliff.specs.Parse.{unit}
+use Rattle.xliff.specs.Check.{operation}
 use Rattle.places.proofs.Places.{checked-passes}
 use Rattle.table.proofs.WidthLaws.{bytes-known}
 use Rattle.draft.specs.declared.Draft.{Draft}
-use Rattle.draft.proofs.AnswerLaws.{answers-15, answers-written}
+use Rattle.draft.proofs.AnswerLaws.{text-15, text-written, answers-15, answers-written}
 use Rattle.grants.specs.View.{view-unit, view}
 use Rattle.granted_parts.specs.Roles.{grant-of}
-use Rattle.granted_view.proofs.ChainLaws.{refused-15, written}
 use borrow.Author.Needs.{needs}
 use Rattle.granted_view.proofs.view_passed.Statement.{statement}
 use Rattle.granted_view.proofs.view_passed.Tie as tie
@@ -27,6 +27,7 @@ put-view-requires c κs =
 
 -- return Answer::Refused(15, 0)
 returns : tie.Need-returns
+unfolding view operation
 returns c =
     let if1 = c .if1 .taken in
     let at-put-view = c .before .before .before in
@@ -39,8 +40,8 @@ returns c =
     let out = args .out .now in
     let room = length out in
     let grant = grant-of (args .role) (args .positions .now) in
-    answers-15 (view table grant room) (encode (view-unit grant (unit table))) out
-    (refused-15 table grant room pre) (written table grant room pre)
+    let text = encode (view-unit grant (unit table)) in
+    answers-15 (view table grant room) text out (text-15 table room text pre) (text-written table room text pre)
     _ (begin .ensures) _ _ (put-view .ensures) if1
 
 -- let written = put_view(out, draft::begin(false), table, role, positions)
@@ -56,6 +57,7 @@ put-view-requires-2 c κs =
 
 -- Answer::Accepted(written.used)
 returns-2 : tie.Need-returns-2
+unfolding view operation
 returns-2 c =
     let put-view2 = c .before .before .put-view2 in
     let at-begin2 = c .before .before .before in
@@ -71,8 +73,8 @@ returns-2 c =
     let out = args .out .now in
     let room = length out in
     let grant = grant-of (args .role) (args .positions .now) in
-    answers-written (view table grant room) (encode (view-unit grant (unit table))) out
-    (refused-15 table grant room pre) (written table grant room pre)
+    let text = encode (view-unit grant (unit table)) in
+    answers-written (view table grant room) text out (text-15 table room text pre) (text-written table room text pre)
     _ (begin .ensures) _ _ (put-view .ensures) if1 _ (begin2 .ensures) _ _ (put-view2 .ensures)
 
 pub view-passed-spec : {M : Type 1} → statement M

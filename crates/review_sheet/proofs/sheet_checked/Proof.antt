@@ -1,6 +1,8 @@
 use lib.ListN.{length}
 use Rattle.outcomes.proofs.OutcomeLaws.{answers-refused, accepted-none, refused-some}
-use Rattle.review_sheet.proofs.ChainLaws.{refused-table}
+use Rattle.xliff.specs.Parse.{unit}
+use Rattle.draft.proofs.AnswerLaws.{text-refused}
+use Rattle.sheet.specs.Sheet.{sheet-bytes, sheet}
 use borrow.Author.Needs.{needs}
 use Rattle.review_sheet.proofs.sheet_checked.Statement.{statement}
 use Rattle.review_sheet.proofs.sheet_checked.Tie as tie
@@ -16,6 +18,7 @@ sheet-passed-requires c κs =
 
 -- Answer::Refused(k, at)
 returns-2 : tie.Need-returns-2
+unfolding sheet
 returns-2 c =
     let a = c .before .a .given in
     let start = c .before .before .before .before .before in
@@ -23,7 +26,8 @@ returns-2 c =
     let pre = start .pre in
     let table = args .table .now in
     let out = args .out .now in
-    answers-refused _ _ _ out (refused-table table (length out) _ _ (refused-some table _ _ (rw (a .1) at pre)))
+    answers-refused _ _ _ out
+    (text-refused table (length out) (sheet-bytes (unit table)) _ _ (refused-some table _ _ (rw (a .1) at pre)))
 
 pub sheet-checked-spec : {M : Type 1} → statement M
 sheet-checked-spec =

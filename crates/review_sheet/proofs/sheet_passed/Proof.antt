@@ -5,9 +5,8 @@ use Rattle.places.proofs.Places.{checked-passes}
 use Rattle.table.proofs.WidthLaws.{bytes-known}
 use lib.ListN.{length}
 use Rattle.xliff.specs.Parse.{unit}
-use Rattle.draft.proofs.AnswerLaws.{answers-15, answers-written}
+use Rattle.draft.proofs.AnswerLaws.{text-15, text-written, answers-15, answers-written}
 use Rattle.sheet.specs.Sheet.{sheet-bytes, sheet}
-use Rattle.review_sheet.proofs.ChainLaws.{refused-15, written}
 use borrow.Author.Needs.{needs}
 use Rattle.review_sheet.proofs.sheet_passed.Statement.{statement}
 use Rattle.review_sheet.proofs.sheet_passed.Tie as tie
@@ -25,6 +24,7 @@ put-sheet-requires c κs =
 
 -- return Answer::Refused(15, 0)
 returns : tie.Need-returns
+unfolding sheet
 returns c =
     let if1 = c .if1 .taken in
     let at-put-sheet = c .before .before .before in
@@ -36,7 +36,8 @@ returns c =
     let table = args .table .now in
     let out = args .out .now in
     let room = length out in
-    answers-15 (sheet table room) (sheet-bytes (unit table)) out (refused-15 table room pre) (written table room pre)
+    let text = sheet-bytes (unit table) in
+    answers-15 (sheet table room) text out (text-15 table room text pre) (text-written table room text pre)
     _ (begin .ensures) _ _ (put-sheet .ensures) if1
 
 -- let written = sheet_rows::put_sheet(out, draft::begin(false), table)
@@ -53,6 +54,7 @@ put-sheet-requires-2 c κs =
 
 -- Answer::Accepted(written.used)
 returns-2 : tie.Need-returns-2
+unfolding sheet
 returns-2 c =
     let put-sheet2 = c .before .before .put-sheet2 in
     let at-begin2 = c .before .before .before in
@@ -67,8 +69,8 @@ returns-2 c =
     let table = args .table .now in
     let out = args .out .now in
     let room = length out in
-    answers-written (sheet table room) (sheet-bytes (unit table)) out (refused-15 table room pre)
-    (written table room pre)
+    let text = sheet-bytes (unit table) in
+    answers-written (sheet table room) text out (text-15 table room text pre) (text-written table room text pre)
     _ (begin .ensures) _ _ (put-sheet .ensures) if1 _ (begin2 .ensures) _ _ (put-sheet2 .ensures)
 
 pub sheet-passed-spec : {M : Type 1} → statement M

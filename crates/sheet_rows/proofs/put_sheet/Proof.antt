@@ -2,14 +2,18 @@ use Prim.Native.Nat.{_-_}
 use native.Mathlib.Omega.{arith}
 use mathlib.Core.Path.{sym, _∙_}
 use lib.ListN.{length}
-use Rattle.sheet_rows.proofs.SheetLaws.{Sheeted, sheeted-start, sheeted-end, sheeted-part, sheeted-few, sheeted-stands, sheeted-moves, sheeted-within, sheeted-on}
+use Rattle.xliff.specs.Parse.{unit}
+use Rattle.draft.proofs.DraftLaws.{wrote-as}
+use Rattle.part_texts.proofs.WalkLaws.{PartsPut, put-start, put-end, put-from, put-few, put-stands, put-less, put-on}
+use Rattle.sheet.specs.Sheet.{sheet-rows, sheet-bytes}
+use Rattle.sheet_rows.proofs.SheetLaws.{part-sheet, sheet-by-part}
 use borrow.Author.Needs.{needs}
 use Rattle.sheet_rows.proofs.put_sheet.Statement.{statement}
 use Rattle.sheet_rows.proofs.put_sheet.Tie as tie
 
 -- the rows of the parts so far are written
 abbrev Inv-loop : tie.InvT-loop
-Inv-loop out₀ t behind₀ at₀ n₀ out behind at n = Sheeted t out₀ behind₀ at n out behind
+Inv-loop out₀ t behind₀ at₀ n₀ out behind at n = PartsPut part-sheet t out₀ behind₀ at n out behind
 
 abbrev μ-loop : tie.MeasureT-loop
 μ-loop out₀ t behind₀ at₀ n₀ out behind at n = length t - at
@@ -20,7 +24,7 @@ loop-holds c =
     let start = c .before .before in
     let args = start .args in
     let pre = start .pre in
-    sheeted-start (args .t .now) (args .out .now) (args .draft) (pre .1) (pre .0)
+    put-start part-sheet (args .t .now) (args .out .now) (args .draft) (pre .1) (pre .0)
 
 -- let place = part_at::part_from(t, at)
 part-from-requires : tie.Need-part-from-requires Inv-loop μ-loop
@@ -28,10 +32,8 @@ part-from-requires c κs =
     let if1 = c .if1 .taken in
     let starts-part = c .before .starts-part in
     let loop = c .before .before .loop in
-    let start = c .before .before .before .before .before in
-    let t = start .args .t .now in
-    let passes = start .pre .1 in
-    sheeted-part t passes _ _ (loop .at) (loop .n) _ _ (loop .inv) (sym (starts-part .ensures) ∙ if1)
+    let passes = c .before .before .before .before .before .pre .1 in
+    put-from passes (loop .inv) (sym (starts-part .ensures) ∙ if1)
 
 -- behind = put_part(out, behind, t, n, place)
 put-part-requires : tie.Need-put-part-requires Inv-loop μ-loop
@@ -41,13 +43,9 @@ put-part-requires c κs =
     let starts-part = c .before .before .before .starts-part in
     let at-loop = c .before .before .before .before in
     let loop = at-loop .loop in
-    let start = at-loop .before .before .before in
-    let t = start .args .t .now in
-    let passes = start .pre .1 in (
-      loop .inv .wrote .inside,
-      sheeted-stands t passes _ _ (loop .at) (loop .n) _ _ (loop .inv) (sym (starts-part .ensures) ∙ if1)
-          (part-from .result) (part-from .ensures),
-    )
+    let passes = at-loop .before .before .before .pre .1 in
+    let is = sym (starts-part .ensures) ∙ if1 in
+    (loop .inv .wrote .inside, put-stands passes (loop .inv) is (part-from .result) (part-from .ensures))
 
 -- n += 1
 add-n : tie.Need-add-n Inv-loop μ-loop
@@ -56,13 +54,8 @@ add-n c =
     let starts-part = c .before .before .before .before .before .before .starts-part in
     let at-loop = c .before .before .before .before .before .before .before in
     let loop = at-loop .loop in
-    let start = at-loop .before .before .before in
-    let t = start .args .t .now in
-    let passes = start .pre .1 in
-    omega (
-      arith,
-      sheeted-few t passes _ _ (loop .at) (loop .n) _ _ (loop .inv) (sym (starts-part .ensures) ∙ if1),
-    )
+    let passes = at-loop .before .before .before .pre .1 in
+    omega (arith, put-few passes (loop .inv) (sym (starts-part .ensures) ∙ if1))
 
 -- at = place.end
 loop-less : tie.Need-loop-less Inv-loop μ-loop
@@ -72,16 +65,8 @@ loop-less c =
     let starts-part = c .before .before .before .before .before .before .starts-part in
     let at-loop = c .before .before .before .before .before .before .before in
     let loop = at-loop .loop in
-    let start = at-loop .before .before .before in
-    let t = start .args .t .now in
-    let passes = start .pre .1 in
-    let is = sym (starts-part .ensures) ∙ if1 in
-    let place = part-from .result in
-    omega (
-      arith,
-      sheeted-moves t passes _ _ (loop .at) (loop .n) _ _ (loop .inv) is place (part-from .ensures),
-      sheeted-within t passes _ _ (loop .at) (loop .n) _ _ (loop .inv) is place (part-from .ensures),
-    )
+    let passes = at-loop .before .before .before .pre .1 in
+    put-less passes (loop .inv) (sym (starts-part .ensures) ∙ if1) (part-from .result) (part-from .ensures)
 
 -- one part more
 loop-again : tie.Need-loop-again Inv-loop μ-loop
@@ -92,11 +77,9 @@ loop-again c =
     let starts-part = c .before .before .before .before .before .before .starts-part in
     let at-loop = c .before .before .before .before .before .before .before in
     let loop = at-loop .loop in
-    let start = at-loop .before .before .before in
-    let t = start .args .t .now in
-    let passes = start .pre .1 in
-    sheeted-on t passes _ _ (loop .at) (loop .n) _ _ (loop .inv) (sym (starts-part .ensures) ∙ if1)
-    (part-from .result) (part-from .ensures) (put-part .last .0) (put-part .result) (put-part .ensures)
+    let passes = at-loop .before .before .before .pre .1 in
+    put-on passes (loop .inv) (sym (starts-part .ensures) ∙ if1) (part-from .result) (part-from .ensures)
+    (put-part .last .0) (put-part .result) (put-part .ensures)
 
 -- the output keeps its length
 same-length : tie.Need-same-length Inv-loop μ-loop
@@ -106,14 +89,14 @@ same-length c =
 
 -- behind
 returns : tie.Need-returns Inv-loop μ-loop
+unfolding sheet-bytes sheet-rows
 returns c =
     let if1 = c .if1 .left in
     let starts-part = c .before .starts-part in
     let loop = c .before .before .loop in
     let start = c .before .before .before .before .before in
-    let t = start .args .t .now in
-    let passes = start .pre .1 in
-    sheeted-end t passes _ _ (loop .at) (loop .n) _ _ (loop .inv) (sym (starts-part .ensures) ∙ if1)
+    let none = sym (starts-part .ensures) ∙ if1 in
+    wrote-as (sheet-by-part 1 (unit (start .args .t .now) .parts)) (put-end (start .pre .1) (loop .inv) none)
 
 pub put-sheet-spec : {M : Type 1} → statement M
 put-sheet-spec =
