@@ -40,7 +40,8 @@ no-half i (x ∷ xs) e = by (half-of-id i x) refl (no-half i xs (omega arith))
     by true q h = absurd (let w : half-bit i x ≡ 1 = rw q in let z : ⊥ = omega arith in z)
     by false q h = h
 
-two-kept : (i : ℕ) (xs : Content) (two : rewriting.TwoHalves i xs) → keep (half-of-id i) xs ≡ two .opener ∷ two .closer ∷ []
+two-kept : (i : ℕ) (xs : Content) (two : rewriting.TwoHalves i xs)
+    → keep (half-of-id i) xs ≡ two .opener ∷ two .closer ∷ []
 unfolding keep
 two-kept i xs two =
     ap (keep h) (two .is)

@@ -44,7 +44,13 @@ pub put-start : (text : ℕ → Part → List ℕ) (t out : List ℕ) (draft : D
     → PartsPut text t out draft 3 1 out draft
 unfolding part-texts
 put-start text t out draft p h =
-    record { behind = []; ahead = unit t .parts; walked = walked-start t p; number = omega arith; wrote = wrote-nothing h }
+    record {
+      behind = [];
+      ahead = unit t .parts;
+      walked = walked-start t p;
+      number = omega arith;
+      wrote = wrote-nothing h;
+    }
 
 module _ {text : ℕ → Part → List ℕ} {t : List ℕ} (h : Passes t) {first : List ℕ} {begun : Draft} {at n : ℕ}
     {out : List ℕ} {draft : Draft} (l : PartsPut text t first begun at n out draft) where
