@@ -83,7 +83,14 @@ pub fn granted(role: Role, positions: &[u8], table: &[u8], r: Request) -> bool
 }
 
 // 24, then the request `r` at the head of `s`.
-fn call_read(role: Role, positions: &[u8], table: &[u8], r: Request, s: &[u8], out: &mut [u8]) -> Answer
+fn call_read(
+    role: Role,
+    positions: &[u8],
+    table: &[u8],
+    r: Request,
+    s: &[u8],
+    out: &mut [u8],
+) -> Answer
     requires { ⌜ (table-refusal (now table) ≡ none) × (request-size r ≤ length (now s)) ⌝ }
     ensures { λ a. ⌜ Answers (call-granted (grant-of role (now (positions .entry))) (now (table .entry)) (now (s
         .entry)) r (length (now (out .entry)))) a (now (out .entry)) (now (out .exit)) ⌝ }
@@ -109,7 +116,14 @@ fn call_passed(role: Role, positions: &[u8], table: &[u8], request: &[u8], out: 
     call_read(role, positions, table, r, request, out)
 }
 
-fn call_checked(role: Role, positions: &[u8], table: &[u8], a: Answer, request: &[u8], out: &mut [u8]) -> Answer
+fn call_checked(
+    role: Role,
+    positions: &[u8],
+    table: &[u8],
+    a: Answer,
+    request: &[u8],
+    out: &mut [u8],
+) -> Answer
     requires { ⌜ answer-meaning a ≡ check (now table) ⌝ }
     ensures { λ r. ⌜ Answers (granted-request (grant-of role (now (positions .entry))) (now (table .entry)) (now
         (request .entry)) (length (now (out .entry)))) r (now (out .entry)) (now (out .exit)) ⌝ }
@@ -122,9 +136,22 @@ fn call_checked(role: Role, positions: &[u8], table: &[u8], a: Answer, request: 
 
 // The request, with a grant, on the table: "24, call not granted, after the table's check and before everything else."
 // Accepted: the output's first bytes are the result, the rest is unchanged. Refused: the whole output is unchanged.
-pub fn granted_call(role: Role, positions: &[u8], table: &[u8], request: &[u8], out: &mut [u8]) -> Answer
+pub fn granted_call(
+    role: Role,
+    positions: &[u8],
+    table: &[u8],
+    request: &[u8],
+    out: &mut [u8],
+) -> Answer
     ensures { λ r. ⌜ Answers (granted-request (grant-of role (now (positions .entry))) (now (table .entry)) (now
         (request .entry)) (length (now (out .entry)))) r (now (out .entry)) (now (out .exit)) ⌝ }
 {
-    call_checked(role, positions, table, table_check::check(table), request, out)
+    call_checked(
+        role,
+        positions,
+        table,
+        table_check::check(table),
+        request,
+        out,
+    )
 }
