@@ -1,35 +1,21 @@
 // Whether the halves of an id stand in granted parts.
 use granted_parts::Role;
 ghost use mathlib.Core.Path.{_≡_};
-ghost use mathlib.Core.Bool.{not, _&&_};
-ghost use Prim.Native.Nat.{_<_};
-ghost use Rattle.xliff.specs.Parse.{unit};
+ghost use mathlib.Core.Bool.{not, _&&_, cond};
+ghost use Prim.Native.Nat.{suc, _≤_};
+ghost use Rattle.xliff.specs.Parse.{unit, most-parts};
 ghost use Rattle.xliff.specs.Rules.{half-of-id};
 ghost use Rattle.places.specs.Passes.{Passes};
 ghost use Rattle.places.specs.Markers.{item-at};
 ghost use Rattle.grants.specs.Grant.{within, halves-within};
 ghost use Rattle.granted_parts.specs.Roles.{grant-of};
-ghost use Rattle.granted_halves.specs.Walked.{number-next, inside-next};
 
-// The position of the part behind a record: 0 for the head of a part.
-fn number_next(n: usize, head: u8) -> usize
-    requires { ⌜ n < 9223372036854775808 ⌝ }
-    ensures { λ r. ⌜ r ≡ number-next n head ⌝ }
+// The position of the part behind a record, which may be the head of a part.
+fn number_after(head: bool, n: usize) -> usize
+    requires { ⌜ n ≤ most-parts ⌝ }
+    ensures { λ r. ⌜ r ≡ cond head (suc n) n ⌝ }
 {
-    if head == 0 { n + 1 } else { n }
-}
-
-// Whether what follows a record is of a content of the side.
-fn inside_next(source: bool, inside: bool, head: u8) -> bool
-    ensures { λ r. ⌜ r ≡ inside-next source inside head ⌝ }
-{
-    if head == 0 {
-        return source;
-    }
-    if head == 1 {
-        return !source;
-    }
-    inside
+    if head { n + 1 } else { n }
 }
 
 // Whether the item at an offset is a half of the id, in a content of the side, and its part `n` is outside the grant.
@@ -42,7 +28,8 @@ fn stands_outside(
     inside: bool,
     id: u16,
 ) -> bool
-    ensures { λ r. ⌜ r ≡ (inside && half-of-id id (item-at (now (t .entry)) at)) && not (within (grant-of role (now (positions .entry))) n) ⌝ }
+    ensures { λ r. ⌜ r ≡ (inside && half-of-id id (item-at (now (t .entry)) at))
+        && not (within (grant-of role (now (positions .entry))) n) ⌝ }
 {
     let v = views::view_at(t, at);
     if inside & (!(v.half == 0) & (v.id == id)) {
@@ -54,7 +41,8 @@ fn stands_outside(
 // Whether the halves of the id on the side stand in granted parts.
 pub fn halves_within(t: &[u8], role: Role, positions: &[u8], side: u8, id: u16) -> bool
     requires { ⌜ Passes (now t) ⌝ }
-    ensures { λ r. ⌜ r ≡ halves-within (grant-of role (now (positions .entry))) side id 1 (unit (now (t .entry)) .parts) ⌝ }
+    ensures { λ r. ⌜ r ≡ halves-within (grant-of role (now (positions .entry))) side id 1
+        (unit (now (t .entry)) .parts) ⌝ }
 {
     let source = side == b'S';
     let mut at: usize = 0;
@@ -62,12 +50,11 @@ pub fn halves_within(t: &[u8], role: Role, positions: &[u8], side: u8, id: u16) 
     let mut inside = false;
     while at < t.len() {
         let g = walker::glance_at(t, at);
-        let head = g.head;
         if stands_outside(t, at, role, positions, n, inside, id) {
             return false;
         }
-        n = number_next(n, head);
-        inside = inside_next(source, inside, head);
+        n = number_after(g.head == 0, n);
+        inside = rewrite_marks::inside_of(source, inside, g.head);
         at += g.width;
     }
     true

@@ -12,7 +12,7 @@ ghost use Rattle.writer.specs.Pieces.{lead, overlay};
 ghost use Rattle.rewrite_marks.specs.Rewritten.{insideOf, startMark, endMark, halfMark, formed, rewrittenBytes};
 
 // Whether what follows a record is of a content of the side; `head` is 0 for SG and IG, 1 for TG.
-fn inside_of(source: bool, inside: bool, head: u8) -> bool
+pub fn inside_of(source: bool, inside: bool, head: u8) -> bool
     ensures { λ r. ⌜ r ≡ insideOf source inside head ⌝ }
 {
     if head == 0 {

@@ -23,31 +23,29 @@ slice-aggregate-perform c =
 keep-requires : tie.Need-keep-requires
 unfolding left
 keep-requires c κs =
-    let after-perform = c .before .before .before .before .before .before in
+    let after-perform = c .before .before .before .before .before .before .before in
     let pre = after-perform .before .before .before .before .before .before .pre in
-    let perform = after-perform .perform in (
-      pre .0,
-      pre .1,
-      perform .ensures .1,
-      answer-fits _ (perform .result) _ _ (perform .ensures .0) refl (perform .ensures .1),
-    )
+    let perform = after-perform .perform in
+    let whole = perform .kept .1 .1 .1 .0 in
+    (pre .0, pre .1, whole, answer-fits _ (perform .result) _ _ (perform .ensures) refl whole)
 
 -- the end
 returns : tie.Need-returns
 unfolding left
 returns c =
     let after-put-line = c .before .before .before .before .before .before .before in
-    let args = after-put-line .before .before .before .before .before .before .before .before .args in
-    let perform = after-put-line .before .before .perform in
+    let after-perform = after-put-line .before .before .before in
+    let args = after-perform .before .before .before .before .before .before .args in
+    let perform = after-perform .perform in
     let put-line = after-put-line .put-line in
     let keep = c .before .before .keep in
-    let e = perform .ensures .0 .0 in
+    let e = perform .ensures .0 in
     record {
       prints = put-line .ensures .0 ∙ ap (λ (x : spec.Answer). length (line x)) e;
       wrote = put-line .ensures .1 ∙ ap (λ (x : spec.Answer). lead (line x) (args .out .now)) e;
       short = put-line .ensures .2;
       leaves = keep .ensures .0
-          ∙ answer-keeps _ (perform .result) (args .n) (args .table .now) _ _ (perform .ensures .0);
+          ∙ answer-keeps _ (perform .result) (args .n) (args .table .now) _ _ (perform .ensures);
       fits = keep .ensures .1;
     }
 
@@ -59,8 +57,8 @@ answer-request-spec =
     -- by search: slice-reshare-prefix-perform
     (λ c. search needs)
     slice-aggregate-perform
-    -- by search: perform-requires, put-line-requires, slice-aggregate-keep
-    (λ c κs. search needs) (λ c κs. search needs) (λ c. search needs)
+    -- by search: slice-aggregate-perform-2, perform-requires, put-line-requires, slice-aggregate-keep
+    (λ c. search needs) (λ c κs. search needs) (λ c κs. search needs) (λ c. search needs)
     keep-requires
     -- by search: same-length, same-length-2
     (λ c. search needs) (λ c. search needs)
