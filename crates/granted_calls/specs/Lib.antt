@@ -1,1 +1,1 @@
-pub mod Granted
+pub mod Called
