@@ -25,19 +25,19 @@ head-most (ignorable i) = omega arith
 pub some-most : (bytes : List ℕ) → SomeHead bytes → length bytes ≤ 6
 some-most bytes (h, e) = omega (arith, head-most h, ap length e)
 
--- it is written to an array
-module _ (bytes : List ℕ) (some : SomeHead bytes) (array : List ℕ) (n : ℕ) (last : List ℕ)
-    (w : WroteState 'I' bytes array n last) where
-  shown-there : Written (head-bytes (with-state 'I' (some .0))) array n last
+-- it is written to an array, with some state
+module _ (bytes : List ℕ) (some : SomeHead bytes) (st : ℕ) (array : List ℕ) (n : ℕ) (last : List ℕ)
+    (w : WroteState st bytes array n last) where
+  shown-there : Written (head-bytes (with-state st (some .0))) array n last
   shown-there = w (some .0) (some .1)
 
   pub shown-most : n ≤ 6
-  shown-most = omega (arith, shown-there .0, head-most (with-state 'I' (some .0)))
+  shown-most = omega (arith, shown-there .0, head-most (with-state st (some .0)))
 
   pub shown-long : n ≡ length (take n last)
-  shown-long = head-long (head-bytes (with-state 'I' (some .0))) array last n (shown-there .0) (shown-there .1)
+  shown-long = head-long (head-bytes (with-state st (some .0))) array last n (shown-there .0) (shown-there .1)
 
--- and then put behind the text
+-- and from there put behind the text
 pub shown-put : (bytes array : List ℕ) (n : ℕ) (last : List ℕ) → WroteState 'I' bytes array n last
     → (out : List ℕ) (draft : Draft) (out′ : List ℕ) (r : Draft) → Wrote (take n last) out draft out′ r
     → PutHead bytes out draft out′ r

@@ -16,16 +16,16 @@ use Rattle.draft.proofs.DraftLaws.{wrote-then, wrote-as}
 use Rattle.grants.specs.View.{shown}
 use Rattle.granted_view.specs.Shown.{PutHead}
 
-shown-bytes : Bool → Part → List ℕ
+abbrev shown-bytes : Bool → Part → List ℕ
 shown-bytes inside p = spell (part-records (shown inside p))
 
 whole-bytes : (p : Part) (inside : Bool) → inside ≡ true → spell (part-records p) ≡ shown-bytes inside p
-unfolding shown shown-bytes
+unfolding shown
 whole-bytes p inside e = ap (λ (i : Bool). shown-bytes i p) (sym e)
 
 hidden-bytes : (p : Part) (inside : Bool) → inside ≡ false
     → head-bytes (with-state 'I' (p .head)) ++ content-bytes (p .source) ≡ shown-bytes inside p
-unfolding shown shown-bytes spell gather target-records
+unfolding shown spell gather target-records
 hidden-bytes p inside e =
     sym (append-nil (head-bytes (with-state 'I' (p .head)) ++ content-bytes (p .source)))
     ∙ sym (part-bytes (shown false p)) ∙ ap (λ (i : Bool). shown-bytes i p) (sym e)
@@ -35,8 +35,7 @@ module _ (t : List ℕ) (b : List Part) (p : Part) (a : List Part) (place : Part
   -- within the grant
   pub whole-put : inside ≡ true → (last : List ℕ) (r : Draft)
       → Wrote (take (place .end - place .head) (drop (place .head) t)) out draft last r
-      → Wrote (spell (part-records (shown inside p))) out draft last r
-  unfolding shown-bytes
+      → Wrote (shown-bytes inside p) out draft last r
   whole-put e last r w = wrote-as (s .whole .is ∙ whole-bytes p inside e) w
 
   -- outside
@@ -44,8 +43,7 @@ module _ (t : List ℕ) (b : List Part) (p : Part) (a : List Part) (place : Part
       → PutHead (take (place .source - place .head) (drop (place .head) t)) out draft out₁ headed
       → (last : List ℕ) (r : Draft)
       → Wrote (take (place .target - place .source) (drop (place .source) t)) out₁ headed last r
-      → Wrote (spell (part-records (shown inside p))) out draft last r
-  unfolding shown-bytes
+      → Wrote (shown-bytes inside p) out draft last r
   hidden-put e out₁ headed put last r w =
       wrote-as (hidden-bytes p inside e)
       (wrote-then (put (p .head) (sym (s .head .is))) (wrote-as (s .source .is) w))

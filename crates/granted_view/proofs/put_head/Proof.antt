@@ -18,7 +18,7 @@ array-share-prefix-shown c =
     let state = c .before .before .put-with-state in
     let start = c .before .before .before .before .before .before in
     let head = start .args .head .now in
-    omega (arith, shown-most head (start .pre .1) _ (state .result) (state .last .0) (state .ensures))
+    omega (arith, shown-most head (start .pre .1) _ _ (state .result) (state .last .0) (state .ensures))
 
 -- &shown[..n]
 slice-aggregate-put : tie.Need-slice-aggregate-put
@@ -26,7 +26,7 @@ slice-aggregate-put c =
     let state = c .before .before .before .put-with-state in
     let start = c .before .before .before .before .before .before .before in
     let head = start .args .head .now in
-    shown-long head (start .pre .1) _ (state .result) (state .last .0) (state .ensures)
+    shown-long head (start .pre .1) _ _ (state .result) (state .last .0) (state .ensures)
 
 -- draft::put(out, draft, &shown[..n])
 returns : tie.Need-returns
