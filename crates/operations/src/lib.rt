@@ -11,8 +11,8 @@ ghost use Rattle.requests.specs.Requests.{request-size, call-with};
 // The content stands in the middle of the job: it is handed on as that part of the slice.
 fn set_content(table: &[u8], part: u16, state: u8, s: &[u8], n: u16, out: &mut [u8]) -> Answer
     requires { ⌜ 7 + n ≤ length (now s) ⌝ }
-    ensures { λ a. ⌜ Answers (set-target (now (table .entry)) part state (take n (drop 7 (now (s .entry)))) (length (now (out .entry)))) a
-        (now (out .entry)) (now (out .exit)) ⌝ }
+    ensures { λ a. ⌜ Answers (set-target (now (table .entry)) part state (take n (drop 7 (now (s .entry)))) (length (now
+        (out .entry)))) a (now (out .entry)) (now (out .exit)) ⌝ }
 {
     let e = 7 + n as usize;
     set_target::set_target(table, part, state, &s[7..e], out)

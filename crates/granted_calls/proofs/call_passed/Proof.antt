@@ -16,10 +16,11 @@ returns c =
     let read = c .before .before .request-of in
     let start = c .before .before .before .before .before .before .before in
     let args = start .args in
+    let request = args .request .now in
     let out = args .out .now in
     let grant = grant-of (args .role) (args .positions .now) in
     answers-refused _ 2 0 out
-    (unreadable grant (args .table .now) (args .request .now) (length out) (start .pre) (read .result) (read .ensures .0)
+    (unreadable grant (args .table .now) request (length out) (start .pre) (read .result) (read .ensures .0)
     (c .enum-told .given .1))
 
 -- if !(requests::size_of(r) == request.len()) { return Answer::Refused(2, 0); }

@@ -13,8 +13,9 @@ use Rattle.granted_requests.proofs.whole_granted.Tie as tie
 returns : tie.Need-returns
 returns c =
     let args = c .before .before .before .args in
+    let grant = grant-of (args .role) (args .positions .now) in
     let parts = unit (args .table .now) .parts in
-    sym (by-side (grant-of (args .role) (args .positions .now)) parts (args .side) (args .id) (not-true _ (c .if1 .taken)))
+    sym (by-side grant parts (args .side) (args .id) (not-true _ (c .if1 .taken)))
 
 -- whole_pair::find(table, side, id)
 find-requires : tie.Need-find-requires
