@@ -9,7 +9,7 @@ const A_B: &str = "554E59534700012D4954580004412E20425545";
 /// Every line of the vectors, answered as `deskjob lines` answers it.
 #[test]
 fn the_vectors_are_answered() {
-    let path = concat!(env!("CARGO_MANIFEST_DIR"), "/../../vectors/after-05.txt");
+    let path = concat!(env!("CARGO_MANIFEST_DIR"), "/../../vectors/after-06.txt");
     let file = std::fs::read_to_string(path).unwrap();
     let (mut passed, mut failed) = (0, 0);
     for line in file.lines() {
@@ -22,7 +22,7 @@ fn the_vectors_are_answered() {
         }
     }
     assert_eq!(failed, 0, "{failed} lines are answered otherwise, {passed} as expected");
-    assert!(passed >= 461, "only {passed} lines");
+    assert!(passed >= 1014, "only {passed} lines");
 }
 
 /// The printed job of document 01, as a job and as a call.
