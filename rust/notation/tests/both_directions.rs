@@ -101,6 +101,10 @@ fn odd_bytes_are_shown() {
     assert_eq!(texts(records(table)), expected);
     assert_eq!(texts(job(b"UEXXA")), ["UE", "585841 (no request)"]);
     assert_eq!(texts(job(b"UERT\0\x01RT\0")), ["UE", "RT 1", "525400 (no request)"]);
+    // and with no table before them
+    let shown = texts(notation::requests(b"ST\0\x01T\0\x05TX\0\x01aRT\0\x01RT"));
+    assert_eq!(shown, ["ST 1 T", "  TX \"a\"", "RT 1", "5254 (no request)"]);
+    assert!(notation::requests(b"").is_empty());
 }
 
 /// An accent that is a code point of its own, U+0300 to U+036F, is shown as such, so that items can
