@@ -137,6 +137,12 @@ fn mistakes_have_line_and_column() {
     assert_eq!(mistake("CP Z"), "line 1, column 4: Z is no code point in hexadecimal");
     let long = format!("TX \"{}\"", "é".repeat(32768));
     assert_eq!(mistake(&long), "line 1, column 4: the text has over 65,535 bytes");
+    // two records of 32,767 bytes, and a third
+    let text = format!("TX \"{}\"\n", "a".repeat(32763));
+    let content = ["UE\nST 1 T\n", &text, &text].concat();
+    assert_eq!(read(&content).map(|job| job.requests[0].bytes().len()), Ok(7 + 65534));
+    let mistaken = mistake(&[&content, "  MC 7\n"].concat());
+    assert_eq!(mistaken, "line 5, column 3: the content has over 65,535 bytes");
 }
 
 #[test]
@@ -163,6 +169,8 @@ fn jobs_go_there_and_back() {
         let (table, behind) = bytes.split_at(read.table.len());
         assert_eq!(read.table, table, "{text}");
         assert_eq!(read.requests, requests(behind), "{text}");
+        let bytes: Vec<u8> = read.requests.iter().flat_map(|request| request.bytes()).collect();
+        assert_eq!(bytes, behind, "{text}");
         tables += 1;
         with_requests += usize::from(!behind.is_empty());
     }
