@@ -8,15 +8,15 @@
 //!     rt staticlib desk_library
 //!     cargo run --profile measured --manifest-path rust/Cargo.toml -p bench
 
+mod grants;
 mod units;
 
 use std::hint::black_box;
 use std::time::Instant;
 
-use second::desk::read_request;
 use second::operations as plain;
 use units::Unit;
-use xliff_desk::{Form, Grant, Role, Side, State};
+use xliff_desk::{Form, Side, State};
 
 const PASSES: usize = 10;
 const ROUNDS: usize = 40;
@@ -61,7 +61,7 @@ fn measure(units: &[Unit], chains: &[Unit]) -> Vec<Row> {
         rows.push(measure_set_target(unit));
         rows.extend(measure_targets(unit));
         rows.push(measure_sheet(unit));
-        rows.extend(measure_grants(unit));
+        rows.extend(grants::measure(unit));
         rows.push(measure_job(unit));
     }
     rows.extend(chains.iter().map(measure_set_target));
@@ -145,41 +145,6 @@ fn measure_sheet(unit: &Unit) -> Row {
     let plain_out = second::sheet::sheet(table, SHEET_ROOM).expect("a valid unit");
     assert!(out.starts_with(&plain_out) && out == tuned_out, "the sheets of {} differ", unit.name);
     measured
-}
-
-/// What a translator of part 1 sees, and its setting of that target. The three results are equal
-/// too.
-fn measure_grants(unit: &Unit) -> [Row; 2] {
-    let Unit { table, content, .. } = unit;
-    let (out, tuned_out) = (&mut vec![0; ROOM], &mut vec![0; ROOM]);
-    let grant = Grant { role: Role::Translator, positions: &[1] };
-    let plain_grant = second::grant::Grant { role: b'T', positions: &[1] };
-    let same = |out: &[u8], tuned_out: &[u8], plain_out: plain::Outcome, name: &str| {
-        let same = out == tuned_out && plain_out.is_ok_and(|plain_out| out.starts_with(&plain_out));
-        assert!(same, "the results of {name} differ on {}", unit.name);
-    };
-    let view_row = row(
-        unit,
-        "view",
-        || ok(xliff_desk::view(grant, table, out)),
-        || second::grant::view(&plain_grant, table, ROOM).is_ok(),
-        || accepted(tuned::view(b'T', &[1], table, tuned_out)),
-    );
-    same(out, tuned_out, second::grant::view(&plain_grant, table, ROOM), "view");
-    let request = set_request(content);
-    let plain_call = || {
-        let (read, _) = read_request(&request, 0).expect("a readable request");
-        second::grant::granted_call(&plain_grant, table, &read, ROOM)
-    };
-    let set_row = row(
-        unit,
-        "granted set",
-        || ok(xliff_desk::granted_call(grant, table, &request, out)),
-        || plain_call().is_ok(),
-        || accepted(tuned::granted_call(b'T', &[1], table, &request, tuned_out)),
-    );
-    same(out, tuned_out, plain_call(), "the granted set target");
-    [view_row, set_row]
 }
 
 /// The request that sets the target of part 1.
