@@ -8,6 +8,7 @@
 //!     rt staticlib desk_library
 //!     cargo run --profile measured --manifest-path rust/Cargo.toml -p bench
 
+mod grants;
 mod units;
 
 use std::hint::black_box;
@@ -60,6 +61,7 @@ fn measure(units: &[Unit], chains: &[Unit]) -> Vec<Row> {
         rows.push(measure_set_target(unit));
         rows.extend(measure_targets(unit));
         rows.push(measure_sheet(unit));
+        rows.extend(grants::measure(unit));
         rows.push(measure_job(unit));
     }
     rows.extend(chains.iter().map(measure_set_target));
@@ -145,6 +147,12 @@ fn measure_sheet(unit: &Unit) -> Row {
     measured
 }
 
+/// The request that sets the target of part 1.
+fn set_request(content: &[u8]) -> Vec<u8> {
+    let length = (content.len() as u16).to_be_bytes();
+    [b"ST\0\x01T".as_slice(), &length, content].concat()
+}
+
 fn measure_job(unit: &Unit) -> Row {
     let job = five_requests(unit);
     row(
@@ -163,8 +171,7 @@ fn five_requests(unit: &Unit) -> Vec<u8> {
         unit.table.as_slice(),
         &[b"SP\0\x01".as_slice(), &cut, b"\0\0\x03\x84"].concat(),
         b"JN\0\x01",
-        &[b"ST\0\x01T", (unit.content.len() as u16).to_be_bytes().as_slice(), &unit.content]
-            .concat(),
+        &set_request(&unit.content),
         b"RT\0\x01",
         &[b"RWS".as_slice(), &pair, b"S"].concat(),
     ]

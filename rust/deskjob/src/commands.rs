@@ -1,13 +1,14 @@
 //! The commands: each gives what it prints and how it ends.
 
-use xliff_desk::Answer;
+use xliff_desk::{Answer, Grant};
 
 use crate::difference::marked;
 use crate::job::{Job, Unit, ROOM};
 use crate::table::{set_in, texts};
 use crate::{lines, requests};
 
-/// Enough for every table's text in XML and for its sheet: 16 and 20 bytes for each of its own.
+/// Enough for every table's text in XML and for its sheet, 16 and 20 bytes for each of its own, and
+/// for its views.
 const TEXT_ROOM: usize = 20 * ROOM;
 
 /// What a command prints to standard output, and how it ends.
@@ -41,9 +42,10 @@ impl Shown {
     }
 }
 
-/// Each request's answer in words, and the table before and after with the differences marked.
-pub fn run(job: &Job) -> Shown {
-    let (mut shown, table) = session(job);
+/// Each request's answer in words, and the table before and after with the differences marked. With
+/// a grant each request must be within it.
+pub fn run(job: &Job, grant: Option<Grant>) -> Shown {
+    let (mut shown, table) = session(job, grant);
     if let Some(table) = table {
         shown.text += &format!("\nthe table:\n{}", set_in(&table));
     }
@@ -51,7 +53,7 @@ pub fn run(job: &Job) -> Shown {
 }
 
 /// The answers to a job's requests, and the table after them, unless it is refused itself.
-fn session(job: &Job) -> (Shown, Option<Vec<u8>>) {
+fn session(job: &Job, grant: Option<Grant>) -> (Shown, Option<Vec<u8>>) {
     let mut table = match job.unit.table() {
         Ok(table) => table,
         Err(refusal) => return (Shown::refused(format!("check: {refusal}")), None),
@@ -59,7 +61,7 @@ fn session(job: &Job) -> (Shown, Option<Vec<u8>>) {
     let mut shown = Shown::accepted(format!("check: {}\n", in_words(Ok(table.len()))));
     for request in &job.requests {
         let mut out = vec![0; ROOM];
-        let answer = requests::ask(request, &table, &mut out);
+        let answer = requests::ask_within(grant, request, &table, &mut out);
         shown.text += &format!("\n{}\n{}\n", requests::in_words(request), in_words(answer));
         match answer {
             Ok(length) => {
@@ -94,25 +96,32 @@ pub fn show(unit: &Unit) -> Shown {
 
 /// The table after the job's requests, as XML; where anything is refused, the answers.
 pub fn xml(job: &Job) -> Shown {
-    let mut shown = after_requests(job, xliff_desk::write_xml);
-    if shown.end == End::Accepted {
-        shown.text.push('\n');
-    }
-    shown
+    let with_line_feed = |text: &[u8]| format!("{}\n", String::from_utf8_lossy(text));
+    after_requests(job, xliff_desk::write_xml, with_line_feed)
 }
 
 /// The review sheet of the table after the job's requests; where anything is refused, the answers.
 pub fn sheet(job: &Job) -> Shown {
-    after_requests(job, xliff_desk::sheet)
+    after_requests(job, xliff_desk::sheet, |sheet| String::from_utf8_lossy(sheet).into_owned())
 }
 
-/// What the operation makes of the table after the job's requests.
-fn after_requests(job: &Job, operation: fn(&[u8], &mut [u8]) -> Answer) -> Shown {
-    let (answers, table) = session(job);
+/// What the grant lets see of the table after the job's requests, which run without it; where
+/// anything is refused, the answers.
+pub fn view(job: &Job, grant: Grant) -> Shown {
+    after_requests(job, |table, out| xliff_desk::view(grant, table, out), set_in)
+}
+
+/// What the operation makes of the table after the job's requests, as it is shown.
+fn after_requests(
+    job: &Job,
+    operation: impl FnOnce(&[u8], &mut [u8]) -> Answer,
+    shown: impl FnOnce(&[u8]) -> String,
+) -> Shown {
+    let (answers, table) = session(job, None);
     let Some(table) = table.filter(|_| answers.end == End::Accepted) else { return answers };
     let mut out = vec![0; TEXT_ROOM];
     match operation(&table, &mut out) {
-        Ok(length) => Shown::accepted(String::from_utf8_lossy(&out[..length])),
+        Ok(length) => Shown::accepted(shown(&out[..length])),
         Err(refusal) => Shown::refused(format!("{refusal}\n")),
     }
 }

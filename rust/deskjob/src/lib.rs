@@ -3,6 +3,7 @@
 
 pub mod commands;
 pub mod difference;
+pub mod grant;
 pub mod job;
 pub mod lines;
 pub mod requests;

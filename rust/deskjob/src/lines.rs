@@ -2,7 +2,7 @@
 //! is a function of its words; all answers are the proved desk's.
 
 use notation::{from_hexadecimal, hexadecimal, Request};
-use xliff_desk::Answer;
+use xliff_desk::{Answer, Grant, Role};
 
 use crate::requests::ask;
 
@@ -20,6 +20,8 @@ pub fn answer(line: &str) -> Result<String, String> {
         "xmlread" => with_input(xliff_desk::read_xml, words),
         "xmlwrite" => with_input(xliff_desk::write_xml, words),
         "sheet" => with_input(xliff_desk::sheet, words),
+        "view" => view(words),
+        "grantcall" => granted_call(words),
         _ => Err(format!("\"{operation}\" is no operation of the line protocol")),
     }
 }
@@ -52,6 +54,35 @@ fn with_input(operation: fn(&[u8], &mut [u8]) -> Answer, words: &[&str]) -> Resu
     let [room, input] = exactly(words)?;
     let (mut out, input) = (lent(room)?, bytes(input)?);
     Ok(with_output(operation(&input, &mut out), &out))
+}
+
+/// `view ROLE POSITIONS CAP T`
+fn view(words: &[&str]) -> Result<String, String> {
+    let [role, positions, room, table] = exactly(words)?;
+    let (role, positions) = (role_of(role)?, bytes(positions)?);
+    let (mut out, table) = (lent(room)?, bytes(table)?);
+    let grant = Grant { role, positions: &positions };
+    Ok(with_output(xliff_desk::view(grant, &table, &mut out), &out))
+}
+
+/// `grantcall ROLE POSITIONS CAP T REQ`
+fn granted_call(words: &[&str]) -> Result<String, String> {
+    let [role, positions, room, table, request] = exactly(words)?;
+    let (role, positions) = (role_of(role)?, bytes(positions)?);
+    let (mut out, table, request) = (lent(room)?, bytes(table)?, bytes(request)?);
+    if one_request(&request).is_none() {
+        return Ok("BAD".into());
+    }
+    let grant = Grant { role, positions: &positions };
+    Ok(with_output(xliff_desk::granted_call(grant, &table, &request, &mut out), &out))
+}
+
+/// "ROLE is a letter".
+fn role_of(word: &str) -> Result<Role, String> {
+    match word.as_bytes() {
+        [letter] if letter.is_ascii_graphic() => Ok(Role::from(*letter)),
+        _ => Err(format!("\"{word}\" is no letter of a role")),
+    }
 }
 
 /// The request that these bytes are, none behind it.

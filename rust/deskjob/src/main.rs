@@ -4,24 +4,34 @@ use std::io::{ErrorKind, Read, Write};
 use std::process::ExitCode;
 
 use deskjob::commands::{self, End, Shown};
+use deskjob::grant::{self, Given};
 use deskjob::job::{Job, Unit};
 
 const USAGE: &str = "\
-deskjob run JOB [REQUESTS]    run the requests, and show each answer and what it changed
-deskjob xml JOB [REQUESTS]    run the requests, and write the table after them as XML
-deskjob sheet JOB [REQUESTS]  run the requests, and print the review sheet of the table after them
-deskjob check JOB             check the unit; of a refused one, show what is blamed
-deskjob show JOB|HEX          show the unit's table, or one that the desk printed in hexadecimal
-deskjob lines                 answer lines from standard input (line protocol: vectors/README.md)
-deskjob --help                show this text
+deskjob run [GRANT] JOB [REQUESTS]  run the requests, and show each answer and what it changed
+deskjob xml JOB [REQUESTS]          run the requests, and write the table after them as XML
+deskjob sheet JOB [REQUESTS]        run the requests, and print the review sheet of the table after
+                                    them
+deskjob view GRANT JOB [REQUESTS]   run the requests, without the grant, and show what it lets see
+                                    of the table after them
+deskjob check JOB                   check the unit; of a refused one, show what is blamed
+deskjob show JOB|HEX                show the unit's table, or one that the desk printed in
+                                    hexadecimal
+deskjob lines                       answer lines from standard input (line protocol:
+                                    vectors/README.md)
+deskjob --help                      show this text
 
 JOB is a file with a job in notation, or with a unit in XML (its first byte that is no blank is <);
 REQUESTS is a file with requests in notation, which come behind those of the job. - is standard
 input. README.md has examples.
 
+GRANT is --role translator, --role reviewer or --role engineer, and --parts with the positions of
+the granted parts, 1 to 64, commas between them: --role translator --parts 1,3. Without --parts no
+part is granted; an engineer needs none. A request outside the grant is refused by 24.
+
 Exit status: 0 if nothing is refused; 1 if the unit or a request is refused (standard output shows
-it; xml then writes no XML, sheet no sheet); 2 if the command, a file, the notation or a line cannot
-be read (standard error says why).
+it; xml then writes no XML, sheet no sheet, view no view); 2 if the command, its options, a file,
+the notation or a line cannot be read (standard error says why).
 ";
 
 fn main() -> ExitCode {
@@ -47,7 +57,10 @@ fn main() -> ExitCode {
 fn command(words: &[&str]) -> Shown {
     match words {
         ["--help" | "-h" | "help"] => Shown::accepted(USAGE),
-        ["run", job, requests @ ..] if requests.len() < 2 => with_job(job, requests, commands::run),
+        [name @ ("run" | "view"), rest @ ..] => match grant::taken(rest) {
+            Ok((grant, rest)) => with_grant(name, grant, &rest).unwrap_or_else(|| unknown(words)),
+            Err(why) => Shown::failed(why),
+        },
         ["xml", job, requests @ ..] if requests.len() < 2 => with_job(job, requests, commands::xml),
         ["sheet", job, requests @ ..] if requests.len() < 2 => {
             with_job(job, requests, commands::sheet)
@@ -59,12 +72,30 @@ fn command(words: &[&str]) -> Shown {
             Err(why) => Shown::failed(why),
         },
         [] => Shown::failed(format!("no command\n\n{USAGE}")),
-        _ => Shown::failed(format!("no command of this form: {}\n\n{USAGE}", words.join(" "))),
+        _ => unknown(words),
     }
 }
 
+fn unknown(words: &[&str]) -> Shown {
+    Shown::failed(format!("no command of this form: {}\n\n{USAGE}", words.join(" ")))
+}
+
+/// `run` and `view`, with the grant of their options; nothing if the other words do not fit.
+fn with_grant(name: &str, grant: Option<Given>, words: &[&str]) -> Option<Shown> {
+    let grant = grant.as_ref().map(Given::grant);
+    let [job, requests @ ..] = words else { return None };
+    if requests.len() > 1 {
+        return None;
+    }
+    Some(match (name, grant) {
+        ("run", _) => with_job(job, requests, |job| commands::run(job, grant)),
+        (_, Some(grant)) => with_job(job, requests, |job| commands::view(job, grant)),
+        (_, None) => Shown::failed("view needs --role translator, reviewer or engineer"),
+    })
+}
+
 /// The command's outcome for the job of a file, and the requests of another if one is named.
-fn with_job(path: &str, requests: &[&str], command: fn(&Job) -> Shown) -> Shown {
+fn with_job(path: &str, requests: &[&str], command: impl FnOnce(&Job) -> Shown) -> Shown {
     match job(path, requests) {
         Ok(job) => command(&job),
         Err(why) => Shown::failed(why),

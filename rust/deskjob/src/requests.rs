@@ -1,7 +1,7 @@
 //! A request, and the proved operation that it asks for.
 
 use notation::Request;
-use xliff_desk::Answer;
+use xliff_desk::{Answer, Grant};
 
 /// The answer of the proved operation; its result stands at the head of `out`.
 pub fn ask(request: &Request, table: &[u8], out: &mut [u8]) -> Answer {
@@ -15,6 +15,14 @@ pub fn ask(request: &Request, table: &[u8], out: &mut [u8]) -> Answer {
         }
         Request::RemoveTarget { part } => xliff_desk::remove_target(table, *part, out),
         Request::Rewrite { side, id, form } => xliff_desk::rewrite(table, *side, *id, *form, out),
+    }
+}
+
+/// The same with a grant, if there is one.
+pub fn ask_within(grant: Option<Grant>, request: &Request, table: &[u8], out: &mut [u8]) -> Answer {
+    match grant {
+        None => ask(request, table, out),
+        Some(grant) => xliff_desk::granted_call(grant, table, &request.bytes(), out),
     }
 }
 

@@ -2,6 +2,7 @@
 
 use deskjob::commands::{self, End, Shown};
 use deskjob::job::Job;
+use xliff_desk::{Grant, Role};
 
 const README: &str = include_str!("../../../README.md");
 const DOOR: &str = include_str!("../examples/door.txt");
@@ -10,6 +11,11 @@ const DOOR_REQUESTS: &str = include_str!("../examples/door-requests.txt");
 const DOOR_BROKEN_XML: &str = include_str!("../examples/door-broken.xml");
 const ACCENT: &str = include_str!("../examples/accent.txt");
 const REVIEW: &str = include_str!("../examples/review.txt");
+const SUPPLIERS: &str = include_str!("../examples/suppliers.txt");
+const SUPPLIERS_REQUESTS: &str = include_str!("../examples/suppliers-requests.txt");
+
+/// The first supplier's grant.
+const FIRST: Grant = Grant { role: Role::Translator, positions: &[1] };
 
 fn job(text: &str) -> Job {
     Job::read(text.into()).unwrap()
@@ -32,7 +38,7 @@ fn readme_has(text: &str) {
 fn the_readme_is_true() {
     for example in [DOOR, ACCENT] {
         readme_has(example);
-        let shown = commands::run(&job(example)).text;
+        let shown = commands::run(&job(example), None).text;
         let (answers, _) = shown.split_once("\nthe table:").unwrap();
         readme_has(answers);
     }
@@ -44,6 +50,12 @@ fn the_readme_is_true() {
     readme_has(&text);
     readme_has(REVIEW);
     readme_has(&commands::sheet(&job(REVIEW)).text);
+    readme_has(SUPPLIERS);
+    readme_has(&commands::view(&job(SUPPLIERS), FIRST).text);
+    readme_has(SUPPLIERS_REQUESTS);
+    let shown = commands::run(&with_requests(SUPPLIERS, SUPPLIERS_REQUESTS), Some(FIRST)).text;
+    let (answers, _) = shown.split_once("\nthe table:").unwrap();
+    readme_has(answers);
 }
 
 /// Order 2 of document 02, here in the target alone.
@@ -81,7 +93,7 @@ the table:
   TX " E\u{301}tage 2"
   UE
 "#;
-    assert_eq!(commands::run(&job(ACCENT)), Shown::refused(expected));
+    assert_eq!(commands::run(&job(ACCENT), None), Shown::refused(expected));
 }
 
 /// The unit in XML and the list of requests are the job in notation.
@@ -90,7 +102,7 @@ fn the_unit_in_xml_is_the_table() {
     let (xml, notation) = (with_requests(DOOR_XML, DOOR_REQUESTS), job(DOOR));
     assert_eq!(xml.unit.table(), notation.unit.table());
     assert_eq!(xml.requests, notation.requests);
-    assert_eq!(commands::run(&xml), commands::run(&notation));
+    assert_eq!(commands::run(&xml, None), commands::run(&notation, None));
     assert_eq!(commands::show(&xml.unit), commands::show(&notation.unit));
     assert_eq!(commands::check(&xml), Shown::accepted("OK 99: accepted\n"));
     assert!(DOOR.ends_with(DOOR_REQUESTS));
@@ -108,7 +120,7 @@ fn the_table_is_written_as_xml() {
     assert_eq!(end, End::Accepted);
     assert!(text.starts_with("<unit id=\"1\"") && text.ends_with("</target></segment></unit>\n"));
     // and read again it is the table after the requests
-    let shown = commands::run(&job).text;
+    let shown = commands::run(&job, None).text;
     let (_, after) = shown.split_once("the table:\n").unwrap();
     assert_eq!(commands::show(&self::job(&text).unit), Shown::accepted(after));
     assert_eq!(commands::xml(&self::job(&text)), Shown::accepted(text));

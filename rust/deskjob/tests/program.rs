@@ -75,6 +75,58 @@ fn units_in_xml_are_0_and_1_too() {
     assert_eq!(status(&["run", "-", example!("door-requests.txt")], UNIT), 1);
 }
 
+/// `run` with a grant, and `view`.
+#[test]
+fn grants_are_0_and_1_too() {
+    let (unit, requests) = (example!("suppliers.txt"), example!("suppliers-requests.txt"));
+    let first = ["--role", "translator", "--parts", "1"];
+    let with = |words: &[&'static str]| [words, &first].concat();
+    assert_eq!(status(&with(&["view", unit]), ""), 0);
+    assert_eq!(status(&with(&["run", unit]), ""), 0);
+    assert_eq!(status(&with(&["run", unit, requests]), ""), 1);
+    assert_eq!(status(&with(&["run", unit, "-"]), "ST 1 T\n  PH 1 0 0 N N - Y\n"), 0);
+    assert_eq!(status(&["run", "--role", "engineer", unit, requests], ""), 0);
+    assert_eq!(status(&["run", "--role", "reviewer", unit, "-"], "RT 1\n"), 1);
+    for command in ["run", "view"] {
+        assert_eq!(status(&with(&[command, "-"]), ACCEPTED), 0, "{command}");
+        assert_eq!(status(&with(&[command, "-"]), REFUSED), 1, "{command}");
+        assert_eq!(status(&with(&[command, "-"]), UNIT), 0, "{command}");
+        assert_eq!(status(&with(&[command, example!("door-broken.xml")]), ""), 1, "{command}");
+    }
+    // the requests of a view run without its grant
+    assert_eq!(status(&with(&["view", unit, requests]), ""), 0);
+    assert_eq!(status(&with(&["view", unit, "-"]), "RT 3\n"), 1);
+    assert_eq!(status(&["lines"], "view T 01 11 554E59534700012D495545\n"), 0);
+    assert_eq!(status(&["lines"], "grantcall X - 0 554E59534700012D495545 52540001\n"), 0);
+}
+
+/// Mistakes in the options are told in one line.
+#[test]
+fn mistaken_options_are_2() {
+    let said = |words: &[&str]| {
+        assert_eq!(status(words, ACCEPTED), 2, "{words:?}");
+        String::from_utf8(deskjob(words, ACCEPTED).stderr).unwrap()
+    };
+    let needed = "deskjob: view needs --role translator, reviewer or engineer\n";
+    assert_eq!(said(&["view", "-"]), needed);
+    let no_role = "deskjob: \"boss\" is no role: translator, reviewer or engineer\n";
+    assert_eq!(said(&["run", "--role", "boss", "-"]), no_role);
+    assert_eq!(said(&["view", "--parts", "1", "-"]), "deskjob: --parts stands without --role\n");
+    assert_eq!(said(&["run", "--part", "1", "-"]), "deskjob: --part is no option here\n");
+    // no job, too many files, and options of another command
+    for words in [
+        &["view", "--role", "engineer"][..],
+        &["run", "--role", "engineer", "-", "-", "-"],
+        &["view", "--role", "engineer", "-", "-", "-"],
+        &["sheet", "--role", "engineer", "-"],
+        &["check", "--role", "engineer", "-"],
+    ] {
+        let said = said(words);
+        let told = format!("deskjob: no command of this form: {}\n", words.join(" "));
+        assert!(said.starts_with(&told), "{said}");
+    }
+}
+
 #[test]
 fn xml_is_written_with_a_line_feed() {
     let Output { stdout, .. } = deskjob(&["xml", "-"], UNIT);
@@ -128,11 +180,13 @@ fn help_goes_to_standard_output() {
         let Output { status, stdout, stderr } = deskjob(&[word], "");
         assert_eq!((status.code(), stderr.is_empty()), (Some(0), true));
         let help = String::from_utf8(stdout).unwrap();
-        for said in ["run", "xml", "sheet", "check", "show", "lines", "--help"] {
+        for said in ["run", "xml", "sheet", "view", "check", "show", "lines", "--help"] {
             let said = format!("deskjob {said} ");
             assert!(help.contains(&said), "{said} is missing in: {help}");
         }
-        assert!(help.contains("Exit status"), "{help}");
+        for said in ["Exit status", "--role", "--parts", "translator", "reviewer", "engineer"] {
+            assert!(help.contains(said), "{said} is missing in: {help}");
+        }
     }
 }
 

@@ -16,7 +16,7 @@ fn job(text: &str) -> Job {
 }
 
 fn run(text: &str) -> Shown {
-    commands::run(&job(text))
+    commands::run(&job(text), None)
 }
 
 fn check(text: &str) -> Shown {

@@ -1,5 +1,5 @@
-//! The letters that requests take. `Raw` hands on any other byte: what it means, the proved
-//! operation says.
+//! The letters that requests and grants take. `Raw` hands on any other byte: what it means, the
+//! proved operation says.
 
 /// The state of a segment, as set target takes it.
 #[derive(Clone, Copy, Debug, PartialEq, Eq, Hash)]
@@ -105,6 +105,42 @@ impl From<u8> for Form {
             b'P' => Form::PcOrMrk,
             b'S' => Form::StartAndEnd,
             _ => Form::Raw(letter),
+        }
+    }
+}
+
+/// The role of a [`Grant`](crate::Grant).
+#[derive(Clone, Copy, Debug, PartialEq, Eq, Hash)]
+pub enum Role {
+    /// T: sets and removes the targets of the granted parts.
+    Translator,
+    /// R: also rewrites pairs and annotations whose halves both stand in granted parts.
+    Reviewer,
+    /// E: does everything anywhere.
+    Engineer,
+    /// Any byte; any other letter grants nothing.
+    Raw(u8),
+}
+
+impl Role {
+    /// Its byte in a grant.
+    pub fn letter(self) -> u8 {
+        match self {
+            Role::Translator => b'T',
+            Role::Reviewer => b'R',
+            Role::Engineer => b'E',
+            Role::Raw(letter) => letter,
+        }
+    }
+}
+
+impl From<u8> for Role {
+    fn from(letter: u8) -> Role {
+        match letter {
+            b'T' => Role::Translator,
+            b'R' => Role::Reviewer,
+            b'E' => Role::Engineer,
+            _ => Role::Raw(letter),
         }
     }
 }

@@ -3,9 +3,10 @@
 //!
 //! Each operation takes a table's bytes and writes its result at the head of `out`; [`read_xml`]
 //! takes a unit in XML and gives its table, [`write_xml`] a table and gives its unit in XML,
-//! [`sheet`] a table and gives its review sheet. Accepted: the result's length, and the bytes of
-//! `out` behind it are as they were. Refused: a [`Refusal`], and all of `out` is as it was. Any
-//! bytes of any length get an answer.
+//! [`sheet`] a table and gives its review sheet, [`view`] gives what a [`Grant`] lets see of a
+//! table, and [`granted_call`] makes a call within a grant. Accepted: the result's length, and the
+//! bytes of `out` behind it are as they were. Refused: a [`Refusal`], and all of `out` is as it
+//! was. Any bytes of any length get an answer.
 //!
 //! ```
 //! // UN Y, SG 1 - I, TX "A. B", UE
@@ -26,11 +27,13 @@
 
 use std::cell::RefCell;
 
+mod grants;
 mod letters;
 mod raw;
 mod reason;
 
-pub use letters::{Form, Side, State};
+pub use grants::{granted_call, view, Grant};
+pub use letters::{Form, Role, Side, State};
 pub use reason::{Reason, Refusal};
 
 /// "either accepted with a length, or refused with a number and a place".
@@ -276,6 +279,6 @@ fn answer(call: impl FnOnce(*mut u8, *mut usize) -> bool) -> Answer {
     if call(&mut number, &mut value) {
         return Ok(value);
     }
-    let reason = Reason::of_number(number).expect("the proved desk refuses by 1 to 23");
+    let reason = Reason::of_number(number).expect("the proved desk refuses by 1 to 24");
     Err(Refusal { reason, place: value })
 }

@@ -94,6 +94,32 @@ extern "C" {
         value: *mut usize,
     ) -> bool;
 
+    pub fn xliff_desk_view(
+        role: u8,
+        positions: *const u8,
+        count: usize,
+        table: *const u8,
+        length: usize,
+        out: *mut u8,
+        room: usize,
+        number: *mut u8,
+        value: *mut usize,
+    ) -> bool;
+
+    pub fn xliff_desk_granted_call(
+        role: u8,
+        positions: *const u8,
+        count: usize,
+        table: *const u8,
+        length: usize,
+        request: *const u8,
+        request_length: usize,
+        out: *mut u8,
+        room: usize,
+        number: *mut u8,
+        value: *mut usize,
+    ) -> bool;
+
     /// `out` is an array of 1,048,576 bytes.
     pub fn xliff_desk_job(job: *const u8, length: usize, out: *mut u8) -> usize;
 }

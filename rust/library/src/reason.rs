@@ -32,6 +32,7 @@ pub enum Reason {
     NotOnePair = 21,
     OutsideXml = 22,
     AccentParted = 23,
+    NotGranted = 24,
 }
 
 /// Each with its words, in the sequence of their numbers.
@@ -82,6 +83,7 @@ const REASONS: &[(Reason, &str)] = &[
         Reason::AccentParted,
         "the source or target cut parts an accent (U+0300 to U+036F) from the text before it",
     ),
+    (Reason::NotGranted, "not granted: the role may not ask for this, or not on this part"),
 ];
 
 // The build fails if their numbers do not rise.

@@ -7,6 +7,9 @@ use crate::fields::{fields_of, Field};
 use crate::request::Request;
 use crate::words::{letter, number, point, text, words, Fault, Word};
 
+/// So many bytes as the length of a content can say.
+const MOST_CONTENT: usize = 65535;
+
 /// A table's bytes and the requests behind it.
 #[derive(Clone, Debug, Default, PartialEq, Eq)]
 pub struct Job {
@@ -52,7 +55,12 @@ fn read_from(text: &str, mut table_ended: bool) -> Result<Job, Mistake> {
                     job.table.extend(record);
                     table_ended = mark == "UE";
                 }
-                Some(Request::SetTarget { content, .. }) => content.extend(record),
+                Some(Request::SetTarget { content, .. }) => {
+                    content.extend(record);
+                    if content.len() > MOST_CONTENT {
+                        return Err(mistake((column, "the content has over 65,535 bytes".into())));
+                    }
+                }
                 _ => return Err(mistake((column, format!("{mark} stands behind the table")))),
             }
         } else {

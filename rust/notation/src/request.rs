@@ -38,6 +38,27 @@ impl Request {
         }
     }
 
+    /// Its bytes in a job. A content has at most 65,535 bytes, so many as its length can say.
+    pub fn bytes(&self) -> Vec<u8> {
+        match self {
+            Request::Split { part, source_cut, target_cut, new_id } => {
+                let fields =
+                    [part, source_cut, target_cut, new_id].map(|field| field.to_be_bytes());
+                [b"SP".as_slice(), fields.as_flattened()].concat()
+            }
+            Request::Join { part } => [*b"JN", part.to_be_bytes()].concat(),
+            Request::SetTarget { part, state, content } => {
+                let length = u16::try_from(content.len()).expect("at most 65,535 bytes");
+                let (part, length) = (part.to_be_bytes(), length.to_be_bytes());
+                [b"ST".as_slice(), &part, &[*state], &length, content].concat()
+            }
+            Request::RemoveTarget { part } => [*b"RT", part.to_be_bytes()].concat(),
+            Request::Rewrite { side, id, form } => {
+                [b"RW".as_slice(), &[*side], &id.to_be_bytes(), &[*form]].concat()
+            }
+        }
+    }
+
     /// Its line; the records of a content stand on the lines below it.
     pub fn line(&self) -> String {
         match self {

@@ -29,8 +29,19 @@ pub fn records(bytes: &[u8]) -> Vec<Line> {
 /// The records and requests of a job. The records of a content are set in, their offsets count
 /// from the content's first byte.
 pub fn job(bytes: &[u8]) -> Vec<Line> {
-    let mut offset = table_length(bytes);
-    let mut lines = records(&bytes[..offset]);
+    let length = table_length(bytes);
+    let mut lines = records(&bytes[..length]);
+    lines.extend(requests_from(bytes, length));
+    lines
+}
+
+/// Requests with no table before them; else as those of a job.
+pub fn requests(bytes: &[u8]) -> Vec<Line> {
+    requests_from(bytes, 0)
+}
+
+fn requests_from(bytes: &[u8], mut offset: usize) -> Vec<Line> {
+    let mut lines = Vec::new();
     while offset < bytes.len() {
         let Some((request, length)) = Request::first(&bytes[offset..]) else {
             let text = format!("{} (no request)", hexadecimal(&bytes[offset..]));

@@ -101,6 +101,10 @@ fn odd_bytes_are_shown() {
     assert_eq!(texts(records(table)), expected);
     assert_eq!(texts(job(b"UEXXA")), ["UE", "585841 (no request)"]);
     assert_eq!(texts(job(b"UERT\0\x01RT\0")), ["UE", "RT 1", "525400 (no request)"]);
+    // and with no table before them
+    let shown = texts(notation::requests(b"ST\0\x01T\0\x05TX\0\x01aRT\0\x01RT"));
+    assert_eq!(shown, ["ST 1 T", "  TX \"a\"", "RT 1", "5254 (no request)"]);
+    assert!(notation::requests(b"").is_empty());
 }
 
 /// An accent that is a code point of its own, U+0300 to U+036F, is shown as such, so that items can
@@ -133,6 +137,12 @@ fn mistakes_have_line_and_column() {
     assert_eq!(mistake("CP Z"), "line 1, column 4: Z is no code point in hexadecimal");
     let long = format!("TX \"{}\"", "é".repeat(32768));
     assert_eq!(mistake(&long), "line 1, column 4: the text has over 65,535 bytes");
+    // two records of 32,767 bytes, and a third
+    let text = format!("TX \"{}\"\n", "a".repeat(32763));
+    let content = ["UE\nST 1 T\n", &text, &text].concat();
+    assert_eq!(read(&content).map(|job| job.requests[0].bytes().len()), Ok(7 + 65534));
+    let mistaken = mistake(&[&content, "  MC 7\n"].concat());
+    assert_eq!(mistaken, "line 5, column 3: the content has over 65,535 bytes");
 }
 
 #[test]
@@ -159,6 +169,8 @@ fn jobs_go_there_and_back() {
         let (table, behind) = bytes.split_at(read.table.len());
         assert_eq!(read.table, table, "{text}");
         assert_eq!(read.requests, requests(behind), "{text}");
+        let bytes: Vec<u8> = read.requests.iter().flat_map(|request| request.bytes()).collect();
+        assert_eq!(bytes, behind, "{text}");
         tables += 1;
         with_requests += usize::from(!behind.is_empty());
     }

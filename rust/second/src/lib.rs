@@ -5,6 +5,7 @@
 
 pub mod desk;
 pub mod generate;
+pub mod grant;
 pub mod lines;
 pub mod operations;
 pub mod record;

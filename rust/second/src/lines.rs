@@ -1,6 +1,7 @@
 //! The line protocol of vectors/README.md: a line `OP ARGS` asks, a line answers.
 
-use crate::desk::{desk, from_hexadecimal, hexadecimal, read_request};
+use crate::desk::{desk, from_hexadecimal, hexadecimal, read_request, Request};
+use crate::grant::{granted_call, view, Grant};
 use crate::operations::Outcome;
 use crate::rules::check;
 use crate::sheet::sheet;
@@ -16,10 +17,22 @@ pub fn answer(line: &str) -> Option<String> {
             check(&table).map_or_else(refused, |_| format!("OK {}", table.len()))
         }
         ["job", job] => format!("TEXT {}", in_digits(&desk(&bytes(job)?))),
-        ["call", room, table, request] => call(number(room)?, &bytes(table)?, &bytes(request)?),
+        ["call", room, table, request] => {
+            let (room, table) = (number(room)?, bytes(table)?);
+            requested(&bytes(request)?, |request| request.run(&table, room))
+        }
         ["xmlread", room, text] => answered(read_xml(&bytes(text)?, number(room)?)),
         ["xmlwrite", room, table] => answered(write_xml(&bytes(table)?, number(room)?)),
         ["sheet", room, table] => answered(sheet(&bytes(table)?, number(room)?)),
+        ["view", role, positions, room, table] => {
+            let grant = Grant { role: letter(role)?, positions: &bytes(positions)? };
+            answered(view(&grant, &bytes(table)?, number(room)?))
+        }
+        ["grantcall", role, positions, room, table, request] => {
+            let grant = Grant { role: letter(role)?, positions: &bytes(positions)? };
+            let (room, table) = (number(room)?, bytes(table)?);
+            requested(&bytes(request)?, |request| granted_call(&grant, &table, request, room))
+        }
         _ => return None,
     })
 }
@@ -48,10 +61,17 @@ fn number(word: &str) -> Option<usize> {
     word.parse().ok()
 }
 
+fn letter(word: &str) -> Option<u8> {
+    match word.as_bytes() {
+        [letter] => Some(*letter),
+        _ => None,
+    }
+}
+
 /// A request that is unreadable, or has bytes behind it, is `BAD`.
-fn call(room: usize, table: &[u8], request: &[u8]) -> String {
-    match read_request(request, 0) {
-        Some((read, length)) if length == request.len() => answered(read.run(table, room)),
+pub fn requested(bytes: &[u8], run: impl FnOnce(&Request) -> Outcome) -> String {
+    match read_request(bytes, 0) {
+        Some((request, length)) if length == bytes.len() => answered(run(&request)),
         _ => "BAD".to_string(),
     }
 }

@@ -10,6 +10,8 @@ pub struct Tally {
     pub accepted: usize,
     /// Lines `NO number place`, by number.
     pub refused: BTreeMap<u16, usize>,
+    /// Lines `BAD`.
+    pub unreadable: usize,
     /// Lines with a table.
     pub tables: usize,
 }
@@ -23,22 +25,26 @@ impl Tally {
             match (words.next(), words.next().and_then(|word| word.parse::<u16>().ok())) {
                 (Some("OK"), _) => self.accepted += 1,
                 (Some("NO"), Some(number)) => *self.refused.entry(number).or_default() += 1,
+                (Some("BAD"), _) => self.unreadable += 1,
                 _ => self.tables += 1,
             }
         }
     }
 
-    /// A line for each answer with its count and share of all lines: tables if there are any,
-    /// accepted, refused by each of these numbers.
+    /// A line for each answer with its count and share of all lines: tables and unreadable
+    /// requests if there are any, accepted, refused by each of these numbers.
     pub fn report(&self, numbers: impl IntoIterator<Item = u16>) -> String {
         let refused: usize = self.refused.values().sum();
-        let all = self.accepted + self.tables + refused;
+        let all = self.accepted + self.tables + self.unreadable + refused;
         let line = |name: String, count: usize| {
             format!("  {name:<16}{count:>8}{:>8.2} %\n", 100.0 * count as f64 / all.max(1) as f64)
         };
         let mut report = String::new();
         if self.tables > 0 {
             report += &line("table printed".into(), self.tables);
+        }
+        if self.unreadable > 0 {
+            report += &line("unreadable".into(), self.unreadable);
         }
         report += &line("accepted".into(), self.accepted);
         for number in numbers {

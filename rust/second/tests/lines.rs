@@ -1,5 +1,5 @@
-//! Every line of `vectors/after-05.txt` and `vectors/chains.txt`, answered by the second
-//! implementation: a third opinion beside the proved desk.
+//! Every line of `vectors/after-06.txt`, `vectors/chains.txt` and `vectors/sheets.txt`, answered by
+//! the second implementation: a third opinion beside the proved desk.
 
 use std::collections::BTreeMap;
 
@@ -22,14 +22,16 @@ fn answered(name: &str) -> BTreeMap<String, usize> {
 
 #[test]
 fn the_vectors_are_answered() {
-    let lines = answered("after-05.txt");
+    let lines = answered("after-06.txt");
     for (operation, least) in [
         ("check", 25),
         ("job", 25),
         ("call", 25),
         ("xmlread", 25),
         ("xmlwrite", 25),
-        ("sheet", 336),
+        ("sheet", 25),
+        ("view", 264),
+        ("grantcall", 600),
     ] {
         assert!(lines.get(operation) >= Some(&least), "too few lines of {operation}");
     }
@@ -38,4 +40,9 @@ fn the_vectors_are_answered() {
 #[test]
 fn set_targets_of_order_4_are_answered() {
     assert!(answered("chains.txt").get("call") >= Some(&250));
+}
+
+#[test]
+fn sheets_of_order_5_are_answered() {
+    assert!(answered("sheets.txt").get("sheet") >= Some(&336));
 }

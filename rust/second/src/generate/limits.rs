@@ -28,7 +28,7 @@ pub fn at_limit(random: &mut Random) -> Vec<u8> {
 }
 
 /// 63 to 66 parts; the last of them sometimes cut or with a bad field.
-fn many_parts(random: &mut Random) -> Vec<u8> {
+pub fn many_parts(random: &mut Random) -> Vec<u8> {
     let parts = 63 + random.below(4);
     let mut table = b"UNY".to_vec();
     for part in 0..parts {
@@ -50,7 +50,7 @@ fn many_parts(random: &mut Random) -> Vec<u8> {
 }
 
 /// 1,023 to 1,026 records, sometimes with a stray byte or without the end.
-fn many_records(random: &mut Random) -> Vec<u8> {
+pub fn many_records(random: &mut Random) -> Vec<u8> {
     let mut table = b"UNYSG\0\0-T".to_vec();
     let inside = 1020 + random.below(4);
     for record in 0..inside {

@@ -1,5 +1,4 @@
-//! Jobs of one line of the line protocol: an operation, the bytes that it is given, and the length
-//! of the lent output.
+//! Jobs of one line of the line protocol.
 
 use super::random::Random;
 use crate::lines::{answered, in_digits};
@@ -12,6 +11,42 @@ use crate::xml::{read_xml, write_xml};
 /// bytes for each of a table.
 pub const ENOUGH: usize = 100_000;
 
+/// The kinds of jobs of one sort.
+pub trait LineKind: Copy + PartialEq + 'static {
+    const ALL: &'static [Self];
+    /// How many seeded jobs of a hundred, in the sequence of `ALL`.
+    const SHARES: &'static [usize];
+
+    fn name(self) -> &'static str;
+}
+
+/// A job that is one line of the line protocol.
+pub trait LineJob {
+    type Kind: LineKind;
+
+    fn kind(&self) -> Self::Kind;
+
+    /// The line that asks.
+    fn line(&self) -> String;
+
+    /// The second implementation's answer.
+    fn answer(&self) -> String;
+
+    /// What it asks about, to be shown.
+    fn about(&self) -> About<'_>;
+}
+
+#[derive(Clone, Copy, Debug, PartialEq, Eq)]
+pub enum About<'a> {
+    Xml(&'a [u8]),
+    /// The request is empty where there is none.
+    Table {
+        table: &'a [u8],
+        request: &'a [u8],
+    },
+}
+
+/// The operations that take one input: a text or a table.
 #[derive(Clone, Copy, Debug, PartialEq, Eq)]
 pub enum LineOperation {
     ReadXml,
@@ -38,26 +73,21 @@ impl LineOperation {
     }
 }
 
-/// The kinds of jobs of one sort.
-pub trait LineKind: Copy + PartialEq + 'static {
-    const ALL: &'static [Self];
-    /// How many seeded jobs of a hundred, in the sequence of `ALL`.
-    const SHARES: &'static [usize];
-
-    fn name(self) -> &'static str;
-
+/// Kinds of jobs for the operations that take one input.
+pub trait InputKind: LineKind {
     fn operation(self) -> LineOperation;
 }
 
+/// One input and the length of the lent output.
 #[derive(Clone, Debug)]
-pub struct LineJob<Kind> {
+pub struct InputJob<Kind> {
     pub kind: Kind,
     pub room: usize,
     /// A text to read, or a table.
     pub input: Vec<u8>,
 }
 
-impl<Kind: LineKind> LineJob<Kind> {
+impl<Kind: InputKind> InputJob<Kind> {
     pub fn operation(&self) -> LineOperation {
         self.kind.operation()
     }
@@ -66,15 +96,28 @@ impl<Kind: LineKind> LineJob<Kind> {
     pub fn outcome(&self) -> Outcome {
         self.operation().run(&self.input, self.room)
     }
+}
 
-    /// The job as a line of the line protocol.
-    pub fn line(&self) -> String {
+impl<Kind: InputKind> LineJob for InputJob<Kind> {
+    type Kind = Kind;
+
+    fn kind(&self) -> Kind {
+        self.kind
+    }
+
+    fn line(&self) -> String {
         format!("{} {} {}", self.operation().word(), self.room, in_digits(&self.input))
     }
 
-    /// The second implementation's answer as a line: `OK n HEX` or `NO number place`.
-    pub fn answer(&self) -> String {
+    fn answer(&self) -> String {
         answered(self.outcome())
+    }
+
+    fn about(&self) -> About<'_> {
+        match self.operation() {
+            LineOperation::ReadXml => About::Xml(&self.input),
+            _ => About::Table { table: &self.input, request: b"" },
+        }
     }
 }
 

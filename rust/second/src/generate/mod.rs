@@ -4,6 +4,7 @@ mod chains;
 mod changes;
 mod cuts;
 mod damage;
+mod grant;
 mod inline;
 mod limits;
 mod line_job;
@@ -21,7 +22,8 @@ mod xml;
 use crate::rules::check;
 
 pub use cuts::every_cut;
-pub use line_job::{LineJob, LineKind, LineOperation, ENOUGH};
+pub use grant::{grant_job, small_grants, GrantJob, GrantKind};
+pub use line_job::{About, LineJob, LineKind, LineOperation, ENOUGH};
 pub use random::Random;
 pub use rejoin::splits_undone;
 pub use sheet::{sheet_edges, sheet_job, SheetJob, SheetKind};

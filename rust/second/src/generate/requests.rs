@@ -78,7 +78,7 @@ pub fn part_number(random: &mut Random, unit: &Unit, suits: impl Fn(&Part) -> bo
     }
 }
 
-fn split_request(random: &mut Random, unit: &Unit) -> Vec<u8> {
+pub fn split_request(random: &mut Random, unit: &Unit) -> Vec<u8> {
     let Split { part, source_cut, target_cut, new_id } = split(random, unit);
     numbers(b"SP", &[part, source_cut, target_cut, new_id])
 }
@@ -139,7 +139,7 @@ fn contents(unit: &Unit) -> impl Iterator<Item = &Vec<Placed>> {
     })
 }
 
-fn join_request(random: &mut Random, unit: &Unit) -> Vec<u8> {
+pub fn join_request(random: &mut Random, unit: &Unit) -> Vec<u8> {
     let all = unit.parts.len();
     let order = |part: &Part| part.target.as_ref().map(|target| target.order);
     let suits = |first: &&usize| {
@@ -161,7 +161,7 @@ fn join_request(random: &mut Random, unit: &Unit) -> Vec<u8> {
     numbers(b"JN", &[number])
 }
 
-fn remove_request(random: &mut Random, unit: &Unit) -> Vec<u8> {
+pub fn remove_request(random: &mut Random, unit: &Unit) -> Vec<u8> {
     let number = part_number(random, unit, |part| part.target.is_some());
     numbers(b"RT", &[number])
 }

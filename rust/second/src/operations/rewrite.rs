@@ -1,10 +1,10 @@
 //! "**Rewrite** (side S or T, id, form P for pc or mrk, form S for start and end)."
 
 use super::{hand_out, Outcome};
-use crate::record::{Half, Inline, Mark};
+use crate::record::{Inline, Mark};
 use crate::rules::check;
 use crate::rules::close_letter;
-use crate::rules::partners::partners;
+use crate::rules::partners::{complete, partners};
 use crate::rules::sequence::{sequence, Side, Standing};
 use crate::table::Unit;
 use crate::Refusal;
@@ -24,18 +24,12 @@ pub fn rewrite(table: &[u8], side: u8, id: u16, form: u8, room: usize) -> Outcom
     let standing = sequence(&unit, side);
     let found = partners(&standing);
     // "20: no complete pair or annotation of that id on that side, or already so."
-    let is_start = |i: &usize| {
-        standing[*i].inline.id() == Some(id)
-            && standing[*i].inline.half() == Some(Half::Start)
-            && found[*i].is_some()
-    };
-    let Some(start) = (0..standing.len()).find(is_start) else {
+    let Some((start, end)) = complete(&standing, &found, id) else {
         return refuse(20);
     };
     if form_of(standing[start].inline) == form {
         return refuse(20);
     }
-    let end = found[start].expect("a complete pair or annotation");
     // "21, to P".
     if form == b'P' && !may_be_pc(&standing, &found, start, end) {
         return refuse(21);

@@ -1,7 +1,7 @@
 //! Rule 7's partners.
 
 use super::sequence::Standing;
-use crate::record::{Inline, Mark};
+use crate::record::{Half, Inline, Mark};
 
 /// For each record of a sequence the position of its partner, if it has one.
 pub fn partners(sequence: &[Standing]) -> Vec<Option<usize>> {
@@ -19,6 +19,15 @@ pub fn partners(sequence: &[Standing]) -> Vec<Option<usize>> {
     }
     start_and_end_partners(sequence, &mut found);
     found
+}
+
+/// The "complete pair or annotation of that id", its start and its end, among the partners found.
+pub fn complete(sequence: &[Standing], found: &[Option<usize>], id: u16) -> Option<(usize, usize)> {
+    let is_start = |standing: &Standing| {
+        standing.inline.id() == Some(id) && standing.inline.half() == Some(Half::Start)
+    };
+    let starts = (0..sequence.len()).filter(|&place| is_start(&sequence[place]));
+    starts.filter_map(|start| Some((start, found[start]?))).next()
 }
 
 /// "`PO`/`PC` and `MO`/`MC` are partners, same id, if what stands between them in one content

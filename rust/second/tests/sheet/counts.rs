@@ -2,7 +2,9 @@
 
 use std::collections::{BTreeMap, BTreeSet};
 
-use second::generate::{sheet_edges, sheet_job, LineKind, SheetJob, SheetKind, ENOUGH, JOBS, SEED};
+use second::generate::{
+    sheet_edges, sheet_job, LineJob, LineKind, SheetJob, SheetKind, ENOUGH, JOBS, SEED,
+};
 use second::rules::check;
 
 use super::cases::{at_row_end, in_column, in_part};

@@ -4,8 +4,8 @@
 use std::collections::BTreeMap;
 
 use second::generate::{
-    spelled_unit, valid_unit, xml_job, xml_neighbours, LineKind, LineOperation, Random, XmlJob,
-    XmlKind, SMALL_TEXT,
+    spelled_unit, valid_unit, xml_job, xml_neighbours, LineJob, LineKind, LineOperation, Random,
+    XmlJob, XmlKind, SMALL_TEXT,
 };
 use second::xml::{unit_of, Reason};
 

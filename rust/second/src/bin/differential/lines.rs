@@ -1,22 +1,27 @@
 //! Compares a program that answers lines of the line protocol (`deskjob lines`) with the second
 //! implementation: XML jobs of order 1 of document 02, and a small text with all its neighbours;
-//! review sheets of order 5, and every marker about a row's end.
+//! review sheets of order 5, and every marker about a row's end; views and calls with a grant of
+//! order 6, and every role, call and set of positions of a small unit.
 
 use std::io::{BufRead, BufReader, BufWriter, Write};
 use std::process::{Child, ChildStdin, Command, ExitCode, Stdio};
 
-use second::generate::{sheet_edges, sheet_job, xml_job, xml_neighbours};
-use second::generate::{LineJob, LineKind, LineOperation};
+use second::generate::{grant_job, sheet_edges, sheet_job, small_grants, xml_job, xml_neighbours};
+use second::generate::{About, LineJob, LineKind};
 use second::tally::Tally;
 
 use crate::arguments::Arguments;
 
+/// Every number of the desk program, and 24.
+const GRANT_NUMBERS: [u16; 23] =
+    [1, 2, 3, 4, 5, 6, 7, 8, 9, 10, 11, 12, 13, 14, 15, 16, 17, 18, 19, 20, 21, 23, 24];
+
 /// Jobs of one sort.
-struct Jobs<Kind> {
+struct Jobs<Job> {
     name: &'static str,
-    seeded: Vec<LineJob<Kind>>,
+    seeded: Vec<Job>,
     /// Jobs that are the same for every seed, and what they are.
-    listed: Vec<LineJob<Kind>>,
+    listed: Vec<Job>,
     list: &'static str,
     /// The numbers that can be answered.
     numbers: &'static [u16],
@@ -24,6 +29,17 @@ struct Jobs<Kind> {
 
 /// Prints the result and gives the exit status.
 pub fn compare(arguments: &Arguments) -> ExitCode {
+    let mut passed = 0;
+    if let Err(difference) = compare_all(arguments, &mut passed) {
+        println!("{difference}\n{passed} passed, 1 failed");
+        return ExitCode::from(1);
+    }
+    println!("{passed} passed, 0 failed");
+    ExitCode::SUCCESS
+}
+
+/// One sort after the other, so that only one is held at a time.
+fn compare_all(arguments: &Arguments, passed: &mut usize) -> Result<(), String> {
     let (seed, numbers) = (arguments.seed, 0..arguments.jobs as u64);
     let xml = Jobs {
         name: "XML job",
@@ -32,25 +48,27 @@ pub fn compare(arguments: &Arguments) -> ExitCode {
         list: "a small text, one byte changed",
         numbers: &[1, 2, 3, 4, 5, 6, 7, 8, 9, 10, 15, 22],
     };
+    xml.compare(arguments, passed)?;
     let sheets = Jobs {
         name: "review sheet",
-        seeded: numbers.map(|number| sheet_job(seed, number)).collect(),
+        seeded: numbers.clone().map(|number| sheet_job(seed, number)).collect(),
         listed: sheet_edges(),
         list: "every marker about a row's end",
         numbers: &[1, 2, 3, 4, 5, 6, 7, 8, 9, 10, 15],
     };
-    let mut passed = 0;
-    let compared = xml.compare(arguments, &mut passed);
-    if let Err(difference) = compared.and_then(|()| sheets.compare(arguments, &mut passed)) {
-        println!("{difference}\n{passed} passed, 1 failed");
-        return ExitCode::from(1);
-    }
-    println!("{passed} passed, 0 failed");
-    ExitCode::SUCCESS
+    sheets.compare(arguments, passed)?;
+    let grants = Jobs {
+        name: "grant job",
+        seeded: numbers.map(|number| grant_job(seed, number)).collect(),
+        listed: small_grants(),
+        list: "every grant of a small unit",
+        numbers: &GRANT_NUMBERS,
+    };
+    grants.compare(arguments, passed)
 }
 
-impl<Kind: LineKind + Sync> Jobs<Kind> {
-    fn all(&self) -> impl Iterator<Item = &LineJob<Kind>> {
+impl<Job: LineJob + Sync> Jobs<Job> {
+    fn all(&self) -> impl Iterator<Item = &Job> {
         self.seeded.iter().chain(&self.listed)
     }
 
@@ -62,8 +80,8 @@ impl<Kind: LineKind + Sync> Jobs<Kind> {
             *passed += 1;
         })?;
         println!("{}s of seed {}:", self.name, arguments.seed);
-        for kind in Kind::ALL {
-            let count = self.seeded.iter().filter(|job| job.kind == *kind).count();
+        for kind in Job::Kind::ALL {
+            let count = self.seeded.iter().filter(|job| job.kind() == *kind).count();
             println!("  {:<34}{count:>6}", kind.name());
         }
         println!("  {:<34}{:>6}", self.list, self.listed.len());
@@ -111,10 +129,10 @@ impl<Kind: LineKind + Sync> Jobs<Kind> {
         stdin.flush().ok();
     }
 
-    fn name(&self, arguments: &Arguments, number: usize, job: &LineJob<Kind>) -> String {
+    fn name(&self, arguments: &Arguments, number: usize, job: &Job) -> String {
         match number.checked_sub(self.seeded.len()) {
             None => {
-                let (name, seed, kind) = (self.name, arguments.seed, job.kind.name());
+                let (name, seed, kind) = (self.name, arguments.seed, job.kind().name());
                 format!("{name} {number} of seed {seed} ({kind})")
             }
             Some(place) => format!("{}, number {place}", self.list),
@@ -128,16 +146,16 @@ fn start(arguments: &Arguments) -> Result<Child, String> {
     program.spawn().map_err(|error| format!("the program does not run: {error}"))
 }
 
-fn shown<Kind: LineKind>(name: &str, job: &LineJob<Kind>, expected: &str, answer: &str) -> String {
-    let input = match job.operation() {
-        LineOperation::ReadXml => format!("{}\n", job.input.escape_ascii()),
-        LineOperation::WriteXml | LineOperation::Sheet => {
-            let lines = notation::job(&job.input);
+fn shown(name: &str, job: &impl LineJob, expected: &str, answer: &str) -> String {
+    let about = match job.about() {
+        About::Xml(text) => format!("{}\n", text.escape_ascii()),
+        About::Table { table, request } => {
+            let lines = [notation::records(table), notation::requests(request)].concat();
             lines.iter().map(|line| format!("{:>5}  {}\n", line.offset, line.text)).collect()
         }
     };
     let line = job.line();
     format!(
-        "DIFFERENCE in {name}\n{line}\n{input}expected:\n{expected}\nthe program answers:\n{answer}"
+        "DIFFERENCE in {name}\n{line}\n{about}expected:\n{expected}\nthe program answers:\n{answer}"
     )
 }

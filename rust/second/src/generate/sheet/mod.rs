@@ -4,7 +4,7 @@ mod edges;
 mod units;
 
 use super::damage::refused_table;
-use super::line_job::{room, LineJob, LineKind, LineOperation, ENOUGH};
+use super::line_job::{room, InputJob, InputKind, LineKind, LineOperation, ENOUGH};
 use super::random::Random;
 use super::unit::valid_table;
 use crate::sheet::sheet;
@@ -40,14 +40,16 @@ impl LineKind for SheetKind {
             SheetKind::Refused => "refused tables",
         }
     }
+}
 
+impl InputKind for SheetKind {
     fn operation(self) -> LineOperation {
         LineOperation::Sheet
     }
 }
 
 /// A table whose sheet is asked for.
-pub type SheetJob = LineJob<SheetKind>;
+pub type SheetJob = InputJob<SheetKind>;
 
 /// The sheet job of this seed and number.
 pub fn sheet_job(seed: u64, number: u64) -> SheetJob {

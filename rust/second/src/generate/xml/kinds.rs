@@ -1,6 +1,6 @@
 //! The kinds of XML jobs.
 
-use crate::generate::{LineKind, LineOperation};
+use crate::generate::line_job::{InputKind, LineKind, LineOperation};
 
 #[derive(Clone, Copy, Debug, PartialEq, Eq, PartialOrd, Ord)]
 pub enum XmlKind {
@@ -46,7 +46,9 @@ impl LineKind for XmlKind {
             XmlKind::WrittenDeep => "depth about 32 written",
         }
     }
+}
 
+impl InputKind for XmlKind {
     fn operation(self) -> LineOperation {
         match self {
             XmlKind::Written | XmlKind::WrittenRefused | XmlKind::WrittenDeep => {

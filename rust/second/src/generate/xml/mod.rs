@@ -9,7 +9,7 @@ mod spelling;
 mod units;
 
 use super::damage::refused_table;
-use super::line_job::{room, LineJob, LineKind, LineOperation, ENOUGH};
+use super::line_job::{room, InputJob, InputKind, LineKind, LineOperation, ENOUGH};
 use super::random::Random;
 use crate::table::Unit;
 use crate::xml::{unit_of, write_xml};
@@ -22,7 +22,7 @@ pub use neighbours::{xml_neighbours, SMALL_TEXT};
 pub use units::{deep_unit, valid_unit};
 
 /// A text to read or a table to write.
-pub type XmlJob = LineJob<XmlKind>;
+pub type XmlJob = InputJob<XmlKind>;
 
 /// The XML job of this seed and number.
 pub fn xml_job(seed: u64, number: u64) -> XmlJob {
