@@ -32,10 +32,10 @@ fn stands_outside(
         && not (within (grant-of role (now (positions .entry))) n) ⌝ }
 {
     let v = views::view_at(t, at);
-    if inside & (!(v.half == 0) & (v.id == id)) {
-        return !granted_parts::within(role, positions, n);
+    if !(inside & (!(v.half == 0) & (v.id == id))) {
+        return false;
     }
-    false
+    !granted_parts::within(role, positions, n)
 }
 
 // Whether the halves of the id on the side stand in granted parts.
