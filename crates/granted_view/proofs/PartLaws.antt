@@ -2,14 +2,14 @@
 use Prim.Native.Nat.{ℕ, _-_}
 use mathlib.Core.Path.{_≡_, sym, ap, _∙_}
 use mathlib.Core.Bool.{Bool, true, false}
-use mathlib.Core.List.{List, _++_, append-nil}
+use mathlib.Core.List.{List, _++_}
 use lib.ListN.{take, drop}
-use Rattle.xliff.specs.Bytes.{'I', gather}
+use Rattle.xliff.specs.Bytes.{'I'}
 use Rattle.xliff.specs.Unit.{Part, with-state}
-use Rattle.xliff.specs.Encode.{head-bytes, content-bytes, target-records, part-records, spell}
-use Rattle.xliff.proofs.unit.Pieces.{part-bytes}
+use Rattle.xliff.specs.Encode.{head-bytes, content-bytes, part-records, spell}
 use Rattle.part_at.specs.declared.PartPlace.{PartPlace}
 use Rattle.part_at.specs.Stands.{PartStands}
+use Rattle.removed_target.proofs.RemovedLaws.{bared-bytes}
 use Rattle.draft.specs.declared.Draft.{Draft}
 use Rattle.draft.specs.Drafts.{Wrote}
 use Rattle.draft.proofs.DraftLaws.{wrote-then, wrote-as}
@@ -25,10 +25,8 @@ whole-bytes p inside e = ap (λ (i : Bool). shown-bytes i p) (sym e)
 
 hidden-bytes : (p : Part) (inside : Bool) → inside ≡ false
     → head-bytes (with-state 'I' (p .head)) ++ content-bytes (p .source) ≡ shown-bytes inside p
-unfolding shown spell gather target-records
-hidden-bytes p inside e =
-    sym (append-nil (head-bytes (with-state 'I' (p .head)) ++ content-bytes (p .source)))
-    ∙ sym (part-bytes (shown false p)) ∙ ap (λ (i : Bool). shown-bytes i p) (sym e)
+unfolding shown
+hidden-bytes p inside e = sym (bared-bytes p) ∙ ap (λ (i : Bool). shown-bytes i p) (sym e)
 
 module _ (t : List ℕ) (b : List Part) (p : Part) (a : List Part) (place : PartPlace) (s : PartStands t b p a place)
     (inside : Bool) (out : List ℕ) (draft : Draft) where

@@ -21,6 +21,7 @@ use Rattle.xliff.specs.Calls.{Call, SP, JN, ST, RT, RW, outcome}
 use Rattle.xliff.proofs.lists.Tests.{and-left, and-right, or-left, or-right}
 use Rattle.xliff.proofs.unit.Accepted.{accepted-unit}
 use Rattle.xliff.proofs.operations.Sources.{focus-here, focus-at}
+use Rattle.xliff.proofs.operations.Rewrite.{half-bit, halves, untouched}
 use Rattle.xliff.proofs.operations.SetValid.{set-accepted}
 use Rattle.xliff.proofs.operations.RemoveValid.{remove-accepted}
 use Rattle.xliff.proofs.operations.RewriteValid.{rewrite-accepted}
@@ -68,18 +69,18 @@ unfolding remove-focus
 remove-bound g ps n w = changed g ps n (remove-focus ps) w refl (λ b x a. (_, refl))
 
 -- where no half of the id stands, nothing is rewritten
-untouched : (i : ℕ) (w : Form) (xs : Content) → any (half-of-id i) xs ≡ false → map (rewrite-item i w) xs ≡ xs
-unfolding any rewrite-item
-untouched i w [] e = refl
-untouched i w (x ∷ xs) e =
-    rw (or-left (half-of-id i x) _ e)
-    (ap (λ (l : Content). x ∷ l) (untouched i w xs (or-right (half-of-id i x) _ e)))
+no-halves : (i : ℕ) (xs : Content) → any (half-of-id i) xs ≡ false → halves i xs ≡ 0
+unfolding any
+no-halves i [] e = refl
+no-halves i (x ∷ xs) e =
+    let here : half-bit i x ≡ 0 = rw (or-left (half-of-id i x) _ e) in
+    omega (arith, here, no-halves i xs (or-right (half-of-id i x) _ e))
 
 untouched-target : (i : ℕ) (w : Form) (g : Target) → any (half-of-id i) (target-items g) ≡ false
     → rewrite-target (rewrite-item i w) g ≡ g
 unfolding rewrite-target target-items
 untouched-target i w no-target e = refl
-untouched-target i w (target q xs) e = ap (target q) (untouched i w xs e)
+untouched-target i w (target q xs) e = ap (target q) (untouched i w xs (no-halves i xs e))
 
 untouched-part : (side i : ℕ) (w : Form) (p : Part) → any (half-of-id i) (side-content side p) ≡ false
     → rewrite-part side (rewrite-item i w) p ≡ p
@@ -91,7 +92,8 @@ untouched-part side i w p = by (eqb side 'S')
         (record { head = p .head; source = p .source; target = rewrite-target (rewrite-item i w) (p .target) })
         ≡ p
     by true e =
-        ap (λ (l : Content). record { head = p .head; source = l; target = p .target }) (untouched i w (p .source) e)
+        ap (λ (l : Content). record { head = p .head; source = l; target = p .target })
+        (untouched i w (p .source) (no-halves i (p .source) e))
     by false e =
         ap (λ (l : Target). record { head = p .head; source = p .source; target = l })
         (untouched-target i w (p .target) e)
@@ -124,7 +126,7 @@ bound-result : (g : Grant) (t : List ℕ) (c : Call) (r : List ℕ) → Bytes t
     → GivenGranted (record { grant = g; call = c }) → is-engineer (g .role) ≡ false → granted g t c ≡ true
     → outcome t c ≡ result r → SameOutside g 1 (unit t .parts) (unit r .parts)
 unfolding outcome granted is-engineer rewrite-granted whole-granted set-unit remove-unit rewrite-unit with-parts
-bound-result g t (SP n cut tcut new room) r b d e h k = absurd (true≢false (sym h ∙ e))
+bound-result g t (SP n source-cut target-cut new room) r b d e h k = absurd (true≢false (sym h ∙ e))
 bound-result g t (JN n room) r b d e h k = absurd (true≢false (sym h ∙ e))
 bound-result g t (ST n st s room) r b d e h k =
     left-as g t r _ (accepted-unit t _ r (set-accepted t n st s room r b d k))
@@ -133,7 +135,7 @@ bound-result g t (RT n room) r b d e h k =
     left-as g t r _ (accepted-unit t _ r (remove-accepted t n room r b k)) (remove-bound g (unit t .parts) n h)
 bound-result g t (RW side i w room) r b d e h k =
     left-as g t r _ (accepted-unit t _ r (rewrite-accepted t side i w room r b k))
-    (rewrite-bound g side i (form-of w) 1 (unit t .parts) halves)
+    (rewrite-bound g side i (form-of w) 1 (unit t .parts) all-within)
   where
     whole : Bool
     whole = whole-granted g (unit t .parts) side i
@@ -145,8 +147,8 @@ bound-result g t (RW side i w room) r b d e h k =
     by engineer q z = absurd (true≢false q)
     by other-role q z = absurd (false≢true z)
 
-    halves : halves-within g side i 1 (unit t .parts) ≡ true
-    halves =
+    all-within : halves-within g side i 1 (unit t .parts) ≡ true
+    all-within =
         and-right (is-whole (find-whole i (side-sequence side (unit t .parts)))) _
         (and-right (among side ('S' ∷ 'T' ∷ [])) _ (by (g .role) e h))
 

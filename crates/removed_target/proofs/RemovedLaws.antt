@@ -26,7 +26,8 @@ use Rattle.writer.proofs.RunLaws.{Pieces, pair}
 abbrev pub bared : Part → Part
 bared p = record { head = with-state 'I' (p .head); source = p .source; target = no-target }
 
-bared-bytes : (p : Part) → spell (part-records (bared p)) ≡ head-bytes (with-state 'I' (p .head)) ++ content-bytes (p .source)
+pub bared-bytes : (p : Part)
+    → spell (part-records (bared p)) ≡ head-bytes (with-state 'I' (p .head)) ++ content-bytes (p .source)
 unfolding spell gather target-records
 bared-bytes p = part-bytes (bared p) ∙ append-nil (head-bytes (with-state 'I' (p .head)) ++ content-bytes (p .source))
 
@@ -38,7 +39,9 @@ module _ (u : XliffUnit) (b : List Part) (p : Part) (a : List Part) where
   unfolding gather
   parts-are =
       bytes-append b (bared p ∷ a)
-      ∙ ap (λ (l : List ℕ). bytes-of b ++ l) (spell-append (part-records (bared p)) (gather part-records a) ∙ ap (λ (l : List ℕ). l ++ bytes-of a) (bared-bytes p))
+      ∙ ap (λ (l : List ℕ). bytes-of b ++ l)
+      (spell-append (part-records (bared p)) (gather part-records a)
+      ∙ ap (λ (l : List ℕ). l ++ bytes-of a) (bared-bytes p))
 
   regroup : (x y h s z c : List ℕ) → (x ++ (y ++ ((h ++ s) ++ z))) ++ c ≡ (((x ++ y) ++ h) ++ s) ++ (z ++ c)
   regroup x y h s z c = simp append-assoc
@@ -48,14 +51,17 @@ module _ (u : XliffUnit) (b : List Part) (p : Part) (a : List Part) where
   removed-pieces =
       table-pieces (removed-unit u b p a)
       ∙ ap (λ (l : List ℕ). (opened u ++ l) ++ closed) parts-are
-      ∙ regroup (opened u) (bytes-of b) (head-bytes (with-state 'I' (p .head))) (content-bytes (p .source)) (bytes-of a) closed
+      ∙ regroup (opened u) (bytes-of b) (head-bytes (with-state 'I' (p .head))) (content-bytes (p .source))
+      (bytes-of a) closed
 
 ends-behind : (t : List ℕ) (place : PartPlace) (g : Target) → TargetStands t place g → place .target ≤ place .end
 ends-behind t place no-target (h, o, e) = omega (arith, e)
 ends-behind t place (target q xs) (h, o, k, l) = omega (arith, l .ordered)
 
-module _ (t : List ℕ) (b : List Part) (p : Part) (a : List Part) (place : PartPlace) (s : PartStands t b p a place) where
-  pub in-order : (place .head ≤ place .source) × (place .source ≤ place .target) × (place .target ≤ place .end) × (place .end ≤ length t)
+module _ (t : List ℕ) (b : List Part) (p : Part) (a : List Part) (place : PartPlace)
+    (s : PartStands t b p a place) where
+  pub in-order : (place .head ≤ place .source) × (place .source ≤ place .target) × (place .target ≤ place .end)
+      × (place .end ≤ length t)
   in-order = (s .head .ordered, s .source .ordered, ends-behind t place (p .target) (s .target), s .whole .within)
 
   -- the table up to the head, the head, the source
@@ -65,14 +71,17 @@ module _ (t : List ℕ) (b : List Part) (p : Part) (a : List Part) (place : Part
   pub head-long : length (take (place .source - place .head) (drop (place .head) t)) ≡ place .source - place .head
   head-long = slice-long t (place .head) (place .source) (s .head .ordered) (s .head .within)
 
-  pub source-long : length (take (place .target - place .source) (drop (place .source) t)) ≡ place .target - place .source
+  pub source-long : length (take (place .target - place .source) (drop (place .source) t))
+      ≡ place .target - place .source
   source-long = slice-long t (place .source) (place .target) (s .source .ordered) (s .source .within)
 
   pub state-size : (st : ℕ) → length (head-bytes (with-state st (p .head))) ≡ place .source - place .head
   state-size st = state-long st (p .head) ∙ ap length (sym (s .head .is)) ∙ head-long
 
   pub pieces-are : (st : ℕ)
-      → (take (place .head) t ++ head-bytes (with-state st (p .head))) ++ take (place .target - place .source) (drop (place .source) t) ≡ to-source st (unit t) b p
+      → (take (place .head) t ++ head-bytes (with-state st (p .head)))
+      ++ take (place .target - place .source) (drop (place .source) t)
+      ≡ to-source st (unit t) b p
   pieces-are st = ap₂ (λ (x y : List ℕ). (x ++ head-bytes (with-state st (p .head))) ++ y) (s .before) (s .source .is)
 
   pub to-source-long : (st : ℕ) → length (to-source st (unit t) b p) ≡ place .target
@@ -82,7 +91,8 @@ module _ (t : List ℕ) (b : List Part) (p : Part) (a : List Part) (place : Part
       omega (
         arith,
         z,
-        length-append (take (place .head) t ++ head-bytes (with-state st (p .head))) (take (place .target - place .source) (drop (place .source) t)),
+        length-append (take (place .head) t ++ head-bytes (with-state st (p .head)))
+            (take (place .target - place .source) (drop (place .source) t)),
         length-append (take (place .head) t) (head-bytes (with-state st (p .head))),
         lead-long,
         state-size st,
@@ -98,7 +108,8 @@ module _ (t : List ℕ) (b : List Part) (p : Part) (a : List Part) (place : Part
       ∙ ap₂ (λ (x y : ℕ). x + y) (to-source-long 'I') (length-drop (place .end) t)
 
 -- what is written piece by piece, and room for it
-module _ (t : List ℕ) (b : List Part) (p : Part) (a : List Part) (place : PartPlace) (s : PartStands t b p a place) where
+module _ (t : List ℕ) (b : List Part) (p : Part) (a : List Part) (place : PartPlace)
+    (s : PartStands t b p a place) where
   abbrev pub source-pieces : (st : ℕ) → Pieces (to-source st (unit t) b p)
   source-pieces st =
       record {
@@ -113,7 +124,10 @@ module _ (t : List ℕ) (b : List Part) (p : Part) (a : List Part) (place : Part
 
   pub head-room : (st : ℕ) (l : List ℕ) → length (head-bytes (with-state st (p .head))) ≤ length l
       → HeadRoom (take (place .source - place .head) (drop (place .head) t)) l
-  head-room st l h = ((p .head, sym (s .head .is)), omega (arith, state-size t b p a place s st, head-long t b p a place s))
+  head-room st l h = (
+    (p .head, sym (s .head .is)),
+    omega (arith, state-size t b p a place s st, head-long t b p a place s),
+  )
 
   abbrev pub table-pieces-without : Pieces (encode (removed-unit (unit t) b p a))
   table-pieces-without =
@@ -124,6 +138,7 @@ module _ (t : List ℕ) (b : List Part) (p : Part) (a : List Part) (place : Part
   removed-room o h = let z = in-order t b p a place s in omega (arith, removed-long t b p a place s)
 
 -- the result by the number of the part
-pub remove-unit-is : (u : XliffUnit) (n : ℕ) (b : List Part) (p : Part) (a : List Part) → focus (u .parts) n ≡ here b p a → remove-unit u n ≡ removed-unit u b p a
+pub remove-unit-is : (u : XliffUnit) (n : ℕ) (b : List Part) (p : Part) (a : List Part)
+    → focus (u .parts) n ≡ here b p a → remove-unit u n ≡ removed-unit u b p a
 unfolding remove-unit removed-unit
 remove-unit-is u n b p a e = ap (λ f. with-parts u (remove-focus (u .parts) f)) e

@@ -1,8 +1,10 @@
 //! The jobs of `examples/`, and README.md, which shows them and what they give.
 
+#[path = "shared/jobs.rs"]
+mod jobs;
+
 use deskjob::commands::{self, End, Shown};
-use deskjob::job::Job;
-use xliff_desk::{Grant, Role};
+use jobs::{job, with_requests, FIRST, SUPPLIERS, SUPPLIERS_REQUESTS};
 
 const README: &str = include_str!("../../../README.md");
 const DOOR: &str = include_str!("../examples/door.txt");
@@ -11,21 +13,6 @@ const DOOR_REQUESTS: &str = include_str!("../examples/door-requests.txt");
 const DOOR_BROKEN_XML: &str = include_str!("../examples/door-broken.xml");
 const ACCENT: &str = include_str!("../examples/accent.txt");
 const REVIEW: &str = include_str!("../examples/review.txt");
-const SUPPLIERS: &str = include_str!("../examples/suppliers.txt");
-const SUPPLIERS_REQUESTS: &str = include_str!("../examples/suppliers-requests.txt");
-
-/// The first supplier's grant.
-const FIRST: Grant = Grant { role: Role::Translator, positions: &[1] };
-
-fn job(text: &str) -> Job {
-    Job::read(text.into()).unwrap()
-}
-
-fn with_requests(text: &str, requests: &str) -> Job {
-    let mut job = job(text);
-    job.add_requests(requests.into()).unwrap();
-    job
-}
 
 /// README.md shows the text, set in.
 fn readme_has(text: &str) {

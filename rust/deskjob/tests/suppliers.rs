@@ -1,14 +1,11 @@
 //! Order 6 of document 02 at the bench: two suppliers share the unit of `examples/suppliers.txt`.
 
+#[path = "shared/jobs.rs"]
+mod jobs;
+
 use deskjob::commands::{self, End, Shown};
-use deskjob::job::Job;
+use jobs::{job, with_requests, FIRST, SUPPLIERS, SUPPLIERS_REQUESTS};
 use xliff_desk::{Grant, Role};
-
-const SUPPLIERS: &str = include_str!("../examples/suppliers.txt");
-const REQUESTS: &str = include_str!("../examples/suppliers-requests.txt");
-
-/// The first supplier's grant.
-const FIRST: Grant = Grant { role: Role::Translator, positions: &[1] };
 
 /// What the first supplier sees.
 const SEEN: &str = r#"  UN Y
@@ -82,16 +79,6 @@ const SEEN_AFTER_REMOVAL: &str = r#"  UN Y
   UE
 "#;
 
-fn job(text: &str) -> Job {
-    Job::read(text.into()).unwrap()
-}
-
-fn with_requests(text: &str, requests: &str) -> Job {
-    let mut job = job(text);
-    job.add_requests(requests.into()).unwrap();
-    job
-}
-
 /// The first supplier sees no target of part 2, and the state there as I.
 #[test]
 fn a_supplier_sees_its_own_part() {
@@ -109,7 +96,7 @@ fn a_supplier_sees_its_own_part() {
 /// The first supplier changes its own target, and neither the other's nor the parts.
 #[test]
 fn a_supplier_changes_its_own_part() {
-    let asked = with_requests(SUPPLIERS, REQUESTS);
+    let asked = with_requests(SUPPLIERS, SUPPLIERS_REQUESTS);
     assert_eq!(commands::run(&asked, Some(FIRST)), Shown::refused(CHANGED));
     // an engineer's grant allows all that is allowed without one
     let engineer = Grant { role: Role::Engineer, positions: &[] };

@@ -1,7 +1,5 @@
 //! The jobs that `./test` compares: each is judged, and the delicate cases occur.
 
-use std::collections::BTreeMap;
-
 use second::desk::{read_request, Request};
 use second::generate::{grant_job, GrantJob, GrantKind, LineJob, LineKind, JOBS, SEED};
 use second::lines::answered;
@@ -9,27 +7,13 @@ use second::rules::check;
 use second::table::Unit;
 
 use super::cases::{in_call, in_positions};
+use super::counted::Counts;
 use super::expected::{put_together, ANY, CALLS, REWRITES, VIEWS};
 use super::judge::{cut_out, is_granted};
 use super::view_cases::{in_view, of_room};
 use super::*;
 
-/// In how many jobs each case occurs.
-#[derive(Default)]
-struct Counts(BTreeMap<String, usize>);
-
 impl Counts {
-    fn add(&mut self, case: impl Into<String>) {
-        *self.0.entry(case.into()).or_default() += 1;
-    }
-
-    fn must_have(&self, least: usize, cases: impl IntoIterator<Item = String>) {
-        for case in cases {
-            let count = self.0.get(&case).copied().unwrap_or(0);
-            assert!(count >= least, "only {count}: {case}");
-        }
-    }
-
     /// A job, judged from the order's words.
     fn add_job(&mut self, job: &GrantJob) {
         let name = if job.request.is_none() { "view" } else { "call" };
@@ -87,7 +71,7 @@ fn generated_jobs_are_judged() {
         counts.add(job.kind.name());
         counts.add_job(&job);
     }
-    counts.0.iter().for_each(|(case, count)| println!("{count:>7}  {case}"));
+    counts.print();
     for (kind, share) in GrantKind::ALL.iter().zip(GrantKind::SHARES) {
         counts.must_have(JOBS * share / 100 / 2, [kind.name().to_string()]);
     }

@@ -4,6 +4,8 @@
 
 mod calls;
 mod cases;
+#[path = "../shared/counts.rs"]
+mod counted;
 mod counts;
 mod expected;
 mod judge;

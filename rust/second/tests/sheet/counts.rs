@@ -1,6 +1,6 @@
 //! The jobs that `./test` compares: every sheet reads back, and the delicate cases occur.
 
-use std::collections::{BTreeMap, BTreeSet};
+use std::collections::BTreeSet;
 
 use second::generate::{
     sheet_edges, sheet_job, LineJob, LineKind, SheetJob, SheetKind, ENOUGH, JOBS, SEED,
@@ -8,6 +8,7 @@ use second::generate::{
 use second::rules::check;
 
 use super::cases::{at_row_end, in_column, in_part};
+use super::counted::Counts;
 use super::reading::read_back;
 use super::refused;
 
@@ -34,22 +35,7 @@ const AT_ROW_ENDS: &str = "a full row, then a character|a full row, then a marke
     |a marker does not fit, a later character would|a marker does not fit, a later marker would\
     |a marker does not fit behind markers alone";
 
-/// In how many jobs, parts or columns each case occurs.
-#[derive(Default)]
-struct Counts(BTreeMap<String, usize>);
-
 impl Counts {
-    fn add(&mut self, case: impl Into<String>) {
-        *self.0.entry(case.into()).or_default() += 1;
-    }
-
-    fn must_have(&self, least: usize, cases: impl IntoIterator<Item = String>) {
-        for case in cases {
-            let count = self.0.get(&case).copied().unwrap_or(0);
-            assert!(count >= least, "only {count}: {case}");
-        }
-    }
-
     /// A job, and of a valid unit its sheet, which must read back.
     fn add_job(&mut self, job: &SheetJob) {
         let unit = match check(&job.input) {
@@ -119,7 +105,7 @@ fn generated_sheets_read_back() {
         counts.add(job.kind.name());
         counts.add_job(&job);
     }
-    counts.0.iter().for_each(|(case, count)| println!("{count:>7}  {case}"));
+    counts.print();
     for (kind, share) in SheetKind::ALL.iter().zip(SheetKind::SHARES) {
         counts.must_have(JOBS * share / 100 / 2, [kind.name().to_string()]);
     }
@@ -135,7 +121,7 @@ fn generated_sheets_read_back() {
 fn every_marker_about_a_rows_end() {
     let mut counts = Counts::default();
     sheet_edges().iter().for_each(|job| counts.add_job(job));
-    counts.0.iter().for_each(|(case, count)| println!("{count:>7}  {case}"));
+    counts.print();
     counts.must_have(2, in_both_columns(markers()));
 }
 

@@ -3,6 +3,8 @@
 
 mod cases;
 mod columns;
+#[path = "../shared/counts.rs"]
+mod counted;
 mod counts;
 mod markers;
 mod reading;
