@@ -1,4 +1,5 @@
 // Answers of operations, and places of records at fault.
+#![tactic(auto)]
 ghost use Rattle.std.specs.Prelude.{◌≡◌, cond};
 ghost use Rattle.answers.specs.Answers.{refusedBy, lower};
 

@@ -1,4 +1,6 @@
 // The two halves of a content that is cut.
+#![tactic(auto)]
+
 ghost use Rattle.std.specs.Prelude.{◌≡◌, ◌+◌, ◌<◌, ◌≤◌, length};
 ghost use Rattle.marks.specs.Marks.{meaning};
 ghost use Rattle.writer.specs.Pieces.{lead};

@@ -1,5 +1,6 @@
 // The desk's operations for programs in C or Rust. Each returns whether it accepts; `number` is that of the refusal,
 // else 0; `value` is the result's length, or the refusal's place.
+#![tactic(auto)]
 ghost use Rattle.std.specs.Prelude.{◌≡◌, length};
 ghost use Rattle.xliff.specs.Check.{check};
 ghost use Rattle.xliff.specs.Split.{split};

@@ -1,4 +1,5 @@
 // A text written piece by piece into a lent output, or only measured against the output's length.
+#![tactic(auto)]
 ghost use Rattle.std.specs.Prelude.{◌≡◌, ◌≤◌, length};
 ghost use Rattle.draft.specs.Drafts.{started, Wrote};
 

@@ -1,4 +1,5 @@
 // A glance at a record of a table that was read before: what a walk over the records asks of it, by its mark alone.
+#![tactic(auto)]
 ghost use Rattle.std.specs.Prelude.{◌≡◌, ◌≤◌, length, drop};
 ghost use Rattle.xliff.specs.Parse.{mark_at};
 ghost use Rattle.glance.specs.Glances.{part_glance, item_glance, text_glance, target_glance, rest_glance, Glanced};

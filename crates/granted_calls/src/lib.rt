@@ -1,4 +1,5 @@
 // A request with its grant: document 02, order 6.
+#![tactic(auto)]
 ghost use Rattle.std.specs.Prelude.{◌≡◌, ◌≤◌, length};
 ghost use Rattle.std.proofs.Math.Option.{none};
 ghost use Rattle.xliff.specs.Check.{table_refusal, check};

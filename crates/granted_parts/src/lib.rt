@@ -1,4 +1,5 @@
 // Roles, and the parts that a grant has.
+#![tactic(auto)]
 ghost use Rattle.std.specs.Prelude.{◌≡◌};
 ghost use Rattle.xliff.specs.Bytes.{among};
 ghost use Rattle.grants.specs.Grant.{role_of, within};

@@ -1,5 +1,6 @@
 // Rule 6. An id and its owner are one number: 64 times the id, plus 1 for a part, 2 for the source, 3 for a target; 0
 // is none.
+#![tactic(auto)]
 ghost use Rattle.std.specs.Prelude.{◌≡◌, true, false, cond, ◌+◌, ◌-◌, ◌*◌, ◌/◌, ◌%◌, ◌<◌, ◌≤◌, length, eqb};
 ghost use Rattle.answers.specs.Answers.{refusal-at};
 ghost use Rattle.xliff.specs.Bytes.{any};

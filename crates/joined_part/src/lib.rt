@@ -1,4 +1,5 @@
 // Two parts joined.
+#![tactic(auto)]
 mod states;
 
 ghost use Rattle.std.specs.Prelude.{◌≡◌};

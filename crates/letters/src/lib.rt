@@ -1,6 +1,7 @@
 // Rule 8: the letters of partners agree, and a fixed code is neither copied nor deleted.
 // Throughout, `t` is the table, `source_markers` and `target_markers` the offsets of the markers of the source and the
 // target sequence, `source_keys` and `target_keys` their keys.
+#![tactic(auto)]
 ghost use Rattle.std.specs.Prelude.{◌≡◌, true, false, [], ◌-◌, ◌<◌, length};
 ghost use Rattle.answers.specs.Answers.{refusal-at, toward};
 ghost use Rattle.views.specs.Views.{view_of};

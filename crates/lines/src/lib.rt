@@ -1,4 +1,5 @@
 // The lines that the desk program prints.
+#![tactic(auto)]
 ghost use Rattle.std.specs.Prelude.{◌≡◌, ◌+◌, ◌*◌, ◌%◌, ◌<◌, ◌≤◌, length};
 ghost use Rattle.xliff.specs.Answer.{accepted, refused};
 ghost use Rattle.xliff.specs.Desk.{decimal, hex_digit, line, table_line};

@@ -1,5 +1,6 @@
 // The eighteen marks of a table's records, compared as fixed two-byte strings; how many bytes a record of a mark takes;
 // and numbers of two bytes.
+#![tactic(auto)]
 ghost use Rattle.std.specs.Prelude.{◌≡◌, ◌+◌, ◌*◌, ◌<◌, ◌≤◌, length};
 ghost use Rattle.xliff.specs.Bytes.{two_at};
 ghost use Rattle.xliff.specs.Parse.{mark_at, size_of};

@@ -1,4 +1,5 @@
 // Rule 7 for pc and mrk (PO PC MO MC): halves without partner in their content.
+#![tactic(auto)]
 ghost use Rattle.std.specs.Prelude.{◌≡◌, true, [], ◌∷◌, reverse, ◌+◌, ◌-◌, ◌<◌, ◌≤◌, length, get_or, take, drop};
 ghost use Rattle.std.proofs.Math.Option.{some};
 ghost use Rattle.xliff.specs.Bytes.{gather};

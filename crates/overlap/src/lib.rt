@@ -1,6 +1,7 @@
 // Rule 9: a pair with canOverlap N encloses neither an isolated code nor one half alone of another pair.
 // Throughout, `t` is the table, `source_markers` and `target_markers` the offsets of the markers of the source and the
 // target sequence, `source_keys` and `target_keys` their keys.
+#![tactic(auto)]
 ghost use Rattle.std.specs.Prelude.{◌≡◌, true, [], suc, ◌+◌, ◌-◌, ◌<◌, ◌≤◌, length, drop};
 ghost use Rattle.answers.specs.Answers.{refusal-at, toward};
 ghost use Rattle.keys.specs.Keys.{keys_at};

@@ -1,4 +1,5 @@
 // Where the parts of a table stand, and how many records it has.
+#![tactic(auto)]
 ghost use Rattle.std.specs.Prelude.{◌≡◌, true, false, ◌+◌, ◌-◌, ◌<◌, drop, length};
 ghost use Rattle.xliff.specs.Parse.{read, is_part, unit};
 ghost use Rattle.xliff.specs.Focus.{focus};

@@ -1,6 +1,7 @@
 // Rule 7: a half without partner.
 // Throughout, `t` is the table, `source_markers` and `target_markers` the offsets of the markers of the source and the
 // target sequence, `source_keys` and `target_keys` their keys.
+#![tactic(auto)]
 ghost use Rattle.std.specs.Prelude.{◌≡◌, true, false, [], reverse, ◌+◌, ◌<◌, ◌≤◌, length, take, drop, get_or};
 ghost use Rattle.xliff.specs.Bytes.{any, gather};
 ghost use Rattle.xliff.specs.Parse.{unit, most_bytes, most_records};

@@ -1,4 +1,5 @@
 // The review sheet of a table: order 5.
+#![tactic(auto)]
 ghost use Rattle.std.specs.Prelude.{◌≡◌, length};
 ghost use Rattle.std.proofs.Math.Option.{none};
 ghost use Rattle.xliff.specs.Check.{table_refusal, check};

@@ -1,4 +1,5 @@
 // Rewrite: document 01, "Rewrite (side S or T, id, form P for pc or mrk, form S for start and end)".
+#![tactic(auto)]
 ghost use Rattle.std.specs.Prelude.{◌≡◌, length};
 ghost use Rattle.std.proofs.Math.Option.{none};
 ghost use Rattle.xliff.specs.Check.{table_refusal, check};

@@ -1,4 +1,5 @@
 // The offsets of the markers of the two sequences, and their keys.
+#![tactic(auto)]
 ghost use Rattle.std.specs.Prelude.{◌≡◌, true, false, cond, [], ◌∷◌, ◌+◌, ◌-◌, ◌<◌, ◌≤◌, length, take};
 ghost use Rattle.xliff.specs.Parse.{unit, most_bytes, most_parts, most_records};
 ghost use Rattle.places.specs.Passes.{Passes};

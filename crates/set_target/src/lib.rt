@@ -1,4 +1,5 @@
 // Set target: document 01, "Set target (part, state, content)".
+#![tactic(auto)]
 ghost use Rattle.std.specs.Prelude.{◌≡◌, ◌≤◌, length};
 ghost use Rattle.std.proofs.Math.Option.{none};
 ghost use Rattle.xliff.specs.Answer.{unless, answer};

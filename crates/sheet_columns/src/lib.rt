@@ -1,4 +1,5 @@
 // A row of a column of the review sheet.
+#![tactic(auto)]
 ghost use Rattle.std.specs.Prelude.{◌≡◌, false, ◌+◌, ◌<◌, ◌≤◌, length};
 ghost use Rattle.sheet_columns.specs.Filled.{SomeAhead, Going, goes_on, Filled, ItemNext, RecordNext, entered, PutItems, PutRow};
 

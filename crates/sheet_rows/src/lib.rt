@@ -1,4 +1,5 @@
 // The rows of the review sheet, part by part.
+#![tactic(auto)]
 ghost use Rattle.std.specs.Prelude.{◌≡◌, ◌≤◌, length};
 ghost use Rattle.xliff.specs.Desk.{decimal};
 ghost use Rattle.xliff.specs.Parse.{unit};

@@ -2,6 +2,7 @@
 // Throughout, `t` is the table, `source_markers` and `target_markers` the offsets of the markers of the source and the
 // target sequence, `source_keys` and `target_keys` their keys. `links` and `heads` link keys by the groups of their ids
 // (`id_links`).
+#![tactic(auto)]
 ghost use Rattle.std.specs.Prelude.{◌≡◌, []};
 ghost use Rattle.answers.specs.Answers.{refusal-at, toward};
 ghost use Rattle.views.specs.Views.{items_of_markers};

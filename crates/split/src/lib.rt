@@ -1,4 +1,5 @@
 // Split: document 01, "Split (part, source cut, target cut, new id)", with 23 of document 02, order 2.
+#![tactic(auto)]
 ghost use Rattle.std.specs.Prelude.{◌≡◌, length};
 ghost use Rattle.std.proofs.Math.Option.{none};
 ghost use Rattle.xliff.specs.Check.{table_refusal, check};

@@ -1,5 +1,6 @@
 // A table built in a lent array of the greatest length that a table has: record by record and, within a text, code point
 // by code point. Beyond a limit of a table nothing more is written, and that is told.
+#![tactic(auto)]
 ghost use Rattle.std.specs.Prelude.{◌≡◌, true, false, ◌≤◌};
 ghost use Rattle.table_builder.specs.Building.{HoldsNothing, Building, RecordPut, CodePointPut};
 

@@ -1,6 +1,7 @@
 // The check of a table: the numbers 1 to 10. A rule is tried only where all before it are met.
 // Throughout, `t` is the table, `source_markers` and `target_markers` the offsets of the markers of the source and the
 // target sequence, `source_keys` and `target_keys` their keys.
+#![tactic(auto)]
 ghost use Rattle.std.specs.Prelude.{◌≡◌, ◌≤◌, length, ltb};
 ghost use Rattle.xliff.specs.Answer.{applies, ◌then◌, unless, answer};
 ghost use Rattle.xliff.specs.Parse.{most_bytes, table_fault, unit};

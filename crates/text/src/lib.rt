@@ -1,4 +1,5 @@
 // UTF-8, and the characters that XML 1.0 allows.
+#![tactic(auto)]
 pub mod points;
 
 ghost use Rattle.std.specs.Prelude.{◌≡◌, true, false, ◌+◌, ◌-◌, ◌*◌, ◌<◌, ◌≤◌, length, drop};

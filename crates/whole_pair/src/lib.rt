@@ -1,4 +1,5 @@
 // The complete pair or annotation of an id on one side of a unit.
+#![tactic(auto)]
 ghost use Rattle.std.specs.Prelude.{◌≡◌, not, ◌<◌, ◌≤◌, length, eqb};
 ghost use Rattle.xliff.specs.Unit.{source_sequence, target_sequence};
 ghost use Rattle.xliff.specs.Parse.{unit, most_bytes, most_parts};

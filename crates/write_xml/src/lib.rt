@@ -1,4 +1,5 @@
 // A unit written as XML: order 1.
+#![tactic(auto)]
 ghost use Rattle.std.specs.Prelude.{◌≡◌, length};
 ghost use Rattle.std.proofs.Math.Option.{none};
 ghost use Rattle.xliff.specs.Check.{table_refusal, check};

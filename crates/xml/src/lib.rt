@@ -1,1 +1,2 @@
 // The specification of units as XML (specs/) and its theory (proofs/). No code.
+#![tactic(auto)]

@@ -1,4 +1,5 @@
 // The next attribute of a start tag.
+#![tactic(auto)]
 ghost use Rattle.std.specs.Prelude.{◌≡◌, true, false, ◌≤◌, ◌<◌, length, get_or};
 ghost use Rattle.xml.specs.Tokens.{in_tag, in_short, value_due};
 ghost use Rattle.xml.specs.Characters.{starts_name};

@@ -1,4 +1,5 @@
 // The attributes of a start tag, a slot for each name.
+#![tactic(auto)]
 ghost use Rattle.std.specs.Prelude.{◌≡◌, [], ◌+◌, ◌≤◌, length, take, drop};
 ghost use Rattle.xml_slots.specs.Slots.{slot_names, slots_of, index_of};
 ghost use Rattle.xml_attribute.specs.Attribute.{attribute_of, AttributeIn};

@@ -1,5 +1,6 @@
 // Contents and the elements in them: a content calls for elements, and an element calls for content, the depth left
 // falling.
+#![tactic(auto)]
 ghost use Rattle.std.specs.Prelude.{◌≤◌, length};
 ghost use Rattle.xml_names.specs.Names.{bytes_between, NameIn};
 ghost use Rattle.xml_records.specs.Collecting.{Collecting};

@@ -1,4 +1,5 @@
 // A start tag in a content, and the element that it opens.
+#![tactic(auto)]
 ghost use Rattle.std.specs.Prelude.{◌≡◌, ◌≤◌, length};
 ghost use Rattle.xliff.specs.Bytes.{equal};
 ghost use Rattle.xml_names.specs.Names.{bytes_between, NameIn};

@@ -1,4 +1,5 @@
 // The inline elements, by their names and attributes; first what they and the heads of parts read of their slots.
+#![tactic(auto)]
 ghost use Rattle.std.specs.Prelude.{◌≡◌, true, ◌<◌, eqb};
 ghost use Rattle.xliff.specs.Bytes.{'Y'};
 ghost use Rattle.xml.specs.Attributes.{only, required, optional, choice};

@@ -1,4 +1,5 @@
 // The character at the front of bytes, as XML 1.0 allows it.
+#![tactic(auto)]
 ghost use Rattle.std.specs.Prelude.{◌≡◌, [], ◌∷◌, ◌++◌, ◌-◌, ◌≤◌, ◌<◌, length, get_or};
 ghost use Rattle.xliff.specs.Text.{spelled};
 ghost use Rattle.xml.specs.Characters.{begins, part_of, cut_character, front_character};

@@ -1,4 +1,5 @@
 // What heads a unit, its parts and their targets, by the attributes of its tag.
+#![tactic(auto)]
 ghost use Rattle.xml.specs.Elements.{unit_opening, segment_head, ignorable_head, part_of_name};
 ghost use Rattle.xml_slots.specs.Slots.{SomeSlots, ByAttributes};
 ghost use Rattle.xml_heads.specs.Meanings.{unit_meaning, head_meaning, OrderRead};

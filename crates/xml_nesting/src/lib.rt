@@ -1,4 +1,5 @@
 // How deep pc and mrk are nested in a table, and the end of a pc.
+#![tactic(auto)]
 ghost use Rattle.std.specs.Prelude.{◌≡◌, ◌<◌, ◌≤◌, drop};
 ghost use Rattle.xliff.specs.Parse.{read, unit};
 ghost use Rattle.places.specs.Passes.{Passes};

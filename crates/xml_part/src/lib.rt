@@ -1,4 +1,5 @@
 // A part of a unit: its head, its source and its target, and what stands between them.
+#![tactic(auto)]
 ghost use Rattle.std.specs.Prelude.{[], ◌∷◌, suc, ◌<◌, ◌≤◌, length};
 ghost use Rattle.xliff.specs.Encode.{target_head};
 ghost use Rattle.xml.specs.Elements.{part_due, target_due};

@@ -1,4 +1,5 @@
 // What stands at a place outside of tags and comments.
+#![tactic(auto)]
 ghost use Rattle.std.specs.Prelude.{◌≡◌, ◌≤◌, ◌<◌, length, get_or};
 ghost use Rattle.xml.specs.Characters.{'<', '&', carriage_return};
 ghost use Rattle.xml_piece.specs.Pieces.{Plain, PieceRead};

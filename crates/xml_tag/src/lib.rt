@@ -1,4 +1,5 @@
 // What begins with a < outside of tags: a start tag, an end tag or a comment.
+#![tactic(auto)]
 ghost use Rattle.std.specs.Prelude.{◌≡◌, true, false, [], ◌≤◌, ◌<◌, length, get_or, drop};
 ghost use Rattle.xml.specs.Characters.{'<', begins};
 ghost use Rattle.xml.specs.Tokens.{in_name, outside_tags};

@@ -1,4 +1,5 @@
 // The attributes of a tag, written behind a text.
+#![tactic(auto)]
 ghost use Rattle.std.specs.Prelude.{◌≤◌, length};
 ghost use Rattle.draft.specs.Drafts.{Wrote};
 ghost use Rattle.xml.specs.Words.{'canReorder', 'state'};

@@ -1,4 +1,5 @@
 // A whole unit in XML.
+#![tactic(auto)]
 ghost use Rattle.std.specs.Prelude.{◌≡◌, ◌≤◌, length};
 ghost use Rattle.xliff.specs.Parse.{most_bytes};
 ghost use Rattle.xml.specs.Elements.{unit_due, part_due};

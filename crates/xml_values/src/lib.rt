@@ -1,4 +1,5 @@
 // Blanks in a tag, and the values of its attributes.
+#![tactic(auto)]
 ghost use Rattle.std.specs.Prelude.{◌≡◌, ◌≤◌, length};
 ghost use Rattle.xml.specs.Characters.{is_blank};
 ghost use Rattle.xml_front.specs.Fronts.{told};

@@ -1,4 +1,5 @@
 // The values of attributes, references in them read: numbers, words and hexadecimal digits.
+#![tactic(auto)]
 ghost use Rattle.std.specs.Prelude.{◌≡◌, true, false, ◌+◌, ◌≤◌, ◌<◌, length, drop};
 ghost use Rattle.xliff.specs.Bytes.{equal};
 ghost use Rattle.xliff.specs.Text.{between};

@@ -1,4 +1,5 @@
 // A unit as XML: one walk over the records of its table.
+#![tactic(auto)]
 ghost use Rattle.std.specs.Prelude.{◌≡◌, ◌++◌, ◌≤◌, length};
 ghost use Rattle.xliff.specs.Parse.{unit};
 ghost use Rattle.xliff.specs.Unit.{segment, ignorable};

@@ -251,7 +251,7 @@ at_most_once ps six seven x c = by (is_end_half x) refl
 
 -- once at least: it is there
 pub mem_copies : (x : Item) (ys : Content) → Memᴰ x ys → 1 ≤ copies x ys
-mem_copies x [] m = absurd (Memᴰ.not_nil m)
+mem_copies x [] m = absurd (Memᴰ.not-nil m)
 mem_copies x (y ∷ ys) m = by (Memᴰ.cases_cons m) (mem_copies x ys)
   where
     by : (x ≡ y) ⊎ Memᴰ x ys → (Memᴰ x ys → 1 ≤ copies x ys) → 1 ≤ bit (same x y) + copies x ys

@@ -137,6 +137,7 @@ waits_rewritten i j w xs c s = by (eqb j i) refl
 -- shapes: of the id there is a pair
 shape_form : {e : ℕ → Half → Bool} (b : Bool) (l : List Mk) → 2 ≤ length l → Shape e l → Shape e (map (set_form b) l)
 shape_form b [] h sh_none = sh_none
+shape_form {e = e} b (m ∷ (n ∷ (_ ∷ _))) h x8 = elim x8 [ ]
 shape_form b (m ∷ n ∷ []) h (sh_pair c w) = sh_pair c b
 shape_form b (m ∷ []) h (sh_lone c s k) = absurd (let z : ⊥ = omega arith in z)
 
@@ -214,6 +215,7 @@ two_halves {e} i xs s t = by (marks i xs) refl s (let z = halves_marks i xs in o
     by : (l : List Mk) → marks i xs ≡ l → Shape e l → 2 ≤ length l → TwoHalves i xs
     by [] q sh_none h = absurd (let z : ⊥ = omega arith in z)
     by (m ∷ []) q (sh_lone c s k) h = absurd (let z : ⊥ = omega arith in z)
+    by (m ∷ (n ∷ (_ ∷ _))) q x9 h = elim x9 [ ]
     by (m ∷ n ∷ []) q (sh_pair c w) h =
         let (b, x, r, f, nb, hx, gx, rest) = first_mark i xs (mk c w start) (mk c w end ∷ []) q in
         let (d, y, v, g, nd, hy, gy, no_more) = first_mark i r (mk c w end) [] rest in

@@ -111,6 +111,7 @@ turned_none u = ap (with_parts u) (unchanged (turned_item []) (turned_item []) (
 -- IN ORDER
 shape_turned : {e : ℕ → Half → Bool} (h : Key → Bool) (i : ℕ) (l : List Mk) → Shape e l → Shape e (map (turn_mk h i) l)
 shape_turned h i [] sh_none = sh_none
+shape_turned {e = e} h i (m ∷ (n ∷ (_ ∷ _))) x7 = elim x7 [ ]
 shape_turned h i (m ∷ n ∷ []) (sh_pair c w) = sh_pair c (not (h (key c i)) && w)
 shape_turned {e} h i (m ∷ []) (sh_lone c s k) =
     subst (λ (b : Bool). Shape e (mk c b s ∷ [])) (sym (and_false (not (h (key c i))))) (sh_lone c s k)

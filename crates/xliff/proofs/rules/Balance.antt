@@ -113,6 +113,7 @@ module _ (n m : ℕ) (differ : n ≡ m → ⊥) (two : (y : Item) → is_form_P 
 
   empties_meets : (ys : Content) (st : List Item) → AllHalf n st → Empties (map (toward n) ys) (map key_of st) → all_met (meet_all (some st) ys) ≡ true
   unfolding all_met meet_all meet
+  empties_meets [] (x ∷ st) a e = elim e [ ]
   empties_meets [] [] a e = refl
   empties_meets (y ∷ ys) [] a e = ap all_met (met ys)
   empties_meets (y ∷ ys) (x ∷ st) (one_half h a) e =

@@ -136,6 +136,8 @@ module _ (extra : Content → Item → Bool) (blind : (x y : Item) → flat y �
 
   eased_clear : (b b' xs ys : Content) → flattened b' ≡ flattened b → Eased b xs ys → clear bad b xs ≡ true → clear bad b' ys ≡ true
   unfolding clear flattened
+  eased_clear b b' [] (y ∷ ys) f x6 k = elim x6 [ ]
+  eased_clear b b' (x ∷ xs) [] f x6 k = elim x6 [ ]
   eased_clear b b' [] [] f eased_nil k = refl
   eased_clear b b' (x ∷ xs) (y ∷ ys) f (eased_cons e w r) k =
       let was : bad_8_target b x xs || extra b x ≡ false = not-true _ (and_left _ _ k) in

@@ -290,6 +290,8 @@ shape_ok e [] (mk c false start) [] (sh_lone d t h) = h
 shape_ok e [] (mk c false end) [] (sh_lone d t h) = h
 shape_ok e [] (mk c false s) (n ∷ []) (sh_pair d w) = rw (eq-eqb c c refl)
 shape_ok e (n ∷ []) (mk c false s) [] (sh_pair d w) = rw (eq-eqb c c refl)
+shape_ok e [] (mk c false s) (n ∷ (_ ∷ _)) h = elim h [ ]
+shape_ok e (n ∷ []) (mk c false s) (_ ∷ _) h = elim h [ ]
 shape_ok e (n ∷ o ∷ b) (mk c false s) a h =
     let z : ⊥ = omega (arith, short h, rev_length b (o ∷ n ∷ mk c false s ∷ a)) in absurd z
 

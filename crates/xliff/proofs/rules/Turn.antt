@@ -108,6 +108,13 @@ pub Shape-mid : {e : ℕ → Half → Bool} (h : Key → Bool) (i : ℕ) (x y z 
 Shape-mid h i [] [] z v s = s
 Shape-mid {e} h i [] (m ∷ []) [] v (sh_lone c s k) = subst (λ (b : Bool). Shape e (mk c b s ∷ [])) (sym (and_false (not (h (key c i)))))
     (sh_lone c s k)
+Shape-mid {e = e} h i [] (m ∷ []) (n ∷ (_ ∷ _)) v s = elim s [ ]
+Shape-mid {e = e} h i [] (m ∷ (n ∷ [])) (_ ∷ _) v s = elim s [ ]
+Shape-mid {e = e} h i [] (m ∷ (n ∷ (_ ∷ _))) z v s = elim s [ ]
+Shape-mid {e = e} h i (a ∷ []) (m ∷ []) (n ∷ _) v s = elim s [ ]
+Shape-mid {e = e} h i (a ∷ []) (m ∷ (n ∷ _)) z v s = elim s [ ]
+Shape-mid {e = e} h i (a ∷ (b ∷ [])) (m ∷ _) z v s = elim s [ ]
+Shape-mid {e = e} h i (a ∷ (b ∷ (_ ∷ _))) y z v s = elim s [ ]
 Shape-mid h i [] (m ∷ []) (n ∷ []) v (sh_pair c true) = absurd (no_end (inv_opn v))
 Shape-mid {e} h i [] (m ∷ []) (n ∷ []) v (sh_pair c false) =
     subst (λ (b : Bool). Shape e (mk c b start ∷ mk c false end ∷ [])) (sym (and_false (not (h (key c i))))) (sh_pair c false)
@@ -193,6 +200,7 @@ seen_here x t l p o = rw (own_mark x p, eq-eqb (class x) (class x) refl, o)
 has_mark : (c i : ℕ) (t : Half) (m : PM) → ((x : Item) → pm x ≡ m → (key_of x ≡ key c i) × (is_form_P x ≡ true) × (opposite t (side x) ≡ true))
     → (xs : Content) → Has m (map pm xs) → any_mk c t (marks i xs) ≡ true
 unfolding marks gather
+has_mark c i t m view [] h = elim h [ ]
 has_mark c i t m view (x ∷ xs) h = by (has_cons h) (has_mark c i t m view xs)
   where
     by : (pm x ≡ m) ⊎ Has m (map pm xs) → (Has m (map pm xs) → any_mk c t (marks i xs) ≡ true) → any_mk c t (mk_of i x ++ marks i xs) ≡ true
