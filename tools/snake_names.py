@@ -27,6 +27,12 @@ QUIET = re.compile(r'--[^\n]*|"(?:\\.|[^"\\\n])*"')
 QUIET_RUST = re.compile(r'//[^\n]*|b?"(?:\\.|[^"\\\n])*"|b?\'(?:\\.|[^\'\\\n])\'')
 # names of goals and labels that Rattle makes stand in these files
 PROOF_FILES = ("Proof.antt", "Answers.antt", "Invariants.antt")
+
+
+def is_proof_file(path):
+    return "/proofs/" in path and os.path.basename(path) in PROOF_FILES
+
+
 # Rattle's own marks in names that it makes
 MADE = re.compile(r"^(?:invariant-|decreases-|Need-|returns-\d)")
 
@@ -146,7 +152,7 @@ def main():
     kit = kit_names()
     declared = set()
     for path in files:
-        if os.path.basename(path) not in PROOF_FILES:
+        if not is_proof_file(path):
             declared.update(DECLARED.findall(QUIET.sub(" ", open(path, encoding="utf-8").read())))
     kit -= declared - imported_from_kit(files)
     own = {n: spelled(n) for n in declared if n not in kit and spelled(n) != n}
@@ -190,7 +196,7 @@ def main():
     changed = {}
     for path in files:
         text = open(path, encoding="utf-8").read()
-        if os.path.basename(path) in PROOF_FILES:
+        if is_proof_file(path):
             mine = {n for n in DECLARED.findall(text)}
             proof_name = changer(lambda t: own_names(t) if t not in mine else t, after_made)
             new = outside(QUIET, text, proof_name)

@@ -1,6 +1,7 @@
 // 23 of split. Document 02, order 2: "A cut is refused, in source or target, if the item after it is such a mark and
 // the item before it is a code point of text."
 #![tactic(auto)]
+
 ghost use Rattle.std.specs.Prelude.{◌≡◌};
 ghost use Rattle.cut.specs.Halves.{Some};
 ghost use Rattle.part_at.specs.Stands.{Checked};

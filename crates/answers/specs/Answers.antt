@@ -10,19 +10,19 @@ use Rattle.answers.specs.declared.Place.{Place}
 use Rattle.answers.specs.declared.Place.TheVariants.{Nowhere, At}
 
 -- "If the answer is an enum, a definition gives this paper's number and values for each of its cases."
-abbrev pub answer-meaning : Answer → spec.Answer
-answer-meaning (Accepted n) = spec.accepted n
-answer-meaning (Refused n at) = spec.refused n at
+abbrev pub answer_meaning : Answer → spec.Answer
+answer_meaning (Accepted n) = spec.accepted n
+answer_meaning (Refused n at) = spec.refused n at
 
 -- a rule's number at a place
-abbrev pub refusal-at : ℕ → Place → Option Refusal
-refusal-at n Nowhere = none
-refusal-at n (At at) = refusal n at
+abbrev pub refusal_at : ℕ → Place → Option Refusal
+refusal_at n Nowhere = none
+refusal_at n (At at) = refusal n at
 
 -- a rule's refusal at the place, if there is one, else the rest
-abbrev pub refusedBy : ℕ → Place → Answer → Answer
-refusedBy n Nowhere rest = rest
-refusedBy n (At at) rest = Refused n at
+abbrev pub refused_by : ℕ → Place → Answer → Answer
+refused_by n Nowhere rest = rest
+refused_by n (At at) rest = Refused n at
 
 -- the lower of two places
 abbrev pub lower : Place → ℕ → Place

@@ -1,17 +1,18 @@
 // Answers of operations, and places of records at fault.
 #![tactic(auto)]
+
 ghost use Rattle.std.specs.Prelude.{◌≡◌, cond};
-ghost use Rattle.answers.specs.Answers.{refusedBy, lower};
+ghost use Rattle.answers.specs.Answers.{refused_by, lower};
 
 // Document 01: "An operation answers either accepted with a length, or refused with a number and a place."
-#[derive(Drop)]
+#[derive(Clone, Copy)]
 pub enum Answer {
     Accepted(usize),
     Refused(u8, usize),
 }
 
 // The first record at fault, if any.
-#[derive(Drop)]
+#[derive(Clone, Copy)]
 pub enum Place {
     Nowhere,
     At(usize),
@@ -36,7 +37,7 @@ pub fn lower_if(bad: bool, best: Place, at: usize) -> Place
 
 // A rule's refusal at the place, if there is one, else the rest.
 pub fn refused_by(n: u8, p: Place, rest: Answer) -> Answer
-    ensures { result ≡ refusedBy n p rest }
+    ensures { result ≡ refused_by n p rest }
 {
     match p {
         Place::Nowhere => rest,

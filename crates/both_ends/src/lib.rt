@@ -1,5 +1,6 @@
 // The job runner with demand 3 in its promise: what Extractor and Merger share.
 #![tactic(auto)]
+
 ghost use Rattle.std.specs.Prelude.{◌≡◌, ◌≤◌, length, take};
 ghost use Rattle.xliff.specs.Desk.{desk};
 ghost use Rattle.writer.specs.Pieces.{lead};

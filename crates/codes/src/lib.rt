@@ -1,5 +1,6 @@
 // The inline codes of a good content: which code a record is, marks taken as when flattened.
 #![tactic(auto)]
+
 pub mod chains;
 pub mod fixed;
 pub mod kept;

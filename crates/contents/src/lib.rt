@@ -1,5 +1,6 @@
 // The contents of a table, each by itself: the offsets of heads and markers in table order, and their keys.
 #![tactic(auto)]
+
 ghost use Rattle.std.specs.Prelude.{◌≡◌, ◌<◌, ◌≤◌, length, take, drop, eqb};
 ghost use Rattle.xliff.specs.Parse.{read, most_bytes, most_records};
 ghost use Rattle.places.specs.Passes.{Passes};

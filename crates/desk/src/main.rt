@@ -1,5 +1,6 @@
 // The desk program: a job from standard input, its answers to standard output. At most 65,535 bytes are read.
 #![tactic(auto)]
+
 fn main() {
     let mut input = [0u8; 65535];
     let mut output = [0u8; 1048576];

@@ -1,6 +1,7 @@
 // The desk's operations for programs in C or Rust. Each returns whether it accepts; `number` is that of the refusal,
 // else 0; `value` is the result's length, or the refusal's place.
 #![tactic(auto)]
+
 ghost use Rattle.std.specs.Prelude.{◌≡◌, length};
 ghost use Rattle.xliff.specs.Check.{check};
 ghost use Rattle.xliff.specs.Split.{split};
@@ -14,7 +15,7 @@ ghost use Rattle.sheet.specs.Sheet.{sheet};
 ghost use Rattle.grants.specs.Grant.{by_letter};
 ghost use Rattle.grants.specs.View.{view};
 ghost use Rattle.grants.specs.Requests.{granted_request};
-ghost use Rattle.answers.specs.Answers.{answer-meaning};
+ghost use Rattle.answers.specs.Answers.{answer_meaning};
 ghost use Rattle.writer.specs.Pieces.{lead};
 ghost use Rattle.both_ends.specs.Received.{Meets};
 ghost use Rattle.desk_library.specs.Told.{told, Tells};
@@ -22,7 +23,7 @@ ghost use Rattle.desk_library.specs.Told.{told, Tells};
 use answers::Answer;
 
 fn tell(a: Answer, number: &mut u8, value: &mut usize) -> bool
-    ensures { told (answer-meaning a) result number.new value.new }
+    ensures { told (answer_meaning a) result number.new value.new }
 {
     match a {
         Answer::Accepted(n) => {

@@ -1,10 +1,11 @@
 // A text written piece by piece into a lent output, or only measured against the output's length.
 #![tactic(auto)]
+
 ghost use Rattle.std.specs.Prelude.{◌≡◌, ◌≤◌, length};
 ghost use Rattle.draft.specs.Drafts.{started, Wrote};
 
 // How many bytes are used, whether the text is longer than the output, and whether it is only measured.
-#[derive(Drop)]
+#[derive(Clone, Copy)]
 pub struct Draft {
     pub used: usize,
     pub full: bool,

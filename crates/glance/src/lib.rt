@@ -1,11 +1,12 @@
 // A glance at a record of a table that was read before: what a walk over the records asks of it, by its mark alone.
 #![tactic(auto)]
+
 ghost use Rattle.std.specs.Prelude.{◌≡◌, ◌≤◌, length, drop};
 ghost use Rattle.xliff.specs.Parse.{mark_at};
 ghost use Rattle.glance.specs.Glances.{part_glance, item_glance, text_glance, target_glance, rest_glance, Glanced};
 
 // 0 for SG and IG, 1 for TG, 2 for all else; whether it is a marker; the order that a TG sets; the width.
-#[derive(Drop)]
+#[derive(Clone, Copy)]
 pub struct Glance {
     pub head: u8,
     pub marker: bool,

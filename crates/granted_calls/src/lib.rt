@@ -1,9 +1,10 @@
 // A request with its grant: document 02, order 6.
 #![tactic(auto)]
+
 ghost use Rattle.std.specs.Prelude.{◌≡◌, ◌≤◌, length};
 ghost use Rattle.std.proofs.Math.Option.{none};
 ghost use Rattle.xliff.specs.Check.{table_refusal, check};
-ghost use Rattle.answers.specs.Answers.{answer-meaning};
+ghost use Rattle.answers.specs.Answers.{answer_meaning};
 ghost use Rattle.outcomes.specs.Outcomes.{Answers};
 ghost use Rattle.requests.specs.Requests.{request_size};
 ghost use Rattle.grants.specs.Requests.{granted_request};
@@ -54,7 +55,7 @@ fn call_checked(
     request: &[u8],
     out: &mut [u8],
 ) -> Answer
-    requires { answer-meaning a ≡ check table.now }
+    requires { answer_meaning a ≡ check table.now }
     ensures { Answers (granted_request (grant_of role positions.now) table.now request.now (length out.old)) result out.old out.new }
 {
     match a {

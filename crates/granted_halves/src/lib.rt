@@ -1,5 +1,6 @@
 // Whether the halves of an id stand in granted parts.
 #![tactic(auto)]
+
 ghost use Rattle.std.specs.Prelude.{◌≡◌, not, ◌&&◌, cond, suc, ◌≤◌};
 ghost use Rattle.xliff.specs.Parse.{unit, most_parts};
 ghost use Rattle.xliff.specs.Rules.{half_of_id};

@@ -1,12 +1,13 @@
 // Roles, and the parts that a grant has.
 #![tactic(auto)]
+
 ghost use Rattle.std.specs.Prelude.{◌≡◌};
 ghost use Rattle.xliff.specs.Bytes.{among};
 ghost use Rattle.grants.specs.Grant.{role_of, within};
 ghost use Rattle.granted_parts.specs.Roles.{role_meaning, grant_of};
 
 // A translator's, a reviewer's or an engineer's; any other grants nothing.
-#[derive(Drop)]
+#[derive(Clone, Copy)]
 pub enum Role {
     Translator,
     Reviewer,

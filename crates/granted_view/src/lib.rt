@@ -1,5 +1,6 @@
 // The view of a table: document 02, order 6.
 #![tactic(auto)]
+
 ghost use Rattle.std.specs.Prelude.{◌≡◌, ◌≤◌, length};
 ghost use Rattle.std.proofs.Math.Option.{none};
 ghost use Rattle.xliff.specs.Encode.{encode};
@@ -7,7 +8,7 @@ ghost use Rattle.xliff.specs.Parse.{unit};
 ghost use Rattle.xliff.specs.Check.{table_refusal, check};
 ghost use Rattle.xliff.specs.Good.{bytes_of};
 ghost use Rattle.places.specs.Passes.{Passes};
-ghost use Rattle.answers.specs.Answers.{answer-meaning};
+ghost use Rattle.answers.specs.Answers.{answer_meaning};
 ghost use Rattle.outcomes.specs.Outcomes.{Answers};
 ghost use Rattle.heads.specs.Heads.{SomeHead};
 ghost use Rattle.part_at.specs.Stands.{Standing};
@@ -91,7 +92,7 @@ fn view_passed(role: Role, positions: &[u8], table: &[u8], out: &mut [u8]) -> An
 }
 
 fn view_checked(role: Role, positions: &[u8], table: &[u8], a: Answer, out: &mut [u8]) -> Answer
-    requires { answer-meaning a ≡ check table.now }
+    requires { answer_meaning a ≡ check table.now }
     ensures { Answers (view table.now (grant_of role positions.now) (length out.entry.now)) result out.old out.new }
 {
     match a {

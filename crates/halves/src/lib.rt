@@ -1,6 +1,7 @@
 // The nearest other half of a marker, before and after it in its sequence: by a scan of the keys, or along the links of
 // its group.
 #![tactic(auto)]
+
 ghost use Rattle.std.specs.Prelude.{◌≡◌, ◌<◌, ◌≤◌, length};
 ghost use Rattle.id_links.specs.Links.{Linked, LinkedAfter};
 ghost use Rattle.halves.specs.Nearest.{half_before, half_after};

@@ -1,5 +1,6 @@
 // The two halves of a part.
 #![tactic(auto)]
+
 ghost use Rattle.std.specs.Prelude.{◌+◌, ◌-◌};
 ghost use Rattle.xliff.specs.Split.{first_target, second_target, first_half, second_half};
 ghost use Rattle.halves_of_part.specs.Parts.{RoomTarget, WroteTarget, RoomHalf, WroteHalf, RoomHalves, WroteHalves};

@@ -1,6 +1,7 @@
 // What is asked of the records that open a unit and head its parts and targets (UN, SG, IG, TG), and how they are
 // written. Their fields are read by `table`; no other crate knows where they stand.
 #![tactic(auto)]
+
 ghost use Rattle.std.specs.Prelude.{◌≤◌, ◌++◌, length};
 ghost use Rattle.table.specs.Meaning.{segment_meaning};
 ghost use Rattle.xliff.specs.Unit.{segment};

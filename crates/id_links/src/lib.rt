@@ -1,6 +1,7 @@
 // Keys in groups by their ids: each is linked to the nearest before it, or after it, of its group, so that a search for
 // an id meets few others.
 #![tactic(auto)]
+
 ghost use Rattle.std.specs.Prelude.{◌≡◌, [], ◌+◌, ◌-◌, ◌<◌, ◌≤◌, length, get_or, set};
 ghost use Rattle.id_links.specs.Links.{group, Linked, Headed, LinkedAfter};
 ghost use Rattle.xliff.specs.Parse.{most_records};

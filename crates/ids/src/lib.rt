@@ -1,8 +1,9 @@
 // Rule 6. An id and its owner are one number: 64 times the id, plus 1 for a part, 2 for the source, 3 for a target; 0
 // is none.
 #![tactic(auto)]
+
 ghost use Rattle.std.specs.Prelude.{◌≡◌, true, false, cond, ◌+◌, ◌-◌, ◌*◌, ◌/◌, ◌%◌, ◌<◌, ◌≤◌, length, eqb};
-ghost use Rattle.answers.specs.Answers.{refusal-at};
+ghost use Rattle.answers.specs.Answers.{refusal_at};
 ghost use Rattle.xliff.specs.Bytes.{any};
 ghost use Rattle.xliff.specs.Parse.{unit, most_records};
 ghost use Rattle.xliff.specs.Rules.{fault_6};
@@ -161,7 +162,7 @@ fn link_if(links: &mut [u16], heads: &mut [u16], n: usize, k: u32) -> usize
 // are of all.
 pub fn rule_6(t: &[u8]) -> Place
     requires { Passes t.now }
-    ensures { refusal-at 6 result ≡ fault_6 (unit t.now).parts }
+    ensures { refusal_at 6 result ≡ fault_6 (unit t.now).parts }
 {
     let mut keys = [0u32; MOST_RECORDS];
     let mut links = [0u16; MOST_RECORDS];

@@ -1,5 +1,6 @@
 // The inline records but text, as they are written. Their fields are read by `table`.
 #![tactic(auto)]
+
 ghost use Rattle.std.specs.Prelude.{[], ◌∷◌, ◌++◌, ◌≤◌, length};
 ghost use Rattle.xliff.specs.Bytes.{two};
 ghost use Rattle.xliff.specs.Encode.{inline, record_bytes, code_bytes};

@@ -1,11 +1,12 @@
 // The job runner: what the desk program prints for a job.
 #![tactic(auto)]
+
 ghost use Rattle.std.specs.Prelude.{◌≡◌, ◌++◌, ◌+◌, ◌<◌, ◌≤◌, length, take, drop};
 ghost use Rattle.xliff.specs.Answer.{refused};
 ghost use Rattle.xliff.specs.Check.{check};
 ghost use Rattle.xliff.specs.Desk.{line, table_line, table_length, answer_requests, desk_job, desk};
 ghost use Rattle.xliff.specs.Parse.{most_bytes};
-ghost use Rattle.answers.specs.Answers.{answer-meaning};
+ghost use Rattle.answers.specs.Answers.{answer_meaning};
 ghost use Rattle.writer.specs.Pieces.{lead};
 ghost use Rattle.requests.specs.Requests.{request_size, call_of};
 ghost use Rattle.job.specs.Job.{FitsIn, kept_table, Performed};
@@ -15,7 +16,7 @@ use limits::MOST_BYTES;
 use requests::{Asked, Request};
 
 // What a request printed, and the length of the table that it left.
-#[derive(Drop)]
+#[derive(Clone, Copy)]
 pub struct Step {
     pub printed: usize,
     pub length: usize,
@@ -101,7 +102,7 @@ fn put_accepted(job: &[u8], n: usize, out: &mut [u8]) -> usize
 
 fn put_answers(job: &[u8], n: usize, a: Answer, out: &mut [u8]) -> usize
     requires { (n ≡ table_length job.now) × (n ≤ length job.now) × (length job.now ≤ 65535) × (length out.old ≡ 1048576)
-        × (answer-meaning a ≡ check (take n job.now)) }
+        × (answer_meaning a ≡ check (take n job.now)) }
     ensures { (result ≡ length (desk_job job.now)) × (out.new ≡ lead (desk_job job.now) out.old) }
 {
     match a {

@@ -1,5 +1,6 @@
 // Where the table of a job ends.
 #![tactic(auto)]
+
 ghost use Rattle.std.specs.Prelude.{◌≡◌, ◌≤◌, length};
 ghost use Rattle.xliff.specs.Desk.{whole_size, is_UE, table_length};
 ghost use Rattle.job_table.specs.Sizes.{whole_of};

@@ -1,12 +1,13 @@
 // Join: document 01, "Join (part, with the next)".
 #![tactic(auto)]
+
 ghost use Rattle.std.specs.Prelude.{◌≡◌, ◌<◌, length};
 ghost use Rattle.std.proofs.Math.Option.{none};
 ghost use Rattle.xliff.specs.Check.{table_refusal, check};
 ghost use Rattle.xliff.specs.Focus.{focus};
 ghost use Rattle.xliff.specs.Parse.{unit};
 ghost use Rattle.xliff.specs.Join.{join};
-ghost use Rattle.answers.specs.Answers.{answer-meaning};
+ghost use Rattle.answers.specs.Answers.{answer_meaning};
 ghost use Rattle.part_at.specs.Stands.{PartFound, CheckedPart};
 ghost use Rattle.outcomes.specs.Outcomes.{Answers};
 ghost use Rattle.join.specs.Pair.{PairAt, Ended, PairAnswers};
@@ -70,7 +71,7 @@ fn join_found(table: &[u8], n: usize, found: FoundPart, out: &mut [u8]) -> Answe
 }
 
 fn join_checked(table: &[u8], a: Answer, n: usize, out: &mut [u8]) -> Answer
-    requires { (answer-meaning a ≡ check table.now) × (n < 65536) }
+    requires { (answer_meaning a ≡ check table.now) × (n < 65536) }
     ensures { Answers (join table.now n (length out.old)) result out.old out.new }
 {
     match a {

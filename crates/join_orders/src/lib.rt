@@ -1,5 +1,6 @@
 // The orders of targets where two parts are joined.
 #![tactic(auto)]
+
 ghost use Rattle.std.specs.Prelude.{◌≡◌, ◌-◌, ◌<◌};
 ghost use Rattle.xliff.specs.Bytes.{among};
 ghost use Rattle.xliff.specs.Unit.{orders};

@@ -1,5 +1,6 @@
 // The table that a join results in.
 #![tactic(auto)]
+
 ghost use Rattle.std.specs.Prelude.{◌≡◌};
 ghost use Rattle.xliff.specs.Join.{lower_above};
 ghost use Rattle.join_result.specs.Result.{order_of_two, RoomJoinedParts, WroteJoinedParts, RoomJoined, WroteJoined};

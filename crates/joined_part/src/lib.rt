@@ -1,5 +1,6 @@
 // Two parts joined.
 #![tactic(auto)]
+
 mod states;
 
 ghost use Rattle.std.specs.Prelude.{◌≡◌};

@@ -4,7 +4,7 @@ ghost use Rattle.xliff.specs.State.{state_letter, state_of, earliest};
 ghost use Rattle.xliff.specs.Join.{join_states};
 ghost use Rattle.joined_part.specs.States.{state};
 
-#[derive(Drop)]
+#[derive(Clone, Copy)]
 pub enum State {
     Initial,
     Translated,

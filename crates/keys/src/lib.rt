@@ -1,5 +1,6 @@
 // A marker as one number: what rule 7 asks of it, so that its loops read no table.
 #![tactic(auto)]
+
 ghost use Rattle.std.specs.Prelude.{◌≡◌, ◌+◌, ◌*◌, ◌/◌, ◌%◌, ◌<◌, ◌≤◌, length, take};
 ghost use Rattle.xliff.specs.Parse.{mark_at, annotation_end_size};
 ghost use Rattle.places.specs.Markers.{item_at};

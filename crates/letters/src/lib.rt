@@ -2,8 +2,9 @@
 // Throughout, `t` is the table, `source_markers` and `target_markers` the offsets of the markers of the source and the
 // target sequence, `source_keys` and `target_keys` their keys.
 #![tactic(auto)]
+
 ghost use Rattle.std.specs.Prelude.{◌≡◌, true, false, [], ◌-◌, ◌<◌, length};
-ghost use Rattle.answers.specs.Answers.{refusal-at, toward};
+ghost use Rattle.answers.specs.Answers.{refusal_at, toward};
 ghost use Rattle.views.specs.Views.{view_of};
 ghost use Rattle.keys.specs.Keys.{keys_at};
 ghost use Rattle.halves.specs.Nearest.{marker_at, earlier};
@@ -75,7 +76,7 @@ fn ill_ended(t: &[u8], markers: &[u16], keys: &[u32], i: usize, x: View) -> bool
 // Quadratic in the markers: each end looks for its start among the keys before it.
 fn eight_in(t: &[u8], source: bool, markers: &[u16], keys: &[u32], start: Place) -> Place
     requires { keys.now ≡ keys_at t.now markers.now }
-    ensures { refusal-at 8 result ≡ toward 8 start (blamed (bad_8 source) [] (placed_at t.now markers.now)) }
+    ensures { refusal_at 8 result ≡ toward 8 start (blamed (bad_8 source) [] (placed_at t.now markers.now)) }
 {
     let mut best = start;
     let mut led = false;
@@ -100,7 +101,7 @@ pub fn rule_8(
     target_keys: &[u32],
 ) -> Place
     requires { Markers t.now source_markers.now source_keys.now target_markers.now target_keys.now }
-    ensures { refusal-at 8 result ≡ fault_8 (unit t.now).parts }
+    ensures { refusal_at 8 result ≡ fault_8 (unit t.now).parts }
 {
     let source = eight_in(t, true, source_markers, source_keys, Place::Nowhere);
     eight_in(t, false, target_markers, target_keys, source)

@@ -1,9 +1,10 @@
 // The lines that the desk program prints.
 #![tactic(auto)]
+
 ghost use Rattle.std.specs.Prelude.{◌≡◌, ◌+◌, ◌*◌, ◌%◌, ◌<◌, ◌≤◌, length};
 ghost use Rattle.xliff.specs.Answer.{accepted, refused};
 ghost use Rattle.xliff.specs.Desk.{decimal, hex_digit, line, table_line};
-ghost use Rattle.answers.specs.Answers.{answer-meaning};
+ghost use Rattle.answers.specs.Answers.{answer_meaning};
 ghost use Rattle.writer.specs.Pieces.{lead};
 ghost use Rattle.lines.specs.Lines.{hex};
 
@@ -58,7 +59,7 @@ fn put_refused(out: &mut [u8], n: usize, at: usize) -> usize
 // The line of an answer, at the head of `out`.
 pub fn put_line(out: &mut [u8], a: Answer) -> usize
     requires { 48 ≤ length out.old }
-    ensures { (result ≡ length (line (answer-meaning a))) × (out.new ≡ lead (line (answer-meaning a)) out.old) × (result ≤ 48) }
+    ensures { (result ≡ length (line (answer_meaning a))) × (out.new ≡ lead (line (answer_meaning a)) out.old) × (result ≤ 48) }
 {
     match a {
         Answer::Accepted(n) => put_accepted(out, n),

@@ -1,6 +1,7 @@
 // The eighteen marks of a table's records, compared as fixed two-byte strings; how many bytes a record of a mark takes;
 // and numbers of two bytes.
 #![tactic(auto)]
+
 ghost use Rattle.std.specs.Prelude.{◌≡◌, ◌+◌, ◌*◌, ◌<◌, ◌≤◌, length};
 ghost use Rattle.xliff.specs.Bytes.{two_at};
 ghost use Rattle.xliff.specs.Parse.{mark_at, size_of};
@@ -27,7 +28,7 @@ pub const ANNOTATION_START_WIDTH: usize = 5;
 
 pub const ANNOTATION_END_WIDTH: usize = 4;
 
-#[derive(Drop)]
+#[derive(Clone, Copy)]
 pub enum Mark {
     UN,
     UE,

@@ -1,5 +1,6 @@
 // Rule 7 for pc and mrk (PO PC MO MC): halves without partner in their content.
 #![tactic(auto)]
+
 ghost use Rattle.std.specs.Prelude.{◌≡◌, true, [], ◌∷◌, reverse, ◌+◌, ◌-◌, ◌<◌, ◌≤◌, length, get_or, take, drop};
 ghost use Rattle.std.proofs.Math.Option.{some};
 ghost use Rattle.xliff.specs.Bytes.{gather};
@@ -7,7 +8,7 @@ ghost use Rattle.xliff.specs.Parse.{unit, most_records};
 ghost use Rattle.xliff.specs.Sequences.{located, placed_contents, blamed, first_of};
 ghost use Rattle.xliff.specs.Rules.{lone_P};
 ghost use Rattle.places.specs.Passes.{Passes};
-ghost use Rattle.answers.specs.Answers.{refusal-at};
+ghost use Rattle.answers.specs.Answers.{refusal_at};
 ghost use Rattle.contents.specs.Contents.{barred, bar_keys, run};
 ghost use Rattle.contents.specs.Nesting.{meet_keys, all_met_keys, lone_p_Key};
 ghost use Rattle.nesting.specs.Scan.{steps_away, index_away, away, is_apart, depth_after_half, is_halfP};
@@ -107,7 +108,7 @@ pub fn is_lone(keys: &[u32], i: usize, stack: &mut [u32]) -> bool
 // markers.
 pub fn first_lone(t: &[u8], markers: &[u16], keys: &[u32]) -> Place
     requires { Passes t.now × (markers.now ≡ barred true t.now) × (keys.now ≡ bar_keys t.now markers.now) × (length markers.now ≤ most_records) }
-    ensures { refusal-at 7 result ≡ first_of 7 (gather (blamed lone_P []) (placed_contents (located (unit t.now).parts))) }
+    ensures { refusal_at 7 result ≡ first_of 7 (gather (blamed lone_P []) (placed_contents (located (unit t.now).parts))) }
 {
     let mut stack: [u32; MOST_RECORDS] = [0; MOST_RECORDS];
     let mut best = Place::Nowhere;

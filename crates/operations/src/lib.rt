@@ -1,5 +1,6 @@
 // The operation that a request asks for.
 #![tactic(auto)]
+
 ghost use Rattle.std.specs.Prelude.{◌+◌, ◌≤◌, length, take, drop};
 ghost use Rattle.xliff.specs.SetTarget.{set_target};
 ghost use Rattle.xliff.specs.Calls.{outcome};

@@ -1,7 +1,8 @@
 // The number of parts, and rule 5.
 #![tactic(auto)]
+
 ghost use Rattle.std.specs.Prelude.{◌≡◌, true, cond, ◌||◌, ◌+◌, ◌-◌, ◌<◌, ◌≤◌, length, get_or, eqb, ltb};
-ghost use Rattle.answers.specs.Answers.{refusal-at};
+ghost use Rattle.answers.specs.Answers.{refusal_at};
 ghost use Rattle.xliff.specs.Parse.{unit, most_parts};
 ghost use Rattle.xliff.specs.Rules.{fault_5};
 ghost use Rattle.places.specs.Passes.{Passes};
@@ -32,7 +33,7 @@ pub fn count_parts(t: &[u8]) -> usize
     n
 }
 
-#[derive(Drop)]
+#[derive(Clone, Copy)]
 pub enum Order {
     Is(u16),
     Not,
@@ -61,7 +62,7 @@ fn bad_order(n: usize, used: &[u8; 65], k: usize) -> bool
 // Rule 5 of a table with `n` parts.
 pub fn rule_5(t: &[u8], n: usize) -> Place
     requires { Passes t.now × (n ≡ length (unit t.now).parts) }
-    ensures { refusal-at 5 result ≡ fault_5 (unit t.now).parts }
+    ensures { refusal_at 5 result ≡ fault_5 (unit t.now).parts }
 {
     let mut used = [0u8; 65];
     let mut at = 0;

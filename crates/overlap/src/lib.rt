@@ -2,8 +2,9 @@
 // Throughout, `t` is the table, `source_markers` and `target_markers` the offsets of the markers of the source and the
 // target sequence, `source_keys` and `target_keys` their keys.
 #![tactic(auto)]
+
 ghost use Rattle.std.specs.Prelude.{◌≡◌, true, [], suc, ◌+◌, ◌-◌, ◌<◌, ◌≤◌, length, drop};
-ghost use Rattle.answers.specs.Answers.{refusal-at, toward};
+ghost use Rattle.answers.specs.Answers.{refusal_at, toward};
 ghost use Rattle.keys.specs.Keys.{keys_at};
 ghost use Rattle.halves.specs.Nearest.{half_before, half_after, marker_at, earlier};
 ghost use Rattle.id_links.specs.Nearest.{next};
@@ -145,7 +146,7 @@ fn overlapping(
 ) -> Place
     requires { (keys.now ≡ keys_at t.now markers.now) × (length markers.now ≤ most_records) × Halves keys.now starts.now ends.now
         × (length starts.now ≡ most_records) × (length ends.now ≡ most_records) }
-    ensures { refusal-at 9 result ≡ toward 9 start (blamed bad_9 [] (placed_at t.now markers.now)) }
+    ensures { refusal_at 9 result ≡ toward 9 start (blamed bad_9 [] (placed_at t.now markers.now)) }
 {
     let mut best = start;
     let mut i = 0;
@@ -187,7 +188,7 @@ fn all_open(t: &[u8], markers: &[u16], keys: &[u32]) -> bool
 // Quadratic in the markers: `overlapping`.
 fn nine_in(t: &[u8], markers: &[u16], keys: &[u32], start: Place) -> Place
     requires { (keys.now ≡ keys_at t.now markers.now) × (length markers.now ≤ most_records) }
-    ensures { refusal-at 9 result ≡ toward 9 start (blamed bad_9 [] (placed_at t.now markers.now)) }
+    ensures { refusal_at 9 result ≡ toward 9 start (blamed bad_9 [] (placed_at t.now markers.now)) }
 {
     if all_open(t, markers, keys) {
         return start;
@@ -198,7 +199,7 @@ fn nine_in(t: &[u8], markers: &[u16], keys: &[u32], start: Place) -> Place
 // The same with the nearest other halves of all markers.
 fn nine_by_halves(t: &[u8], markers: &[u16], keys: &[u32], start: Place) -> Place
     requires { (keys.now ≡ keys_at t.now markers.now) × (length markers.now ≤ most_records) }
-    ensures { refusal-at 9 result ≡ toward 9 start (blamed bad_9 [] (placed_at t.now markers.now)) }
+    ensures { refusal_at 9 result ≡ toward 9 start (blamed bad_9 [] (placed_at t.now markers.now)) }
 {
     let mut starts = [0u16; MOST_RECORDS];
     let mut ends = [0u16; MOST_RECORDS];
@@ -215,7 +216,7 @@ pub fn rule_9(
     target_keys: &[u32],
 ) -> Place
     requires { Markers t.now source_markers.now source_keys.now target_markers.now target_keys.now }
-    ensures { refusal-at 9 result ≡ fault_9 (unit t.now).parts }
+    ensures { refusal_at 9 result ≡ fault_9 (unit t.now).parts }
 {
     nine_in(
         t,

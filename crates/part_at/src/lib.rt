@@ -1,5 +1,6 @@
 // Where the parts of a table stand, and how many records it has.
 #![tactic(auto)]
+
 ghost use Rattle.std.specs.Prelude.{◌≡◌, true, false, ◌+◌, ◌-◌, ◌<◌, drop, length};
 ghost use Rattle.xliff.specs.Parse.{read, is_part, unit};
 ghost use Rattle.xliff.specs.Focus.{focus};
@@ -80,7 +81,7 @@ fn order_of(r: Read) -> Order
 // The offsets of a part: its SG or IG, its source content, its TG and its end. Without a target the TG's is the end,
 // and the order 0.
 // And whether it is a segment, and whether it has a target.
-#[derive(Drop)]
+#[derive(Clone, Copy)]
 pub struct PartPlace {
     pub head: usize,
     pub source: usize,
@@ -142,7 +143,7 @@ pub fn starts_part(t: &[u8], at: usize) -> bool
     syntax::is_part(walker::known_at(t, at))
 }
 
-#[derive(Drop)]
+#[derive(Clone, Copy)]
 pub enum FoundPart {
     At(PartPlace),
     Missing,

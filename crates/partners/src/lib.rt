@@ -2,6 +2,7 @@
 // Throughout, `t` is the table, `source_markers` and `target_markers` the offsets of the markers of the source and the
 // target sequence, `source_keys` and `target_keys` their keys.
 #![tactic(auto)]
+
 ghost use Rattle.std.specs.Prelude.{◌≡◌, true, false, [], reverse, ◌+◌, ◌<◌, ◌≤◌, length, take, drop, get_or};
 ghost use Rattle.xliff.specs.Bytes.{any, gather};
 ghost use Rattle.xliff.specs.Parse.{unit, most_bytes, most_records};
@@ -9,7 +10,7 @@ ghost use Rattle.xliff.specs.Sequences.{blamed, first_of, placed_contents, locat
 ghost use Rattle.xliff.specs.Rules.{lone_P, fault_7};
 ghost use Rattle.places.specs.Passes.{Passes};
 ghost use Rattle.sequences.specs.Markers.{Markers};
-ghost use Rattle.answers.specs.Answers.{refusal-at, toward};
+ghost use Rattle.answers.specs.Answers.{refusal_at, toward};
 ghost use Rattle.contents.specs.Contents.{targeted, barred, bar_keys};
 ghost use Rattle.partners.specs.Partners.{partner_s_Key, lone_s_Key, is_half_of_id, only_half, some_key, waits_key, waits_for_key, lone_among_keys, blamed_keys};
 
@@ -105,7 +106,7 @@ fn is_targeted(keys: &[u32]) -> bool
 // the others.
 fn lone_in_source(markers: &[u16], keys: &[u32], start: Place) -> Place
     requires { length keys.now ≡ length markers.now }
-    ensures { refusal-at 7 result ≡ toward 7 start (blamed_keys lone_s_Key [] markers.now keys.now) }
+    ensures { refusal_at 7 result ≡ toward 7 start (blamed_keys lone_s_Key [] markers.now keys.now) }
 {
     let mut best = start;
     let mut i = 0;
@@ -167,7 +168,7 @@ fn stays_lone(keys: &[u32], i: usize, bars: &[u32], stack: &mut [u32]) -> bool
 // source key is looked at closer twice.
 fn lone_in_target(markers: &[u16], keys: &[u32], bars: &[u32], start: Place) -> Place
     requires { (length keys.now ≡ length markers.now) × (length bars.now ≤ most_records) }
-    ensures { refusal-at 7 result ≡ toward 7 start (blamed_keys (lone_among_keys bars.now) [] markers.now keys.now) }
+    ensures { refusal_at 7 result ≡ toward 7 start (blamed_keys (lone_among_keys bars.now) [] markers.now keys.now) }
 {
     let mut stack = [0u32; MOST_RECORDS];
     let mut best = start;
@@ -187,7 +188,7 @@ fn lone_in_target(markers: &[u16], keys: &[u32], bars: &[u32], start: Place) -> 
 // is.
 fn lone_in_contents(t: &[u8]) -> Place
     requires { Passes t.now × (length t.now ≤ most_bytes) }
-    ensures { refusal-at 7 result ≡ first_of 7 (gather (blamed lone_P []) (placed_contents (located (unit t.now).parts))) }
+    ensures { refusal_at 7 result ≡ first_of 7 (gather (blamed lone_P []) (placed_contents (located (unit t.now).parts))) }
 {
     let mut markers = [0u16; MOST_RECORDS];
     let mut bars = [0u32; MOST_RECORDS];
@@ -213,7 +214,7 @@ fn any_lone(keys: &[u32]) -> bool
 // The halves at fault in the target sequence, with the keys of the source contents. Quadratic, as `lone_in_target` is.
 fn lone_by_source(t: &[u8], markers: &[u16], keys: &[u32], start: Place) -> Place
     requires { Passes t.now × (length t.now ≤ most_bytes) × (length keys.now ≡ length markers.now) }
-    ensures { refusal-at 7 result ≡ toward 7 start (blamed_keys (lone_among_keys (bar_keys t.now (barred false t.now))) [] markers.now keys.now) }
+    ensures { refusal_at 7 result ≡ toward 7 start (blamed_keys (lone_among_keys (bar_keys t.now (barred false t.now))) [] markers.now keys.now) }
 {
     let mut at = [0u16; MOST_RECORDS];
     let mut bars = [0u32; MOST_RECORDS];
@@ -225,7 +226,7 @@ fn lone_by_source(t: &[u8], markers: &[u16], keys: &[u32], start: Place) -> Plac
 // The halves at fault in the target sequence. The source contents are read only where some half is lone.
 fn lone_in_targets(t: &[u8], markers: &[u16], keys: &[u32], start: Place) -> Place
     requires { Passes t.now × (length t.now ≤ most_bytes) × (length keys.now ≡ length markers.now) }
-    ensures { refusal-at 7 result ≡ toward 7 start (blamed_keys (lone_among_keys (bar_keys t.now (barred false t.now))) [] markers.now keys.now) }
+    ensures { refusal_at 7 result ≡ toward 7 start (blamed_keys (lone_among_keys (bar_keys t.now (barred false t.now))) [] markers.now keys.now) }
 {
     if any_lone(keys) {
         return lone_by_source(t, markers, keys, start);
@@ -242,7 +243,7 @@ pub fn rule_7(
     target_keys: &[u32],
 ) -> Place
     requires { Markers t.now source_markers.now source_keys.now target_markers.now target_keys.now }
-    ensures { refusal-at 7 result ≡ fault_7 (unit t.now).parts }
+    ensures { refusal_at 7 result ≡ fault_7 (unit t.now).parts }
 {
     lone_in_targets(
         t,

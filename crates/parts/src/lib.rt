@@ -1,5 +1,6 @@
 // Whole parts copied, with the orders of their targets changed.
 #![tactic(auto)]
+
 ghost use Rattle.std.specs.Prelude.{◌≡◌, ◌<◌, ◌≤◌, length};
 ghost use Rattle.parts.specs.Parts.{SomeParts, WroteParts, moved, One, WroteOne};
 

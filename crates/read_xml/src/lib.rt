@@ -1,5 +1,6 @@
 // A unit read from XML: order 1.
 #![tactic(auto)]
+
 ghost use Rattle.std.specs.Prelude.{length};
 ghost use Rattle.xml.specs.Xml.{read_xml};
 ghost use Rattle.outcomes.specs.Outcomes.{Answers};

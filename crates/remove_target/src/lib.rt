@@ -1,12 +1,13 @@
 // Remove target: document 01, "Remove target (part)".
 #![tactic(auto)]
+
 ghost use Rattle.std.specs.Prelude.{◌≡◌, length};
 ghost use Rattle.std.proofs.Math.Option.{none};
 ghost use Rattle.xliff.specs.Check.{table_refusal, check};
 ghost use Rattle.xliff.specs.Focus.{focus};
 ghost use Rattle.xliff.specs.Parse.{unit};
 ghost use Rattle.xliff.specs.RemoveTarget.{remove_target};
-ghost use Rattle.answers.specs.Answers.{answer-meaning};
+ghost use Rattle.answers.specs.Answers.{answer_meaning};
 ghost use Rattle.part_at.specs.Stands.{PartFound, Checked, CheckedPart};
 ghost use Rattle.outcomes.specs.Outcomes.{Answers};
 ghost use Rattle.remove_target.specs.Ending.{Ended};
@@ -54,7 +55,7 @@ fn remove_found(table: &[u8], n: usize, found: FoundPart, out: &mut [u8]) -> Ans
 }
 
 fn remove_checked(table: &[u8], a: Answer, n: usize, out: &mut [u8]) -> Answer
-    requires { answer-meaning a ≡ check table.now }
+    requires { answer_meaning a ≡ check table.now }
     ensures { Answers (remove_target table.now n (length out.old)) result out.old out.new }
 {
     match a {

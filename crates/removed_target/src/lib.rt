@@ -1,5 +1,6 @@
 // The table that a removal of a target results in.
 #![tactic(auto)]
+
 ghost use Rattle.std.specs.Prelude.{◌≤◌, length};
 ghost use Rattle.part_at.specs.Stands.{Standing};
 ghost use Rattle.removed_target.specs.Removed.{WroteToSource, WroteRemoved};

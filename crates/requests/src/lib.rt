@@ -1,5 +1,6 @@
 // The requests of a job.
 #![tactic(auto)]
+
 ghost use Rattle.std.specs.Prelude.{◌≡◌, cond, ◌+◌, ◌<◌, get_or, take, drop};
 ghost use Rattle.std.proofs.Math.Option.{none};
 ghost use Rattle.xliff.specs.Bytes.{two_at, enough};
@@ -9,7 +10,7 @@ ghost use Rattle.requests.specs.Requests.{request_size, Asks};
 
 // The numbers and letters of a request. Set target has the length of its content, which stands behind its first seven
 // bytes.
-#[derive(Drop)]
+#[derive(Clone, Copy)]
 pub enum Request {
     Split(u16, u16, u16, u16),
     Join(u16),
@@ -19,7 +20,7 @@ pub enum Request {
 }
 
 // A mark that is unknown, or a request that is cut short, is unreadable.
-#[derive(Drop)]
+#[derive(Clone, Copy)]
 pub enum Asked {
     Readable(Request),
     Unreadable,

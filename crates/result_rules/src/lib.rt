@@ -1,5 +1,6 @@
 // The rules on markers that the result of an operation may break.
 #![tactic(auto)]
+
 ghost use Rattle.std.specs.Prelude.{◌≡◌, cond, ◌≤◌, length};
 ghost use Rattle.std.proofs.Math.Option.{none};
 ghost use Rattle.xliff.specs.Answer.{◌then◌, is_fault, of_result};

@@ -1,9 +1,10 @@
 // The review sheet of a table: order 5.
 #![tactic(auto)]
+
 ghost use Rattle.std.specs.Prelude.{◌≡◌, length};
 ghost use Rattle.std.proofs.Math.Option.{none};
 ghost use Rattle.xliff.specs.Check.{table_refusal, check};
-ghost use Rattle.answers.specs.Answers.{answer-meaning};
+ghost use Rattle.answers.specs.Answers.{answer_meaning};
 ghost use Rattle.outcomes.specs.Outcomes.{Answers};
 ghost use Rattle.sheet.specs.Sheet.{sheet};
 
@@ -23,7 +24,7 @@ fn sheet_passed(table: &[u8], out: &mut [u8]) -> Answer
 }
 
 fn sheet_checked(table: &[u8], a: Answer, out: &mut [u8]) -> Answer
-    requires { answer-meaning a ≡ check table.now }
+    requires { answer_meaning a ≡ check table.now }
     ensures { Answers (sheet table.now (length out.old)) result out.old out.exit.now }
 {
     match a {

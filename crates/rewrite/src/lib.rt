@@ -1,10 +1,11 @@
 // Rewrite: document 01, "Rewrite (side S or T, id, form P for pc or mrk, form S for start and end)".
 #![tactic(auto)]
+
 ghost use Rattle.std.specs.Prelude.{◌≡◌, length};
 ghost use Rattle.std.proofs.Math.Option.{none};
 ghost use Rattle.xliff.specs.Check.{table_refusal, check};
 ghost use Rattle.xliff.specs.Rewrite.{rewrite};
-ghost use Rattle.answers.specs.Answers.{answer-meaning};
+ghost use Rattle.answers.specs.Answers.{answer_meaning};
 ghost use Rattle.outcomes.specs.Outcomes.{Answers};
 ghost use Rattle.rewrite.specs.Paired.{Searched, Paired, already_in};
 
@@ -79,7 +80,7 @@ fn rewrite_valid(table: &[u8], side: u8, id: u16, form: u8, out: &mut [u8]) -> A
 }
 
 fn rewrite_checked(table: &[u8], a: Answer, side: u8, id: u16, form: u8, out: &mut [u8]) -> Answer
-    requires { answer-meaning a ≡ check table.now }
+    requires { answer_meaning a ≡ check table.now }
     ensures { Answers (rewrite table.now side id form (length out.old)) result out.old out.new }
 {
     match a {

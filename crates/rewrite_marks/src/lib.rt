@@ -1,5 +1,6 @@
 // Rewrite, the bytes: the table copied, and the marks of the halves of one id on one side written anew.
 #![tactic(auto)]
+
 ghost use Rattle.std.specs.Prelude.{◌≡◌, ◌++◌, ◌+◌, ◌<◌, ◌≤◌, length, drop};
 ghost use Rattle.xliff.specs.Encode.{encode};
 ghost use Rattle.xliff.specs.Parse.{unit};

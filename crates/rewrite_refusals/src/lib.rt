@@ -1,5 +1,6 @@
 // Rewrite, 21: "to P: not in one content, not balanced between, or the end's canReorder is not the PC letter".
 #![tactic(auto)]
+
 ghost use Rattle.std.specs.Prelude.{◌≡◌};
 ghost use Rattle.xliff.specs.Parse.{unit};
 ghost use Rattle.xliff.specs.Rewrite.{form_of};

@@ -1,5 +1,6 @@
 // The offsets of the markers of the two sequences, and their keys.
 #![tactic(auto)]
+
 ghost use Rattle.std.specs.Prelude.{◌≡◌, true, false, cond, [], ◌∷◌, ◌+◌, ◌-◌, ◌<◌, ◌≤◌, length, take};
 ghost use Rattle.xliff.specs.Parse.{unit, most_bytes, most_parts, most_records};
 ghost use Rattle.places.specs.Passes.{Passes};
@@ -156,7 +157,7 @@ pub fn targets(t: &[u8], parts: u16, out: &mut [u16]) -> usize
 }
 
 // How many markers there are in the source and in the target sequence.
-#[derive(Drop)]
+#[derive(Clone, Copy)]
 pub struct Counts {
     pub source: usize,
     pub target: usize,

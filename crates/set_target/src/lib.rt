@@ -1,5 +1,6 @@
 // Set target: document 01, "Set target (part, state, content)".
 #![tactic(auto)]
+
 ghost use Rattle.std.specs.Prelude.{◌≡◌, ◌≤◌, length};
 ghost use Rattle.std.proofs.Math.Option.{none};
 ghost use Rattle.xliff.specs.Answer.{unless, answer};
@@ -7,7 +8,7 @@ ghost use Rattle.xliff.specs.Parse.{unit, content_fault, most_bytes};
 ghost use Rattle.xliff.specs.Check.{table_refusal, check};
 ghost use Rattle.xliff.specs.Focus.{focus};
 ghost use Rattle.xliff.specs.SetTarget.{set_target};
-ghost use Rattle.answers.specs.Answers.{answer-meaning};
+ghost use Rattle.answers.specs.Answers.{answer_meaning};
 ghost use Rattle.outcomes.specs.Outcomes.{Answers};
 ghost use Rattle.part_at.specs.Stands.{PartFound, CheckedPart};
 ghost use Rattle.set_target.specs.Ending.{SetAt, Ended};
@@ -98,7 +99,7 @@ fn set_judged(
     a: Answer,
     out: &mut [u8],
 ) -> Answer
-    requires { Fitting table.now n place state × (answer-meaning a ≡ answer (unless (content_fault content.now) content.now)) }
+    requires { Fitting table.now n place state × (answer_meaning a ≡ answer (unless (content_fault content.now) content.now)) }
     ensures { Answers (set_target table.now n state content.now (length out.old)) result out.old out.new }
 {
     match a {
@@ -160,7 +161,7 @@ fn set_found(
 }
 
 fn set_checked(table: &[u8], a: Answer, n: u16, state: u8, content: &[u8], out: &mut [u8]) -> Answer
-    requires { answer-meaning a ≡ check table.now }
+    requires { answer_meaning a ≡ check table.now }
     ensures { Answers (set_target table.now n state content.now (length out.old)) result out.old out.new }
 {
     match a {

@@ -1,5 +1,6 @@
 // A row of a column of the review sheet.
 #![tactic(auto)]
+
 ghost use Rattle.std.specs.Prelude.{◌≡◌, false, ◌+◌, ◌<◌, ◌≤◌, length};
 ghost use Rattle.sheet_columns.specs.Filled.{SomeAhead, Going, goes_on, Filled, ItemNext, RecordNext, entered, PutItems, PutRow};
 
@@ -8,7 +9,7 @@ use table::{Item, Read, Record};
 
 // Where a column goes on: the offset of the next item in its content, and the bytes left of the text that it stands
 // in, 0 where a record begins.
-#[derive(Drop)]
+#[derive(Clone, Copy)]
 pub struct Cursor {
     pub at: usize,
     pub left: usize,
@@ -16,7 +17,7 @@ pub struct Cursor {
 
 // A row that is being filled: where the content goes on, as in a cursor, the cells that are left, whether the next item
 // does not fit, and the text written.
-#[derive(Drop)]
+#[derive(Clone, Copy)]
 struct Filling {
     at: usize,
     left: usize,
@@ -26,7 +27,7 @@ struct Filling {
 }
 
 // A row that was written, and where the column goes on.
-#[derive(Drop)]
+#[derive(Clone, Copy)]
 pub struct Row {
     pub next: Cursor,
     pub draft: Draft,

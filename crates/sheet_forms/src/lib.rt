@@ -1,5 +1,6 @@
 // What stands in a row of the review sheet: the shown forms of inline records, texts, numbers, blanks.
 #![tactic(auto)]
+
 ghost use Rattle.std.specs.Prelude.{◌≡◌, ◌∷◌, ◌++◌, map, ◌-◌, ◌≤◌, length, replicate};
 ghost use Rattle.xliff.specs.Desk.{decimal, blank};
 ghost use Rattle.writer.specs.Pieces.{Written};

@@ -1,5 +1,6 @@
 // The rows of the review sheet, part by part.
 #![tactic(auto)]
+
 ghost use Rattle.std.specs.Prelude.{◌≡◌, ◌≤◌, length};
 ghost use Rattle.xliff.specs.Desk.{decimal};
 ghost use Rattle.xliff.specs.Parse.{unit};
@@ -17,7 +18,7 @@ use sheet_columns::Cursor;
 use table::{Read, Record};
 
 // The two columns of a part side by side: where each goes on behind a row, and the text written.
-#[derive(Drop)]
+#[derive(Clone, Copy)]
 struct Columns {
     source: Cursor,
     target: Cursor,

@@ -3,8 +3,9 @@
 // target sequence, `source_keys` and `target_keys` their keys. `links` and `heads` link keys by the groups of their ids
 // (`id_links`).
 #![tactic(auto)]
+
 ghost use Rattle.std.specs.Prelude.{◌≡◌, []};
-ghost use Rattle.answers.specs.Answers.{refusal-at, toward};
+ghost use Rattle.answers.specs.Answers.{refusal_at, toward};
 ghost use Rattle.views.specs.Views.{items_of_markers};
 ghost use Rattle.keys.specs.Keys.{key, keys_at};
 ghost use Rattle.source_match.specs.Ten.{test_of, matches_of, matches_by, matches_in, joined, bad_ten_source, copies_none, bad_ten_target, LinkedItems};
@@ -37,7 +38,7 @@ fn passes(kind: u8, x: View, y: View) -> bool
 }
 
 // Which of the four tests some item passes.
-#[derive(Drop)]
+#[derive(Clone, Copy)]
 pub struct Matches {
     pub starts: bool,
     pub differs: bool,
@@ -150,7 +151,7 @@ fn bad_in_target(
 // Rule 10 over the markers of the source sequence.
 fn ten_source(t: &[u8], markers: &[u16], keys: &[u32]) -> Place
     requires { keys.now ≡ keys_at t.now markers.now }
-    ensures { refusal-at 10 result ≡ first_of 10 (blamed bad_10_source [] (placed_at t.now markers.now)) }
+    ensures { refusal_at 10 result ≡ first_of 10 (blamed bad_10_source [] (placed_at t.now markers.now)) }
 {
     let mut best = Place::Nowhere;
     let mut i = 0;
@@ -176,7 +177,7 @@ fn ten_target(
     start: Place,
 ) -> Place
     requires { LinkedItems t.now source_markers.now source_keys.now links.now heads.now × (keys.now ≡ keys_at t.now markers.now) }
-    ensures { refusal-at 10 result ≡ toward 10 start (blamed (bad_10_target (items_of_markers t.now source_markers.now)) [] (placed_at t.now markers.now)) }
+    ensures { refusal_at 10 result ≡ toward 10 start (blamed (bad_10_target (items_of_markers t.now source_markers.now)) [] (placed_at t.now markers.now)) }
 {
     let mut best = start;
     let mut i = 0;
@@ -208,7 +209,7 @@ pub fn rule_10(
     target_keys: &[u32],
 ) -> Place
     requires { Markers t.now source_markers.now source_keys.now target_markers.now target_keys.now }
-    ensures { refusal-at 10 result ≡ fault_10 (unit t.now).parts }
+    ensures { refusal_at 10 result ≡ fault_10 (unit t.now).parts }
 {
     let mut links = [0u16; MOST_RECORDS];
     let mut heads = [0u16; 256];

@@ -1,5 +1,6 @@
 // The table that a split results in.
 #![tactic(auto)]
+
 ghost use Rattle.std.specs.Prelude.{◌≡◌};
 ghost use Rattle.split_result.specs.Result.{rises_above, RoomSplitPart, WroteSplitPart, RoomSplitParts, WroteSplitParts, RoomSplit, WroteSplit};
 

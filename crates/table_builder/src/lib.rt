@@ -1,6 +1,7 @@
 // A table built in a lent array of the greatest length that a table has: record by record and, within a text, code point
 // by code point. Beyond a limit of a table nothing more is written, and that is told.
 #![tactic(auto)]
+
 ghost use Rattle.std.specs.Prelude.{◌≡◌, true, false, ◌≤◌};
 ghost use Rattle.table_builder.specs.Building.{HoldsNothing, Building, RecordPut, CodePointPut};
 
@@ -8,7 +9,7 @@ use limits::{MOST_BYTES, MOST_PARTS, MOST_RECORDS};
 
 // How many bytes, records and parts the table has so far, how many bytes the text has that stands last (0: none does),
 // and whether a limit is passed.
-#[derive(Drop)]
+#[derive(Clone, Copy)]
 pub struct Built {
     pub used: usize,
     pub records: usize,

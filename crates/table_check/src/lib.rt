@@ -2,13 +2,14 @@
 // Throughout, `t` is the table, `source_markers` and `target_markers` the offsets of the markers of the source and the
 // target sequence, `source_keys` and `target_keys` their keys.
 #![tactic(auto)]
+
 ghost use Rattle.std.specs.Prelude.{◌≡◌, ◌≤◌, length, ltb};
 ghost use Rattle.xliff.specs.Answer.{applies, ◌then◌, unless, answer};
 ghost use Rattle.xliff.specs.Parse.{most_bytes, table_fault, unit};
 ghost use Rattle.xliff.specs.Rules.{fault_5, fault_6, fault_7, fault_8, fault_9, fault_10, fault_6_to_10};
 ghost use Rattle.xliff.specs.Check.{check};
 ghost use Rattle.places.specs.Passes.{Passes};
-ghost use Rattle.answers.specs.Answers.{answer-meaning, refusal-at};
+ghost use Rattle.answers.specs.Answers.{answer_meaning, refusal_at};
 ghost use Rattle.sequences.specs.Markers.{Markers};
 
 use answers::{Answer, Place};
@@ -24,8 +25,8 @@ fn from_9(
     nine: Place,
 ) -> Answer
     requires { Markers t.now source_markers.now source_keys.now target_markers.now target_keys.now × (len ≡ length t.now)
-        × (refusal-at 9 nine ≡ fault_9 (unit t.now).parts) }
-    ensures { answer-meaning result ≡ answer (unless (fault_9 (unit t.now).parts then fault_10 (unit t.now).parts) t.now) }
+        × (refusal_at 9 nine ≡ fault_9 (unit t.now).parts) }
+    ensures { answer_meaning result ≡ answer (unless (fault_9 (unit t.now).parts then fault_10 (unit t.now).parts) t.now) }
 {
     match nine {
         Place::At(at) => Answer::Refused(9, at),
@@ -47,8 +48,8 @@ fn from_8(
     eight: Place,
 ) -> Answer
     requires { Markers t.now source_markers.now source_keys.now target_markers.now target_keys.now × (len ≡ length t.now)
-        × (refusal-at 8 eight ≡ fault_8 (unit t.now).parts) }
-    ensures { answer-meaning result ≡ answer (unless (fault_8 (unit t.now).parts
+        × (refusal_at 8 eight ≡ fault_8 (unit t.now).parts) }
+    ensures { answer_meaning result ≡ answer (unless (fault_8 (unit t.now).parts
         then fault_9 (unit t.now).parts then fault_10 (unit t.now).parts) t.now) }
 {
     match eight {
@@ -75,8 +76,8 @@ fn from_7(
     seven: Place,
 ) -> Answer
     requires { Markers t.now source_markers.now source_keys.now target_markers.now target_keys.now × (len ≡ length t.now)
-        × (refusal-at 7 seven ≡ fault_7 (unit t.now).parts) }
-    ensures { answer-meaning result ≡ answer (unless (fault_7 (unit t.now).parts then fault_8 (unit t.now).parts
+        × (refusal_at 7 seven ≡ fault_7 (unit t.now).parts) }
+    ensures { answer_meaning result ≡ answer (unless (fault_7 (unit t.now).parts then fault_8 (unit t.now).parts
         then fault_9 (unit t.now).parts then fault_10 (unit t.now).parts) t.now) }
 {
     match seven {
@@ -102,7 +103,7 @@ fn by_markers(
     target_keys: &[u32],
 ) -> Answer
     requires { Markers t.now source_markers.now source_keys.now target_markers.now target_keys.now × (len ≡ length t.now) }
-    ensures { answer-meaning result ≡ answer (unless (fault_7 (unit t.now).parts then fault_8 (unit t.now).parts
+    ensures { answer_meaning result ≡ answer (unless (fault_7 (unit t.now).parts then fault_8 (unit t.now).parts
         then fault_9 (unit t.now).parts then fault_10 (unit t.now).parts) t.now) }
 {
     from_7(
@@ -119,7 +120,7 @@ fn by_markers(
 // Rules 7 to 10, with the markers of both sequences.
 fn by_sequences(t: &[u8], parts: usize, len: usize) -> Answer
     requires { Passes t.now × (length t.now ≤ most_bytes) × (parts ≡ length (unit t.now).parts) × (len ≡ length t.now) }
-    ensures { answer-meaning result ≡ answer (unless (fault_7 (unit t.now).parts then fault_8 (unit t.now).parts
+    ensures { answer_meaning result ≡ answer (unless (fault_7 (unit t.now).parts then fault_8 (unit t.now).parts
         then fault_9 (unit t.now).parts then fault_10 (unit t.now).parts) t.now) }
 {
     let mut source_markers = [0u16; MOST_RECORDS];
@@ -148,8 +149,8 @@ fn by_sequences(t: &[u8], parts: usize, len: usize) -> Answer
 
 fn from_6(t: &[u8], parts: usize, len: usize, six: Place) -> Answer
     requires { Passes t.now × (length t.now ≤ most_bytes) × (parts ≡ length (unit t.now).parts) × (len ≡ length t.now)
-        × (refusal-at 6 six ≡ fault_6 (unit t.now).parts) }
-    ensures { answer-meaning result ≡ answer (unless (fault_6_to_10 (unit t.now).parts) t.now) }
+        × (refusal_at 6 six ≡ fault_6 (unit t.now).parts) }
+    ensures { answer_meaning result ≡ answer (unless (fault_6_to_10 (unit t.now).parts) t.now) }
 {
     match six {
         Place::At(at) => Answer::Refused(6, at),
@@ -160,15 +161,15 @@ fn from_6(t: &[u8], parts: usize, len: usize, six: Place) -> Answer
 // Rules 6 to 10 alone, on a table that passes 1 to 4. Accepted: with its length.
 pub fn rules_6_to_10(t: &[u8]) -> Answer
     requires { Passes t.now × (length t.now ≤ most_bytes) }
-    ensures { answer-meaning result ≡ answer (unless (fault_6_to_10 (unit t.now).parts) t.now) }
+    ensures { answer_meaning result ≡ answer (unless (fault_6_to_10 (unit t.now).parts) t.now) }
 {
     from_6(t, orders::count_parts(t), t.len(), ids::rule_6(t))
 }
 
 fn from_5(t: &[u8], parts: usize, len: usize, five: Place) -> Answer
     requires { Passes t.now × (length t.now ≤ most_bytes) × (parts ≡ length (unit t.now).parts) × (len ≡ length t.now)
-        × (refusal-at 5 five ≡ fault_5 (unit t.now).parts) }
-    ensures { answer-meaning result ≡ answer (unless (fault_5 (unit t.now).parts then fault_6_to_10 (unit t.now).parts) t.now) }
+        × (refusal_at 5 five ≡ fault_5 (unit t.now).parts) }
+    ensures { answer_meaning result ≡ answer (unless (fault_5 (unit t.now).parts then fault_6_to_10 (unit t.now).parts) t.now) }
 {
     match five {
         Place::At(at) => Answer::Refused(5, at),
@@ -178,15 +179,15 @@ fn from_5(t: &[u8], parts: usize, len: usize, five: Place) -> Answer
 
 fn by_rules(t: &[u8], len: usize) -> Answer
     requires { Passes t.now × (length t.now ≤ most_bytes) × (len ≡ length t.now) }
-    ensures { answer-meaning result ≡ answer (unless (fault_5 (unit t.now).parts then fault_6_to_10 (unit t.now).parts) t.now) }
+    ensures { answer_meaning result ≡ answer (unless (fault_5 (unit t.now).parts then fault_6_to_10 (unit t.now).parts) t.now) }
 {
     let parts = orders::count_parts(t);
     from_5(t, parts, len, orders::rule_5(t, parts))
 }
 
 fn after_syntax(t: &[u8], a: Answer) -> Answer
-    requires { answer-meaning a ≡ answer (unless (applies 1 (ltb most_bytes (length t.now)) then table_fault t.now) t.now) }
-    ensures { answer-meaning result ≡ check t.now }
+    requires { answer_meaning a ≡ answer (unless (applies 1 (ltb most_bytes (length t.now)) then table_fault t.now) t.now) }
+    ensures { answer_meaning result ≡ check t.now }
 {
     match a {
         Answer::Accepted(len) => by_rules(t, len),
@@ -196,7 +197,7 @@ fn after_syntax(t: &[u8], a: Answer) -> Answer
 
 // Document 01, "Check". Any bytes of any length get an answer. Quadratic in the markers at most (rules 6 to 10).
 pub fn check(table: &[u8]) -> Answer
-    ensures { answer-meaning result ≡ check table.now }
+    ensures { answer_meaning result ≡ check table.now }
 {
     after_syntax(table, syntax::syntax(table))
 }

@@ -1,5 +1,6 @@
 // The order of a target that is set.
 #![tactic(auto)]
+
 ghost use Rattle.std.specs.Prelude.{◌≡◌, ◌≤◌};
 ghost use Rattle.xliff.specs.Unit.{orders};
 ghost use Rattle.xliff.specs.Parse.{unit, most_parts};

@@ -1,5 +1,6 @@
 // UTF-8, and the characters that XML 1.0 allows.
 #![tactic(auto)]
+
 pub mod points;
 
 ghost use Rattle.std.specs.Prelude.{◌≡◌, true, false, ◌+◌, ◌-◌, ◌*◌, ◌<◌, ◌≤◌, length, drop};
@@ -17,7 +18,7 @@ pub fn xml_char(c: u32) -> bool
 }
 
 // A code point, the bytes that it takes, and whether it is an accent, U+0300 to U+036F.
-#[derive(Drop)]
+#[derive(Clone, Copy)]
 pub enum Char {
     Point(u32, usize, bool),
     Bad,
@@ -178,7 +179,7 @@ fn opens_block(b: u8, c: u8) -> bool
 }
 
 // How far characters that XML allows were passed; or not one of them.
-#[derive(Drop)]
+#[derive(Clone, Copy)]
 pub enum Passed {
     To(usize),
     Not,

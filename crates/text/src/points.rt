@@ -26,7 +26,7 @@ fn leads_in(t: &[u8], at: usize) -> usize
 }
 
 // Bytes passed over, and code points still to pass over.
-#[derive(Drop)]
+#[derive(Clone, Copy)]
 pub struct Points {
     pub bytes: usize,
     pub left: usize,

@@ -1,5 +1,6 @@
 // The UTF-8 of a code point.
 #![tactic(auto)]
+
 ghost use Rattle.std.specs.Prelude.{◌≡◌, ◌+◌, ◌<◌, ◌≤◌, length};
 ghost use Rattle.xliff.specs.Text.{utf8, utf8_2, utf8_3, utf8_4};
 ghost use Rattle.writer.specs.Pieces.{overlay};

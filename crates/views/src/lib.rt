@@ -1,12 +1,13 @@
 // Items as numbers: what the tests of 7 to 10 ask of an item.
 #![tactic(auto)]
+
 ghost use Rattle.std.specs.Prelude.{◌≡◌, true, false};
 ghost use Rattle.places.specs.Markers.{item_at};
 ghost use Rattle.views.specs.Views.{nothing, code_view, annotation_view, half_number, isolated_class, form_flag, item_view, record_view, view_of_read, view_of, is_code};
 
 use table::{Fields, Form, Half, Item, Read, Record};
 
-#[derive(Drop)]
+#[derive(Clone, Copy)]
 pub struct View {
     pub class: u8,
     pub half: u8,

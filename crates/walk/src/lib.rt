@@ -1,5 +1,6 @@
 // A walk over a content that is known to be good.
 #![tactic(auto)]
+
 ghost use Rattle.std.specs.Prelude.{◌≡◌, true, false, ◌&&◌, ◌+◌, ◌-◌, ◌<◌, ◌≤◌, length, drop, eqb};
 ghost use Rattle.walk.specs.Kept.{Fair};
 ghost use Rattle.marks.specs.Marks.{meaning};
@@ -10,7 +11,7 @@ use marks::Mark;
 use text::points::Points;
 
 // Where an item begins: its record's offset, the bytes before it in that record's text, the items that are missing.
-#[derive(Drop)]
+#[derive(Clone, Copy)]
 pub struct Place {
     pub at: usize,
     pub into: usize,
@@ -61,7 +62,7 @@ pub fn has_other(c: &[u8], kind: u8, id: u16) -> bool
 }
 
 // The item stands in the record met, behind so many bytes of its text; or the items left.
-#[derive(Drop)]
+#[derive(Clone, Copy)]
 enum Pass {
     Stop(usize),
     On(usize),

@@ -2,6 +2,7 @@
 // functions over it. The borrow checker covers no function over such a struct, so each is proved by hand, and leaves
 // the work to one on a slice and an offset.
 #![tactic(auto)]
+
 ghost use Rattle.std.specs.Prelude.{◌≡◌, drop};
 ghost use Rattle.table.specs.Known.{Known};
 ghost use Rattle.glance.specs.Glances.{Glanced};
@@ -12,7 +13,7 @@ use marks::Mark;
 use table::Read;
 
 // Over the lent table: the slice, and the offset of the next record.
-#[derive(Drop)]
+#[derive(Clone, Copy)]
 pub struct Walker<'a> {
     pub table: &'a [u8],
     pub next: usize,

@@ -1,5 +1,6 @@
 // The complete pair or annotation of an id on one side of a unit.
 #![tactic(auto)]
+
 ghost use Rattle.std.specs.Prelude.{◌≡◌, not, ◌<◌, ◌≤◌, length, eqb};
 ghost use Rattle.xliff.specs.Unit.{source_sequence, target_sequence};
 ghost use Rattle.xliff.specs.Parse.{unit, most_bytes, most_parts};
@@ -14,7 +15,7 @@ ghost use Rattle.whole_pair.specs.Pairs.{pair_of, starts_at};
 use limits::MOST_RECORDS;
 
 // Whether its start has the mark of pc or mrk; whether its end's canReorder is not the PC letter.
-#[derive(Drop)]
+#[derive(Clone, Copy)]
 pub enum FoundPair {
     Complete(bool, bool),
     Missing,

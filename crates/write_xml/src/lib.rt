@@ -1,9 +1,10 @@
 // A unit written as XML: order 1.
 #![tactic(auto)]
+
 ghost use Rattle.std.specs.Prelude.{◌≡◌, length};
 ghost use Rattle.std.proofs.Math.Option.{none};
 ghost use Rattle.xliff.specs.Check.{table_refusal, check};
-ghost use Rattle.answers.specs.Answers.{answer-meaning};
+ghost use Rattle.answers.specs.Answers.{answer_meaning};
 ghost use Rattle.outcomes.specs.Outcomes.{Answers};
 ghost use Rattle.xml.specs.Xml.{write_xml};
 
@@ -26,7 +27,7 @@ fn write_passed(table: &[u8], out: &mut [u8]) -> Answer
 }
 
 fn write_checked(table: &[u8], a: Answer, out: &mut [u8]) -> Answer
-    requires { answer-meaning a ≡ check table.now }
+    requires { answer_meaning a ≡ check table.now }
     ensures { Answers (write_xml table.now (length out.old)) result out.old out.exit.now }
 {
     match a {

@@ -1,5 +1,6 @@
 // Pieces written into a lent output.
 #![tactic(auto)]
+
 ghost use Rattle.std.specs.Prelude.{◌≡◌, [], ◌∷◌, ◌+◌, ◌<◌, ◌≤◌, length};
 ghost use Rattle.writer.specs.Pieces.{lead, overlay, number_bytes, bytes_of_mark};
 

@@ -1,5 +1,6 @@
 // The next attribute of a start tag.
 #![tactic(auto)]
+
 ghost use Rattle.std.specs.Prelude.{◌≡◌, true, false, ◌≤◌, ◌<◌, length, get_or};
 ghost use Rattle.xml.specs.Tokens.{in_tag, in_short, value_due};
 ghost use Rattle.xml.specs.Characters.{starts_name};
@@ -11,7 +12,7 @@ use xml_values::{Ended, blanks_end, value_end};
 
 // An attribute: its name stands from `from` to `upto`, its value from `value` to the byte `mark`, and the tag goes on
 // at `next`.
-#[derive(Drop)]
+#[derive(Clone, Copy)]
 pub struct AttributeAt {
     pub from: usize,
     pub upto: usize,
@@ -22,7 +23,7 @@ pub struct AttributeAt {
 
 // An attribute; the tag's end, with the place behind it, and whether in short form; the text ends in the tag; the tag
 // is at fault.
-#[derive(Drop)]
+#[derive(Clone, Copy)]
 pub enum Next {
     One(AttributeAt),
     End(usize, bool),

@@ -1,5 +1,6 @@
 // The attributes of a start tag, a slot for each name.
 #![tactic(auto)]
+
 ghost use Rattle.std.specs.Prelude.{◌≡◌, [], ◌+◌, ◌≤◌, length, take, drop};
 ghost use Rattle.xml_slots.specs.Slots.{slot_names, slots_of, index_of};
 ghost use Rattle.xml_attribute.specs.Attribute.{attribute_of, AttributeIn};
@@ -15,7 +16,7 @@ use xml_words::slot_value;
 
 // A whole tag: the place behind it, whether it is in the short form, and how many attributes it has. The text ends in
 // it. It is at fault.
-#[derive(Drop)]
+#[derive(Clone, Copy)]
 pub enum Tagged {
     Whole(usize, bool, usize),
     Cut,

@@ -1,6 +1,7 @@
 // Contents and the elements in them: a content calls for elements, and an element calls for content, the depth left
 // falling.
 #![tactic(auto)]
+
 ghost use Rattle.std.specs.Prelude.{◌≤◌, length};
 ghost use Rattle.xml_names.specs.Names.{bytes_between, NameIn};
 ghost use Rattle.xml_records.specs.Collecting.{Collecting};
@@ -13,7 +14,7 @@ use xml_piece::{Piece, piece_at};
 use xml_records::{put_code_point, put_item};
 
 // Behind a piece of content. At a start tag: where its name stands. At an end tag. A place at fault.
-#[derive(Drop)]
+#[derive(Clone, Copy)]
 pub enum Stepped {
     On(usize, Built),
     Tag(usize, usize),
@@ -22,14 +23,14 @@ pub enum Stepped {
 }
 
 // Behind an element, or a place at fault.
-#[derive(Drop)]
+#[derive(Clone, Copy)]
 pub enum Went {
     On(usize, Built),
     Bad(usize),
 }
 
 // A content and the end tag behind it, or a place at fault.
-#[derive(Drop)]
+#[derive(Clone, Copy)]
 pub enum Closed {
     By(EndTag, Built),
     Bad(usize),

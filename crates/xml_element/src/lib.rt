@@ -1,5 +1,6 @@
 // A start tag in a content, and the element that it opens.
 #![tactic(auto)]
+
 ghost use Rattle.std.specs.Prelude.{◌≡◌, ◌≤◌, length};
 ghost use Rattle.xliff.specs.Bytes.{equal};
 ghost use Rattle.xml_names.specs.Names.{bytes_between, NameIn};
@@ -16,7 +17,7 @@ use xml_records::put_item;
 use xml_slots::{ABSENT, SLOTS, is_word};
 
 // An end tag: its place, where its name stands, and the place behind it.
-#[derive(Drop)]
+#[derive(Clone, Copy)]
 pub struct EndTag {
     pub place: usize,
     pub from: usize,
@@ -25,7 +26,7 @@ pub struct EndTag {
 }
 
 // Behind the end of an empty element, or a place at fault.
-#[derive(Drop)]
+#[derive(Clone, Copy)]
 pub enum Emptied {
     On(usize),
     Bad(usize),
@@ -33,7 +34,7 @@ pub enum Emptied {
 
 // A whole start tag of pc or mrk: the items at the element's two ends, the place behind the tag, and whether it is in
 // the short form.
-#[derive(Drop)]
+#[derive(Clone, Copy)]
 pub struct NestedTag {
     pub start: Item,
     pub end: Item,
@@ -42,7 +43,7 @@ pub struct NestedTag {
 }
 
 // Behind an empty element; at the content of another; a place at fault.
-#[derive(Drop)]
+#[derive(Clone, Copy)]
 pub enum Opened {
     Single(usize, Built),
     Nested(NestedTag),

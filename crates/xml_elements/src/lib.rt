@@ -1,5 +1,6 @@
 // The inline elements, by their names and attributes; first what they and the heads of parts read of their slots.
 #![tactic(auto)]
+
 ghost use Rattle.std.specs.Prelude.{◌≡◌, true, ◌<◌, eqb};
 ghost use Rattle.xliff.specs.Bytes.{'Y'};
 ghost use Rattle.xml.specs.Attributes.{only, required, optional, choice};
@@ -16,14 +17,14 @@ use xml_slots::{
 };
 
 // The fields of a code.
-#[derive(Drop)]
+#[derive(Clone, Copy)]
 pub enum Coded {
     Good(Fields),
     Bad,
 }
 
 // An empty element; one with content: the items at its two ends; none.
-#[derive(Drop)]
+#[derive(Clone, Copy)]
 pub enum Inline {
     Single(Item),
     Nested(Item, Item),

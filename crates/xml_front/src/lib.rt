@@ -1,5 +1,6 @@
 // The character at the front of bytes, as XML 1.0 allows it.
 #![tactic(auto)]
+
 ghost use Rattle.std.specs.Prelude.{◌≡◌, [], ◌∷◌, ◌++◌, ◌-◌, ◌≤◌, ◌<◌, length, get_or};
 ghost use Rattle.xliff.specs.Text.{spelled};
 ghost use Rattle.xml.specs.Characters.{begins, part_of, cut_character, front_character};
@@ -9,7 +10,7 @@ use text::{Char, char_of, xml_char};
 
 // What stands at the front: a code point and how many bytes it takes after the first; the bytes end within it; nothing
 // that XML allows.
-#[derive(Drop)]
+#[derive(Clone, Copy)]
 pub enum Front {
     Found(u32, usize),
     Cut,

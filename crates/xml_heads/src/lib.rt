@@ -1,5 +1,6 @@
 // What heads a unit, its parts and their targets, by the attributes of its tag.
 #![tactic(auto)]
+
 ghost use Rattle.xml.specs.Elements.{unit_opening, segment_head, ignorable_head, part_of_name};
 ghost use Rattle.xml_slots.specs.Slots.{SomeSlots, ByAttributes};
 ghost use Rattle.xml_heads.specs.Meanings.{unit_meaning, head_meaning, OrderRead};
@@ -9,14 +10,14 @@ use xml_elements::{has_only, letter, optional_number, required_number};
 use xml_slots::{ABSENT, BAD, CAN_RESEGMENT, ID, ORDER, STATE, is_word};
 
 // The canResegment of a unit.
-#[derive(Drop)]
+#[derive(Clone, Copy)]
 pub enum UnitRead {
     Good(u8),
     Bad,
 }
 
 // The head of a part.
-#[derive(Drop)]
+#[derive(Clone, Copy)]
 pub enum Head {
     Segment(Segment),
     Ignorable(u16),
@@ -24,7 +25,7 @@ pub enum Head {
 }
 
 // The order of a target. An absent one is the part's position.
-#[derive(Drop)]
+#[derive(Clone, Copy)]
 pub enum Order {
     Given(u16),
     Absent,

@@ -1,5 +1,6 @@
 // Inline records other than text as XML.
 #![tactic(auto)]
+
 ghost use Rattle.std.specs.Prelude.{◌<◌, ◌≤◌, [], length};
 ghost use Rattle.xliff.specs.Item.{form-P, form-S, character, standalone, isolated, pair, annotation_start, annotation_end};
 ghost use Rattle.table.specs.Meaning.{fields, half, form, item};

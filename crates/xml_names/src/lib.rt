@@ -1,5 +1,6 @@
 // The names of tags, attributes and entities.
 #![tactic(auto)]
+
 ghost use Rattle.std.specs.Prelude.{◌≡◌, ◌≤◌, length};
 ghost use Rattle.xml.specs.Characters.{starts_name, in_a_name};
 ghost use Rattle.xml_names.specs.Names.{NameEnds};

@@ -1,5 +1,6 @@
 // How deep pc and mrk are nested in a table, and the end of a pc.
 #![tactic(auto)]
+
 ghost use Rattle.std.specs.Prelude.{◌≡◌, ◌<◌, ◌≤◌, drop};
 ghost use Rattle.xliff.specs.Parse.{read, unit};
 ghost use Rattle.places.specs.Passes.{Passes};
@@ -12,7 +13,7 @@ use table::{Form, Half, Item, Read, Record};
 
 // What a record does to the pc and mrk that are open in its content: it opens one more, it closes one, with the dataRef
 // that it has there, it does neither, or it is no record of a content.
-#[derive(Drop)]
+#[derive(Clone, Copy)]
 pub enum Step {
     Opens,
     Closes(u16),
@@ -148,7 +149,7 @@ pub fn too_deep(t: &[u8]) -> bool
 }
 
 // The dataRef of the end that is looked for, or how many are still open before it.
-#[derive(Drop)]
+#[derive(Clone, Copy)]
 pub enum Ending {
     Found(u16),
     Open(usize),

@@ -1,5 +1,6 @@
 // A part of a unit: its head, its source and its target, and what stands between them.
 #![tactic(auto)]
+
 ghost use Rattle.std.specs.Prelude.{[], ◌∷◌, suc, ◌<◌, ◌≤◌, length};
 ghost use Rattle.xliff.specs.Encode.{target_head};
 ghost use Rattle.xml.specs.Elements.{part_due, target_due};
@@ -23,7 +24,7 @@ const MOST_DEPTH: usize = 32;
 
 // Behind blanks and comments: a start tag with its place and where its name stands, an end tag, a tag that the text's
 // end cuts, a place at fault, or the text's end.
-#[derive(Drop)]
+#[derive(Clone, Copy)]
 pub enum Outer {
     Start(usize, usize, usize),
     Close(EndTag),

@@ -1,5 +1,6 @@
 // What stands at a place outside of tags and comments.
 #![tactic(auto)]
+
 ghost use Rattle.std.specs.Prelude.{◌≡◌, ◌≤◌, ◌<◌, length, get_or};
 ghost use Rattle.xml.specs.Characters.{'<', '&', carriage_return};
 ghost use Rattle.xml_piece.specs.Pieces.{Plain, PieceRead};
@@ -12,7 +13,7 @@ use xml_tag::{Markup, tag_at};
 // place behind it. A comment, a character and a reference, each with the place behind it. A tag that the text's end
 // cuts. A tag or a comment at fault; a character or a reference that is at fault or cut: the place blamed where text
 // may stand. The text's end.
-#[derive(Drop)]
+#[derive(Clone, Copy)]
 pub enum Piece {
     Start(usize, usize),
     Close(usize, usize, usize),

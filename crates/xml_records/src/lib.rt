@@ -1,5 +1,6 @@
 // The records that a text is read as, collected in a table. Beyond a limit of a table that is told and nothing is put.
 #![tactic(auto)]
+
 ghost use Rattle.std.specs.Prelude.{[], ◌∷◌, ◌≤◌};
 ghost use Rattle.xliff.specs.Unit.{ignorable, segment};
 ghost use Rattle.xliff.specs.Encode.{opening, closing, part_head, target_head, text_run, inline};

@@ -1,5 +1,6 @@
 // References: the five entities and numeric ones, behind their &.
 #![tactic(auto)]
+
 ghost use Rattle.std.specs.Prelude.{◌≡◌, false, [], ◌+◌, ◌*◌, ◌≤◌, length, drop};
 ghost use Rattle.xml.specs.Characters.{only_name, entity, numeric, numeric_reference, front_reference};
 ghost use Rattle.xml_front.specs.Fronts.{told};

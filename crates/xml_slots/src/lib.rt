@@ -1,5 +1,6 @@
 // The attributes of the subset, each a slot of an array.
 #![tactic(auto)]
+
 ghost use Rattle.std.specs.Prelude.{◌≡◌, cond, eqb};
 ghost use Rattle.xliff.specs.Bytes.{equal};
 ghost use Rattle.xml_slots.specs.Slots.{absent};

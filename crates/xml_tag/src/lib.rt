@@ -1,5 +1,6 @@
 // What begins with a < outside of tags: a start tag, an end tag or a comment.
 #![tactic(auto)]
+
 ghost use Rattle.std.specs.Prelude.{◌≡◌, true, false, [], ◌≤◌, ◌<◌, length, get_or, drop};
 ghost use Rattle.xml.specs.Characters.{'<', begins};
 ghost use Rattle.xml.specs.Tokens.{in_name, outside_tags};
@@ -11,7 +12,7 @@ use xml_values::blanks_end;
 
 // A start tag: its name stands from one place to the other, where its attributes begin. An end tag: the same, and the
 // place behind it. A comment: the place behind it. The text ends in the tag. A place at fault.
-#[derive(Drop)]
+#[derive(Clone, Copy)]
 pub enum Markup {
     Start(usize, usize),
     Close(usize, usize, usize),

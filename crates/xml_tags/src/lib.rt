@@ -1,5 +1,6 @@
 // The attributes of a tag, written behind a text.
 #![tactic(auto)]
+
 ghost use Rattle.std.specs.Prelude.{◌≤◌, length};
 ghost use Rattle.draft.specs.Drafts.{Wrote};
 ghost use Rattle.xml.specs.Words.{'canReorder', 'state'};

@@ -1,5 +1,6 @@
 // The text of a TX record as XML.
 #![tactic(auto)]
+
 ghost use Rattle.std.specs.Prelude.{◌≤◌, length};
 ghost use Rattle.draft.specs.Drafts.{Wrote};
 ghost use Rattle.xml_text.specs.Escapes.{escaped_byte, escaped_bytes};

@@ -1,5 +1,6 @@
 // A whole unit in XML.
 #![tactic(auto)]
+
 ghost use Rattle.std.specs.Prelude.{◌≡◌, ◌≤◌, length};
 ghost use Rattle.xliff.specs.Parse.{most_bytes};
 ghost use Rattle.xml.specs.Elements.{unit_due, part_due};
@@ -20,7 +21,7 @@ use xml_records::{put_closing, put_opening};
 use xml_slots::{ABSENT, SLOTS, is_word};
 
 // A text read, or a place at fault.
-#[derive(Drop)]
+#[derive(Clone, Copy)]
 pub enum ReadText {
     Good(Built),
     Bad(usize),

@@ -1,5 +1,6 @@
 // Blanks in a tag, and the values of its attributes.
 #![tactic(auto)]
+
 ghost use Rattle.std.specs.Prelude.{◌≡◌, ◌≤◌, length};
 ghost use Rattle.xml.specs.Characters.{is_blank};
 ghost use Rattle.xml_front.specs.Fronts.{told};
@@ -53,7 +54,7 @@ pub fn value_front(text: &[u8]) -> Front
 }
 
 // Where a value ends: at its quote; the text ends in it; it is at fault.
-#[derive(Drop)]
+#[derive(Clone, Copy)]
 pub enum Ended {
     At(usize),
     Short,

@@ -1,5 +1,6 @@
 // The values of attributes, references in them read: numbers, words and hexadecimal digits.
 #![tactic(auto)]
+
 ghost use Rattle.std.specs.Prelude.{◌≡◌, true, false, ◌+◌, ◌≤◌, ◌<◌, length, drop};
 ghost use Rattle.xliff.specs.Bytes.{equal};
 ghost use Rattle.xliff.specs.Text.{between};
@@ -13,7 +14,7 @@ use xml_slots::BAD;
 use xml_values::{is_blank_point, value_front};
 
 // The next code point of a value and the place behind it, or that the value is over.
-#[derive(Drop)]
+#[derive(Clone, Copy)]
 pub enum Code {
     Point(u32, usize),
     Over,

@@ -1,5 +1,6 @@
 // A unit as XML: one walk over the records of its table.
 #![tactic(auto)]
+
 ghost use Rattle.std.specs.Prelude.{◌≡◌, ◌++◌, ◌≤◌, length};
 ghost use Rattle.xliff.specs.Parse.{unit};
 ghost use Rattle.xliff.specs.Unit.{segment, ignorable};
@@ -16,7 +17,7 @@ use draft::Draft;
 use table::{Item, Read, Record, Segment};
 
 // What is open where a record begins: the source or the target of a part, or nothing but the unit.
-#[derive(Drop)]
+#[derive(Clone, Copy)]
 pub enum Open {
     Between,
     SegmentSource,

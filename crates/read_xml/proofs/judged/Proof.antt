@@ -1,5 +1,5 @@
 use Rattle.read_xml.proofs.ReadLaws.{refused_15, accepted_table, refused_table, table_fits}
-use Rattle.answers.specs.Answers.{answer-meaning}
+use Rattle.answers.specs.Answers.{answer_meaning}
 use lib.ListN.{length, take}
 use lib.Seq.{length-take-le}
 use mathlib.Core.Path.{sym, ap, ◌∙◌}
@@ -54,7 +54,7 @@ returns-2 c =
     let after_check = after-told.before.before in
     let after-if = after_check.before.before in
     let args = after-if.before.before.before.before.args in
-    let accepted = sym (ap answer-meaning after-told.enum_told.given.1) ∙ after_check.check.ensures in
+    let accepted = sym (ap answer_meaning after-told.enum_told.given.1) ∙ after_check.check.ensures in
     λ u k.
     accepted_table u args.table.now args.built k args.out.now after-if.if1.false _ put.result put.new.0
     accepted put.ensures.0 put.ensures.1
@@ -67,7 +67,7 @@ returns-3 c =
     let after_check = after_n.before.before in
     let after-if = after_check.before.before in
     let args = after-if.before.before.before.before.args in
-    let refused = sym (ap answer-meaning after_n.n.given.1) ∙ after_check.check.ensures in
+    let refused = sym (ap answer_meaning after_n.n.given.1) ∙ after_check.check.ensures in
     λ u k. refused_table u args.table.now args.built k args.out.now after-if.if1.false _ _ refused
 
 pub judged-spec : {M : Type 1} → statement M

@@ -1,5 +1,5 @@
 use mathlib.Core.Path.{ap, ◌∙◌}
-use Rattle.answers.specs.Answers.{answer-meaning}
+use Rattle.answers.specs.Answers.{answer_meaning}
 use Rattle.table_check.proofs.ChainLaws.{stops, goes_on, last}
 use borrow.Author.Rules.{rules}
 use Rattle.table_check.proofs.from_9.Statement.{statement}
@@ -18,7 +18,7 @@ returns-2 c =
     let pre = start.requires in
     let rule_10 = c.before.rule_10 in
     goes_on t 9 _ _ _ (rw c.before.before.enum_told.given.1 at pre.2)
-    (ap answer-meaning c.refused-by.ensures
+    (ap answer_meaning c.refused-by.ensures
     ∙ last t 10 args.len rule_10.result _ pre.1 rule_10.ensures)
 
 pub from-9-spec : {M : Type 1} → statement M
