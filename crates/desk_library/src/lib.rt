@@ -57,7 +57,7 @@ pub extern "C" fn xliff_desk_split(
     number: &mut u8,
     value: &mut usize,
 ) -> bool
-    ensures { Tells (split table.now part source_cut target_cut new_id (length out.entry.now)) result number.new value.new out.old out.new }
+    ensures { Tells (split table.now part source_cut target_cut new_id (length out.old)) result number.new value.new out.old out.new }
 {
     let a = split::split(table, part, source_cut, target_cut, new_id, out);
     tell(a, number, value)
@@ -87,7 +87,7 @@ pub extern "C" fn xliff_desk_set_target(
     number: &mut u8,
     value: &mut usize,
 ) -> bool
-    ensures { Tells (set_target table.now part state content.now (length out.entry.now)) result number.new value.new out.old out.new }
+    ensures { Tells (set_target table.now part state content.now (length out.old)) result number.new value.new out.old out.new }
 {
     let a = set_target::set_target(table, part, state, content, out);
     tell(a, number, value)
@@ -101,7 +101,7 @@ pub extern "C" fn xliff_desk_remove_target(
     number: &mut u8,
     value: &mut usize,
 ) -> bool
-    ensures { Tells (remove_target table.now part (length out.old)) result number.exit.now value.new out.old out.new }
+    ensures { Tells (remove_target table.now part (length out.old)) result number.new value.new out.old out.new }
 {
     let a = remove_target::remove_target(table, part, out);
     tell(a, number, value)
@@ -117,7 +117,7 @@ pub extern "C" fn xliff_desk_rewrite(
     number: &mut u8,
     value: &mut usize,
 ) -> bool
-    ensures { Tells (rewrite table.now side id form (length out.old)) result number.exit.now value.new out.old out.new }
+    ensures { Tells (rewrite table.now side id form (length out.old)) result number.new value.new out.old out.new }
 {
     let a = rewrite::rewrite(table, side, id, form, out);
     tell(a, number, value)
@@ -159,7 +159,7 @@ pub extern "C" fn xliff_desk_sheet(
     number: &mut u8,
     value: &mut usize,
 ) -> bool
-    ensures { Tells (sheet table.now (length out.old)) result number.new value.exit.now out.old out.new }
+    ensures { Tells (sheet table.now (length out.old)) result number.new value.new out.old out.new }
 {
     let a = review_sheet::sheet(table, out);
     tell(a, number, value)
@@ -175,7 +175,7 @@ pub extern "C" fn xliff_desk_view(
     number: &mut u8,
     value: &mut usize,
 ) -> bool
-    ensures { Tells (view table.now (by_letter role positions.now) (length out.entry.now)) result number.new value.new out.old out.new }
+    ensures { Tells (view table.now (by_letter role positions.now) (length out.old)) result number.new value.new out.old out.new }
 {
     let a = granted_view::view(granted_parts::role_of(role), positions, table, out);
     tell(a, number, value)

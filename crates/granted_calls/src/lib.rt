@@ -25,7 +25,7 @@ fn call_read(
     out: &mut [u8],
 ) -> Answer
     requires { (table_refusal table.now ≡ none) × (request_size r ≤ length s.now) }
-    ensures { Answers (call_granted (grant_of role positions.now) table.now s.entry.now r (length out.old)) result out.old out.new }
+    ensures { Answers (call_granted (grant_of role positions.now) table.now s.now r (length out.old)) result out.old out.new }
 {
     if !granted_requests::granted(role, positions, table, r) {
         return Answer::Refused(24, 0);

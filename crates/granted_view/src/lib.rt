@@ -81,7 +81,7 @@ fn put_view(out: &mut [u8], draft: Draft, t: &[u8], role: Role, positions: &[u8]
 // 15, then the view. It is measured before a byte of it is written.
 fn view_passed(role: Role, positions: &[u8], table: &[u8], out: &mut [u8]) -> Answer
     requires { table_refusal table.now ≡ none }
-    ensures { Answers (view table.now (grant_of role positions.now) (length out.entry.now)) result out.old out.new }
+    ensures { Answers (view table.now (grant_of role positions.now) (length out.old)) result out.old out.new }
 {
     let measured = put_view(out, draft::begin(true), table, role, positions);
     if measured.full {
@@ -93,7 +93,7 @@ fn view_passed(role: Role, positions: &[u8], table: &[u8], out: &mut [u8]) -> An
 
 fn view_checked(role: Role, positions: &[u8], table: &[u8], a: Answer, out: &mut [u8]) -> Answer
     requires { answer_meaning a ≡ check table.now }
-    ensures { Answers (view table.now (grant_of role positions.now) (length out.entry.now)) result out.old out.new }
+    ensures { Answers (view table.now (grant_of role positions.now) (length out.old)) result out.old out.new }
 {
     match a {
         Answer::Accepted(_) => view_passed(role, positions, table, out),
@@ -104,7 +104,7 @@ fn view_checked(role: Role, positions: &[u8], table: &[u8], a: Answer, out: &mut
 // The table as a role with these positions sees it. Accepted: the output's first bytes are the view, the rest is
 // unchanged. Refused: the whole output is unchanged.
 pub fn view(role: Role, positions: &[u8], table: &[u8], out: &mut [u8]) -> Answer
-    ensures { Answers (view table.now (grant_of role positions.now) (length out.entry.now)) result out.old out.new }
+    ensures { Answers (view table.now (grant_of role positions.now) (length out.old)) result out.old out.new }
 {
     view_checked(role, positions, table, table_check::check(table), out)
 }

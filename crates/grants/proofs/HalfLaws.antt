@@ -66,6 +66,7 @@ found_both i xs w s f =
 
 -- what stands in a list stands in a longer one
 mem_left : {x : Item} (xs ys : Content) → Memᴰ x xs → Memᴰ x (xs ++ ys)
+mem_left [] ys x'' = elim x'' [ ]
 mem_left (y ∷ xs) ys (Memᴰ.head e) = Memᴰ.head e
 mem_left (y ∷ xs) ys (Memᴰ.tail m) = Memᴰ.tail (mem_left xs ys m)
 
@@ -81,6 +82,7 @@ mem_gather f (q ∷ b) p a m = mem_right (f q) (gather f (b ++ (p ∷ a))) (mem_
 
 mem_keep : {x : Item} (f : Item → Bool) (xs : Content) → f x ≡ true → Memᴰ x xs → Memᴰ x (keep f xs)
 unfolding keep
+mem_keep {x = x} f [] e x3 = elim x3 [ ]
 mem_keep {x} f (y ∷ xs) e (Memᴰ.head q) = rw (ap f (sym q) ∙ e) (Memᴰ.head q)
 mem_keep {x} f (y ∷ xs) e (Memᴰ.tail m) = by (f y) (mem_keep f xs e m)
   where
@@ -90,6 +92,7 @@ mem_keep {x} f (y ∷ xs) e (Memᴰ.tail m) = by (f y) (mem_keep f xs e m)
 
 one_of_two : {x y z : Item} → Memᴰ x (y ∷ z ∷ []) → (x ≡ y) ⊎ (x ≡ z)
 one_of_two (Memᴰ.head e) = inl e
+one_of_two {y = y} {z = z} (Memᴰ.tail (Memᴰ.tail x9)) = elim x9 [ ]
 one_of_two (Memᴰ.tail (Memᴰ.head e)) = inr e
 
 -- the content of an order stands in the target sequence
@@ -130,7 +133,7 @@ module _ (b : List Part) (p : Part) (a : List Part) (five : fault_5 (b ++ (p ∷
   mem_target x m = by p.target refl m
     where
       by : (g : Target) → p.target ≡ g → Memᴰ x (target_items g) → Memᴰ x (target_sequence ps)
-      by no_target e k = absurd (Memᴰ.not_nil k)
+      by no_target e k = absurd (Memᴰ.not-nil k)
       by (target q xs) e k =
           let fits = order_in_lem q xs e in
           let there : of_order q p.target ≡ xs = rw (e, eq-eqb q q refl) refl in

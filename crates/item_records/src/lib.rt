@@ -14,7 +14,7 @@ use table::{Fields, Form, Half, Item};
 // The record of a code with this mark.
 fn put_code(out: &mut [u8], mark: &[u8; 2], f: Fields) -> usize
     requires { code_size ≤ length out.old }
-    ensures { Written (bytes_of_mark mark.now ++ code_bytes (fields f)) out.old result out.exit.now }
+    ensures { Written (bytes_of_mark mark.now ++ code_bytes (fields f)) out.old result out.new }
 {
     let letters = f.letters;
     let id_at = writer::put_mark(out, 0, mark);
@@ -29,7 +29,7 @@ fn put_code(out: &mut [u8], mark: &[u8; 2], f: Fields) -> usize
 
 fn put_isolated(out: &mut [u8], h: Half, f: Fields) -> usize
     requires { code_size ≤ length out.old }
-    ensures { Written (record_bytes (inline (isolated (half h) (fields f)))) out.old result out.exit.now }
+    ensures { Written (record_bytes (inline (isolated (half h) (fields f)))) out.old result out.new }
 {
     match h {
         Half::Start => put_code(out, b"IS", f),
@@ -39,7 +39,7 @@ fn put_isolated(out: &mut [u8], h: Half, f: Fields) -> usize
 
 fn put_pair(out: &mut [u8], w: Form, h: Half, f: Fields) -> usize
     requires { code_size ≤ length out.old }
-    ensures { Written (record_bytes (inline (pair (half h) (form w) (fields f)))) out.old result out.exit.now }
+    ensures { Written (record_bytes (inline (pair (half h) (form w) (fields f)))) out.old result out.new }
 {
     match w {
         Form::P => match h {

@@ -33,7 +33,7 @@ fn judged(table: &[u8], built: Built, out: &mut [u8]) -> Answer
 // The unit that the text holds, as a table: 22 with its place, then 15, then the check of the table read. Accepted: the
 // output's first bytes are the table, the rest is unchanged. Refused: the whole output is unchanged.
 pub fn read_xml(xml: &[u8], out: &mut [u8]) -> Answer
-    ensures { Answers (read_xml xml.now (length out.old)) result out.old out.exit.now }
+    ensures { Answers (read_xml xml.now (length out.old)) result out.old out.new }
 {
     let mut table = [0u8; MOST_BYTES];
     match read_unit(xml, &mut table) {

@@ -13,7 +13,7 @@ use answers::Answer;
 // 15, then the sheet. It is measured before a byte of it is written.
 fn sheet_passed(table: &[u8], out: &mut [u8]) -> Answer
     requires { table_refusal table.now ≡ none }
-    ensures { Answers (sheet table.now (length out.old)) result out.old out.exit.now }
+    ensures { Answers (sheet table.now (length out.old)) result out.old out.new }
 {
     let measured = sheet_rows::put_sheet(out, draft::begin(true), table);
     if measured.full {
@@ -25,7 +25,7 @@ fn sheet_passed(table: &[u8], out: &mut [u8]) -> Answer
 
 fn sheet_checked(table: &[u8], a: Answer, out: &mut [u8]) -> Answer
     requires { answer_meaning a ≡ check table.now }
-    ensures { Answers (sheet table.now (length out.old)) result out.old out.exit.now }
+    ensures { Answers (sheet table.now (length out.old)) result out.old out.new }
 {
     match a {
         Answer::Accepted(_) => sheet_passed(table, out),
@@ -36,7 +36,7 @@ fn sheet_checked(table: &[u8], a: Answer, out: &mut [u8]) -> Answer
 // Accepted: the output's first bytes are the review sheet, the rest is unchanged. Refused: the whole output is
 // unchanged.
 pub fn sheet(table: &[u8], out: &mut [u8]) -> Answer
-    ensures { Answers (sheet table.now (length out.old)) result out.old out.exit.now }
+    ensures { Answers (sheet table.now (length out.old)) result out.old out.new }
 {
     sheet_checked(table, table_check::check(table), out)
 }

@@ -28,7 +28,7 @@ struct Columns {
 // The first three columns of a row, with a blank behind each.
 fn put_margin(out: &mut [u8], draft: Draft, n: usize, id: u16, state: &[u8]) -> Draft
     requires { draft.used ≤ length out.old }
-    ensures { Wrote (margin (decimal n) (id_cells id) state.now) out.old draft out.exit.now result }
+    ensures { Wrote (margin (decimal n) (id_cells id) state.now) out.old draft out.new result }
 {
     let position = sheet_forms::put_number(out, draft, n, 3);
     let before_id = draft::put(out, position, b" ");
@@ -78,7 +78,7 @@ fn put_columns(
     to: Cursor,
 ) -> Columns
     requires { (draft.used ≤ length out.old) × SomeAhead source.now from × SomeAhead target.now to }
-    ensures { PutColumns source.now from target.now to out.old draft out.exit.now result }
+    ensures { PutColumns source.now from target.now to out.old draft out.new result }
 {
     let left = sheet_columns::put_row(out, draft, source, from);
     let shown = left.draft;
@@ -121,7 +121,7 @@ fn put_later(out: &mut [u8], first: Columns, source: &[u8], target: &[u8]) -> Dr
 // The rows of a part behind the margin of its first: its two contents side by side.
 fn put_contents(out: &mut [u8], draft: Draft, source: &[u8], target: &[u8]) -> Draft
     requires { (draft.used ≤ length out.old) × Some source.now × Some target.now }
-    ensures { PutContents source.now target.now out.old draft out.exit.now result }
+    ensures { PutContents source.now target.now out.old draft out.new result }
 {
     let begin = Cursor { at: 0, left: 0 };
     let first = put_columns(out, draft, source, begin, target, begin);

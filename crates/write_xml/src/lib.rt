@@ -13,7 +13,7 @@ use answers::Answer;
 // 22, 15, then the text. It is measured before a byte of it is written.
 fn write_passed(table: &[u8], out: &mut [u8]) -> Answer
     requires { table_refusal table.now ≡ none }
-    ensures { Answers (write_xml table.now (length out.old)) result out.old out.exit.now }
+    ensures { Answers (write_xml table.now (length out.old)) result out.old out.new }
 {
     if xml_nesting::too_deep(table) {
         return Answer::Refused(22, 0);
@@ -28,7 +28,7 @@ fn write_passed(table: &[u8], out: &mut [u8]) -> Answer
 
 fn write_checked(table: &[u8], a: Answer, out: &mut [u8]) -> Answer
     requires { answer_meaning a ≡ check table.now }
-    ensures { Answers (write_xml table.now (length out.old)) result out.old out.exit.now }
+    ensures { Answers (write_xml table.now (length out.old)) result out.old out.new }
 {
     match a {
         Answer::Accepted(_) => write_passed(table, out),
@@ -38,7 +38,7 @@ fn write_checked(table: &[u8], a: Answer, out: &mut [u8]) -> Answer
 
 // Accepted: the output's first bytes are the unit as XML, the rest is unchanged. Refused: the whole output is unchanged.
 pub fn write_xml(table: &[u8], out: &mut [u8]) -> Answer
-    ensures { Answers (write_xml table.now (length out.old)) result out.old out.exit.now }
+    ensures { Answers (write_xml table.now (length out.old)) result out.old out.new }
 {
     write_checked(table, table_check::check(table), out)
 }

@@ -70,7 +70,7 @@ fn close_element(
     last: Item,
 ) -> Went
     requires { NameIn text.now from upto × NameIn text.now end.from end.upto × Collecting table.old built }
-    ensures { CloseRead text.now (bytes_between text.now from upto) end last table.entry.now built table.new result }
+    ensures { CloseRead text.now (bytes_between text.now from upto) end last table.old built table.new result }
 {
     if ends_name(text, from, upto, end) {
         return Went::On(end.next, put_item(table, built, last));

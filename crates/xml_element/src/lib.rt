@@ -53,7 +53,7 @@ pub enum Opened {
 // Whether the end tag has the name that stands from one place to the other.
 pub fn ends_name(text: &[u8], from: usize, upto: usize, end: EndTag) -> bool
     requires { NameIn text.now from upto × NameIn text.now end.from end.upto }
-    ensures { result ≡ equal (bytes_between text.now end.from end.upto) (bytes_between text.entry.now from upto) }
+    ensures { result ≡ equal (bytes_between text.now end.from end.upto) (bytes_between text.now from upto) }
 {
     let end_from = end.from;
     let end_upto = end.upto;
@@ -142,7 +142,7 @@ pub fn open_element(
     built: Built,
 ) -> Opened
     requires { NameIn text.now from upto × Collecting table.old built }
-    ensures { OpenRead text.now place (bytes_between text.now from upto) upto table.entry.now built table.new result }
+    ensures { OpenRead text.now place (bytes_between text.now from upto) upto table.old built table.new result }
 {
     let mut slots = [ABSENT; SLOTS];
     match read_attributes(text, upto, &mut slots) {

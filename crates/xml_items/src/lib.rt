@@ -2,7 +2,7 @@
 #![tactic(auto)]
 
 ghost use Rattle.std.specs.Prelude.{◌<◌, ◌≤◌, [], length};
-ghost use Rattle.xliff.specs.Item.{form-P, form-S, character, standalone, isolated, pair, annotation_start, annotation_end};
+ghost use Rattle.xliff.specs.Item.{form_P, form_S, character, standalone, isolated, pair, annotation_start, annotation_end};
 ghost use Rattle.table.specs.Meaning.{fields, half, form, item};
 ghost use Rattle.draft.specs.Drafts.{Wrote};
 ghost use Rattle.xml.specs.Write.{hints, item_text};
@@ -16,7 +16,7 @@ use table::{Fields, Form, Half, Item};
 
 fn put_overlap(out: &mut [u8], draft: Draft, shown: bool, letter: u8) -> Draft
     requires { draft.used ≤ length out.old }
-    ensures { Wrote (attributes_bytes (overlap_attribute shown letter)) out.old draft out.exit.now result }
+    ensures { Wrote (attributes_bytes (overlap_attribute shown letter)) out.old draft out.new result }
 {
     if !shown {
         return draft;
@@ -66,7 +66,7 @@ fn put_half(
     f: Fields,
 ) -> Draft
     requires { draft.used ≤ length out.old }
-    ensures { Wrote (half_tag tag.now id.now isolated.now (fields f)) out.entry.now draft out.new result }
+    ensures { Wrote (half_tag tag.now id.now isolated.now (fields f)) out.old draft out.new result }
 {
     let opened = put_code_start(out, draft, tag, id, f);
     let data = xml_tags::put_unless_zero(out, opened, b"dataRef", f.data_ref);
@@ -88,7 +88,7 @@ fn put_isolated(out: &mut [u8], draft: Draft, h: Half, f: Fields) -> Draft
 // A half of a pair in the S form.
 fn put_pair_s(out: &mut [u8], draft: Draft, h: Half, f: Fields) -> Draft
     requires { draft.used ≤ length out.old }
-    ensures { Wrote (item_text (pair (half h) form-S (fields f)) []) out.old draft out.new result }
+    ensures { Wrote (item_text (pair (half h) form_S (fields f)) []) out.old draft out.new result }
 {
     match h {
         Half::Start => put_half(out, draft, b"<sc", b"id", b"no", f),
@@ -99,7 +99,7 @@ fn put_pair_s(out: &mut [u8], draft: Draft, h: Half, f: Fields) -> Draft
 // The start of a pc; `end_data` is the dataRef of its end.
 fn put_pc(out: &mut [u8], draft: Draft, f: Fields, end_data: u16) -> Draft
     requires { draft.used ≤ length out.old }
-    ensures { Wrote (opening_tag 'pc' (pc_attributes (fields f) end_data)) out.old draft out.exit.now result }
+    ensures { Wrote (opening_tag 'pc' (pc_attributes (fields f) end_data)) out.old draft out.new result }
 {
     let opened = put_code_start(out, draft, b"<pc", b"id", f);
     let start = xml_tags::put_unless_zero(out, opened, b"dataRefStart", f.data_ref);
@@ -111,7 +111,7 @@ fn put_pc(out: &mut [u8], draft: Draft, f: Fields, end_data: u16) -> Draft
 // A half of a pair in the P form.
 fn put_pair_p(out: &mut [u8], draft: Draft, h: Half, f: Fields, end_data: u16) -> Draft
     requires { draft.used ≤ length out.old }
-    ensures { WroteItem (pair (half h) form-P (fields f)) end_data out.old draft out.new result }
+    ensures { WroteItem (pair (half h) form_P (fields f)) end_data out.old draft out.new result }
 {
     match h {
         Half::Start => put_pc(out, draft, f, end_data),
@@ -142,7 +142,7 @@ fn put_mark(out: &mut [u8], draft: Draft, tag: &[u8], i: u16, translate: u8, end
 
 fn put_annotation_start(out: &mut [u8], draft: Draft, w: Form, i: u16, translate: u8) -> Draft
     requires { draft.used ≤ length out.old }
-    ensures { Wrote (item_text (annotation_start (form w) i translate) []) out.old draft out.exit.now result }
+    ensures { Wrote (item_text (annotation_start (form w) i translate) []) out.old draft out.new result }
 {
     match w {
         Form::P => put_mark(out, draft, b"<mrk", i, translate, b">"),
@@ -152,7 +152,7 @@ fn put_annotation_start(out: &mut [u8], draft: Draft, w: Form, i: u16, translate
 
 fn put_em(out: &mut [u8], draft: Draft, i: u16) -> Draft
     requires { draft.used ≤ length out.old }
-    ensures { Wrote (item_text (annotation_end form-S i) []) out.old draft out.new result }
+    ensures { Wrote (item_text (annotation_end form_S i) []) out.old draft out.new result }
 {
     let opened = draft::put(out, draft, b"<em");
     let named = xml_tags::put_number(out, opened, b"startRef", i);

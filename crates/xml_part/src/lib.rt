@@ -83,7 +83,7 @@ pub fn outer_at(text: &[u8], start: usize) -> Outer
 // Behind the start tag of a source or a target of this name: its content, and its end tag.
 fn side(text: &[u8], next: usize, short: bool, name: &[u8], table: &mut [u8], built: Built) -> Went
     requires { (next ≤ length text.now) × Collecting table.old built }
-    ensures { SideRead text.now next short name.now table.old built table.exit.now result }
+    ensures { SideRead text.now next short name.now table.old built table.new result }
 {
     if short {
         return Went::On(next, built);
@@ -111,7 +111,7 @@ fn source_at(
     built: Built,
 ) -> Went
     requires { NameIn text.now from upto × Collecting table.old built }
-    ensures { SourceSteps text.now upto (tag_at text.now place (bytes_between text.entry.now from upto) upto) table.old built table.new result }
+    ensures { SourceSteps text.now upto (tag_at text.now place (bytes_between text.now from upto) upto) table.old built table.new result }
 {
     let mut slots = [ABSENT; SLOTS];
     match read_attributes(text, upto, &mut slots) {
@@ -248,7 +248,7 @@ fn source_of(text: &[u8], start: usize, table: &mut [u8], built: Built) -> Went
 // The head of a part whose name stands from one place to the other. In the short form it has no source.
 fn head(text: &[u8], place: usize, from: usize, upto: usize, table: &mut [u8], built: Built) -> Went
     requires { NameIn text.now from upto × Collecting table.old built }
-    ensures { HeadSteps text.now upto (bytes_between text.now from upto) (tag_at text.entry.now place (bytes_between text.now from upto) upto) table.old built table.exit.now result }
+    ensures { HeadSteps text.now upto (bytes_between text.now from upto) (tag_at text.now place (bytes_between text.now from upto) upto) table.old built table.new result }
 {
     let mut slots = [ABSENT; SLOTS];
     match read_attributes(text, upto, &mut slots) {

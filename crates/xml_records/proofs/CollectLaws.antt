@@ -92,7 +92,7 @@ pub whole_target : (q : ℕ) → Whole (target_head q)
 whole_target q = record { stays = λ l. unfold put in refl; apart = λ l c. unfold text_before in refl }
 
 pub whole_item : (x : Item) → Whole (inline (item x))
-whole_item x = record { stays = λ l. unfold put in alone x l; apart = λ l c. unfold text_before in refl }
+whole_item x = record { stays = stays_item; apart = apart_item }
   where
     alone : (y : Item) (l : List Record) → item_before (item y) l ≡ inline (item y) ∷ l
     alone (Character c) l = unfold item_before in refl
@@ -101,6 +101,14 @@ whole_item x = record { stays = λ l. unfold put in alone x l; apart = λ l c. u
     alone (Pair w h f) l = unfold item_before in refl
     alone (AnnotationStart w i t) l = unfold item_before in refl
     alone (AnnotationEnd w i) l = unfold item_before in refl
+
+    stays_item : (l : List Record) → put (inline (item x)) l ≡ inline (item x) ∷ l
+    unfolding put
+    stays_item l = alone x l
+
+    apart_item : (l : List Record) → Apart (inline (item x) ∷ l)
+    unfolding text_before
+    apart_item l c = refl
 
 -- an empty table
 pub collected_none : {built : Built} → HoldsNothing built → (t : List ℕ) → length t ≡ most_bytes → Collected t built []

@@ -50,7 +50,7 @@ pub fn put_closing(table: &mut [u8], built: Built) -> Built
 // SG with these fields.
 pub fn put_segment(table: &mut [u8], built: Built, f: Segment) -> Built
     requires { Collecting table.old built }
-    ensures { Collects (part_head (segment (segment_meaning f)) ∷ []) table.old built table.exit.now result }
+    ensures { Collects (part_head (segment (segment_meaning f)) ∷ []) table.old built table.new result }
 {
     let mut head = [0u8; 6];
     let wide = heads::put_segment(&mut head, f);

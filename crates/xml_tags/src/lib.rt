@@ -36,7 +36,7 @@ pub fn put_number(out: &mut [u8], draft: Draft, name: &[u8], n: u16) -> Draft
 // No attribute where the number is 0.
 pub fn put_unless_zero(out: &mut [u8], draft: Draft, name: &[u8], n: u16) -> Draft
     requires { draft.used ≤ length out.old }
-    ensures { Wrote (attributes_bytes (unless_zero name.now n)) out.old draft out.exit.now result }
+    ensures { Wrote (attributes_bytes (unless_zero name.now n)) out.old draft out.new result }
 {
     if n == 0 {
         return draft;
@@ -91,7 +91,7 @@ pub fn put_reorder(out: &mut [u8], draft: Draft, letter: u8) -> Draft
 // The state of a segment: I, T, R or F.
 pub fn put_state(out: &mut [u8], draft: Draft, letter: u8) -> Draft
     requires { draft.used ≤ length out.old }
-    ensures { Wrote (attributes_bytes (word_attribute 'state' states letter)) out.old draft out.exit.now result }
+    ensures { Wrote (attributes_bytes (word_attribute 'state' states letter)) out.old draft out.new result }
 {
     if letter == b'I' {
         return put_attribute(out, draft, b"state", b"initial");

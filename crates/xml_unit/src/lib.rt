@@ -58,7 +58,7 @@ fn unit_end(text: &[u8], at: usize, end: EndTag, table: &mut [u8], built: Built)
 // The parts of a unit from `start` on, and its end.
 fn parts(text: &[u8], start: usize, table: &mut [u8], built: Built) -> ReadText
     requires { (start ≤ length text.now) × CollectingAt 0 table.old built }
-    ensures { Finishes (part_due 0) (rest_at text.now start) table.old built table.exit.now result }
+    ensures { Finishes (part_due 0) (rest_at text.now start) table.old built table.new result }
 {
     let mut at = start;
     let mut so_far = built;
