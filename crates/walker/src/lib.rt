@@ -53,55 +53,55 @@ fn width_there(t: &[u8], at: usize) -> usize
 }
 
 pub fn new<'a>(table: &'a [u8], next: usize) -> Walker<'a>
-    ensures { (result.table ≡ table) × (result.next ≡ next) }
+    ensures { (result.table ≡ table.entry) × (result.next ≡ next) }
 {
     Walker { table, next }
 }
 
 pub fn next<'a>(w: Walker<'a>) -> usize
-    ensures { result ≡ w.next }
+    ensures { result ≡ w.entry.next }
 {
     w.next
 }
 
 // The next record.
 pub fn record<'a>(w: Walker<'a>) -> Read
-    ensures { ReadAt w.table.now w.next result }
+    ensures { ReadAt w.entry.table.now w.entry.next result }
 {
     table::record_at(w.table, w.next)
 }
 
 // The next record, which was read before.
 pub fn known<'a>(w: Walker<'a>) -> Read
-    ensures { Known (drop w.next w.table.now) result }
+    ensures { Known (drop w.entry.next w.entry.table.now) result }
 {
     table::known_at(w.table, w.next)
 }
 
 // A glance at the next record, which was read before.
 pub fn glance<'a>(w: Walker<'a>) -> Glance
-    ensures { Glanced (drop w.next w.table.now) result }
+    ensures { Glanced (drop w.entry.next w.entry.table.now) result }
 {
     glance::glance_at(w.table, w.next)
 }
 
 // The mark of the next record.
 pub fn mark<'a>(w: Walker<'a>) -> Mark
-    ensures { MarkAt w.table.now w.next result }
+    ensures { MarkAt w.entry.table.now w.entry.next result }
 {
     mark_there(w.table, w.next)
 }
 
 // How many bytes the next record takes, by its mark.
 pub fn width<'a>(w: Walker<'a>) -> usize
-    ensures { WidthAt w.table.now w.next result }
+    ensures { WidthAt w.entry.table.now w.entry.next result }
 {
     width_there(w.table, w.next)
 }
 
 // The walker behind its record, which was read before.
 pub fn passed<'a>(w: Walker<'a>) -> Walker<'a>
-    ensures { (result.table ≡ w.table) × After w.table.now w.next result.next }
+    ensures { (result.table ≡ w.entry.table) × After w.entry.table.now w.entry.next result.next }
 {
     Walker {
         table: w.table,

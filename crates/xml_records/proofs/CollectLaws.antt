@@ -92,6 +92,7 @@ pub whole_target : (q : ℕ) → Whole (target_head q)
 whole_target q = record { stays = λ l. unfold put in refl; apart = λ l c. unfold text_before in refl }
 
 pub whole_item : (x : Item) → Whole (inline (item x))
+unfolding put text_before
 whole_item x = record { stays = stays_item; apart = apart_item }
   where
     alone : (y : Item) (l : List Record) → item_before (item y) l ≡ inline (item y) ∷ l
@@ -103,11 +104,9 @@ whole_item x = record { stays = stays_item; apart = apart_item }
     alone (AnnotationEnd w i) l = unfold item_before in refl
 
     stays_item : (l : List Record) → put (inline (item x)) l ≡ inline (item x) ∷ l
-    unfolding put
     stays_item l = alone x l
 
     apart_item : (l : List Record) → Apart (inline (item x) ∷ l)
-    unfolding text_before
     apart_item l c = refl
 
 -- an empty table
