@@ -85,10 +85,17 @@ APART = {
 }
 
 
+# statements whose name has a dash: a type is in upper camel case
+TYPE = re.compile(r"^(?:(?:abbrev|unfoldable|pub)[ \t]+)*([A-Z][A-Za-z0-9]*-[\w-]+)[^\n]*:[^\n]*\bType 0[ \t]*$", re.M)
+TYPES = set()
+
+
 def spelled(name):
-    """Returns the name in snake case."""
+    """Returns the name in snake case, or that of a type in upper camel case."""
     if name in APART:
         return APART[name]
+    if name in TYPES:
+        return "".join(it[:1].upper() + it[1:] for it in re.split("[-_]", name))
     if name[0] == "'" or not re.search(r"[A-Za-z]", name):
         return name
     first, dash, rest = name.partition("-")
@@ -149,6 +156,8 @@ def in_backquotes(text, change):
 def main():
     dry = "--dry" in sys.argv
     files = antt_files(".")
+    for path in files:
+        TYPES.update(TYPE.findall(open(path, encoding="utf-8").read()))
     kit = kit_names()
     declared = set()
     for path in files:

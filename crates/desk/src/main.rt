@@ -1,10 +1,37 @@
 // The desk program: a job from standard input, its answers to standard output. At most 65,535 bytes are read.
 #![tactic(auto)]
 
-fn main() {
+ghost use Rattle.std.specs.Prelude.{◌≤◌, length, IfOk};
+
+use std::io::{self, Read, Write};
+
+// Reads until `buf` is full or the input ends; how many bytes it read.
+fn read_full<R: Read>(reader: &mut R, buf: &mut [u8]) -> io::Result<usize>
+    ensures { IfOk result (λ n. n ≤ length buf.new) }
+{
+    let mut done = 0;
+    while done < buf.len() {
+        let n = reader.read(&mut buf[done..])?;
+        if n == 0 {
+            break;
+        }
+        done += n;
+    }
+    Ok(done)
+}
+
+// Writes the answers that stand at the head of `output`.
+fn write_answers<W: Write>(writer: &mut W, output: &[u8], k: usize) -> io::Result<()>
+    requires { k ≤ length output.now }
+{
+    writer.write_all(&output[..k])?;
+    writer.flush()
+}
+
+fn main(rt: HostRuntime) -> io::Result<()> {
     let mut input = [0u8; 65535];
     let mut output = [0u8; 1048576];
-    let n = io::read_full(libc::STDIN_FILENO, &mut input);
+    let n = read_full(&mut rt.reader(), &mut input)?;
     let k = both_ends::run(&input[..n], &mut output);
-    io::write_all(libc::STDOUT_FILENO, &output[..k]);
+    write_answers(&mut io::writer(&rt), &output, k)
 }

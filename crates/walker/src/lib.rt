@@ -1,6 +1,5 @@
 // The records of a lent table or content, one by one: a struct of the slice and the offset of the next record, and thin
-// functions over it. The borrow checker covers no function over such a struct, so each is proved by hand, and leaves
-// the work to one on a slice and an offset.
+// functions over it, which leave the work to one on a slice and an offset.
 #![tactic(auto)]
 
 ghost use Rattle.std.specs.Prelude.{◌≡◌, drop};
