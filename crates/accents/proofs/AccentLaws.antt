@@ -73,12 +73,26 @@ not_accent (annotation_end w i) g = refl
 between_texts : (ds : List ℕ) (a : List Record) (cs : List ℕ) (rs : List Record) → Kept true (a ++ (text_run cs ∷ rs))
     → last_is is_text (items a) ≡ false → last_is is_text (map text ds ++ items a) ≡ false
 unfolding reading take_record
+between_texts ds [] cs rs x'' e = elim x'' [ ]
+between_texts ds (Rattle.xliff.specs.Encode.opening _ ∷ a) cs rs x7 e = elim x7 [ ]
+between_texts ds (Rattle.xliff.specs.Encode.closing ∷ a) cs rs x7 e = elim x7 [ ]
+between_texts ds (Rattle.xliff.specs.Encode.part_head _ ∷ a) cs rs x9 e = elim x9 [ ]
+between_texts ds (Rattle.xliff.specs.Encode.target_head _ ∷ a) cs rs x10 e = elim x10 [ ]
+between_texts ds (text_run _ ∷ a) cs rs x11 e = elim x11 [ ]
+between_texts ds (Rattle.xliff.specs.Encode.ill_text ∷ a) cs rs x11 e = elim x11 [ ]
+between_texts ds (Rattle.xliff.specs.Encode.broken _ ∷ a) cs rs x13 e = elim x13 [ ]
 between_texts ds (inline x ∷ a) cs rs (kept_item g k) e = last_append is_text (map text ds) x (items a) ∙ e
 
 before_text : (b : Bool) (a : List Record) (cs : List ℕ) (rs : List Record) → Kept b (a ++ (text_run cs ∷ rs))
     → last_is is_text (items a) ≡ false
 unfolding last_is reading take_record
 before_text b [] cs rs k = refl
+before_text b (Rattle.xliff.specs.Encode.opening _ ∷ a) cs rs k = elim k [ ]
+before_text b (Rattle.xliff.specs.Encode.closing ∷ a) cs rs k = elim k [ ]
+before_text b (Rattle.xliff.specs.Encode.part_head _ ∷ a) cs rs k = elim k [ ]
+before_text b (Rattle.xliff.specs.Encode.target_head _ ∷ a) cs rs k = elim k [ ]
+before_text b (Rattle.xliff.specs.Encode.ill_text ∷ a) cs rs k = elim k [ ]
+before_text b (Rattle.xliff.specs.Encode.broken _ ∷ a) cs rs k = elim k [ ]
 before_text b (inline x ∷ a) cs rs (kept_item g k) =
     last_cons is_text x (items a) (not_text x g) (before_text false a cs rs k)
 before_text b (text_run ds ∷ a) cs rs (kept_text h l k) = between_texts ds a cs rs k (before_text true a cs rs k)
@@ -95,6 +109,12 @@ between_records k a r rs kept e =
   where
     by : (r : Record) (b : Bool) → Kept b (r ∷ rs) → Kept false (a ++ (r ∷ rs))
         → first_is is_accent_item (items (r ∷ rs)) && last_is is_text (items a) ≡ false
+    by (Rattle.xliff.specs.Encode.opening _) b x3 kept = elim x3 [ ]
+    by Rattle.xliff.specs.Encode.closing b x3 kept = elim x3 [ ]
+    by (Rattle.xliff.specs.Encode.part_head _) b x5 kept = elim x5 [ ]
+    by (Rattle.xliff.specs.Encode.target_head _) b x6 kept = elim x6 [ ]
+    by Rattle.xliff.specs.Encode.ill_text b x6 kept = elim x6 [ ]
+    by (Rattle.xliff.specs.Encode.broken _) b x8 kept = elim x8 [ ]
     by (inline x) b (kept_item g k) kept = ap (λ (z : Bool). z && last_is is_text (items a)) (not_accent x g)
     by (text_run cs) b (kept_text h l k) kept =
         ap (λ (z : Bool). first_is is_accent_item (items (text_run cs ∷ rs)) && z) (before_text false a cs rs kept)

@@ -14,13 +14,13 @@ use Rattle.xliff.specs.Parse.{is}
 use Rattle.xliff.specs.Check.{Valid}
 use Rattle.xliff.specs.Calls.{Call, SP, JN, ST, RT, RW, outcome, left, after, answers, Given, AllGiven, no_call, one_call}
 use Rattle.xliff.specs.Desk.{Request, lent, asked, request, line, table_line, table_length, answer_requests, desk_job, desk, most_job}
-use Rattle.xliff.specs.BothEnds.{Demand-3}
+use Rattle.xliff.specs.BothEnds.{Demand3}
 use Rattle.xliff.proofs.lists.Tests.{byte_at}
 use Rattle.xliff.proofs.unit.Table.{bytes_drop}
 use Rattle.xliff.proofs.both_ends.Demand3.{both_ends}
 use Rattle.table.proofs.WidthLaws.{bytes_known}
 use Rattle.part_at.proofs.HoldLaws.{bytes_take}
-use Rattle.both_ends.specs.Received.{job_of, sent, calls_from, calls, unreadable_from, unreadable, Meets, Demand-3_of_the_program}
+use Rattle.both_ends.specs.Received.{job_of, sent, calls_from, calls, unreadable_from, unreadable, Meets, Demand3OfTheProgram}
 
 two_small : (s : List ℕ) (i : ℕ) → Bytes s → two_at s i < 65536
 unfolding two_at
@@ -104,8 +104,8 @@ desk_prints input v =
     (drop (table_length (take most_job input)) (take most_job input)))
 
 -- DEMAND 3, OF THE PROGRAM
-pub program_both_ends : Demand-3_of_the_program
-unfolding Demand-3 Demand-3_of_the_program
+pub program_both_ends : Demand3OfTheProgram
+unfolding Demand3 Demand3OfTheProgram
 program_both_ends input h v =
     record {
       prints = desk_prints input v;
@@ -113,5 +113,5 @@ program_both_ends input h v =
     }
 
 pub input_meets : (input : List ℕ) → ((i : ℕ) → Fits w8 (get_or input i 0)) → Meets input
-unfolding Demand-3_of_the_program Meets
+unfolding Demand3OfTheProgram Meets
 input_meets input h = program_both_ends input (bytes_known input h)

@@ -44,8 +44,8 @@ pub record Received (input : List ℕ) : Type 0 where
   pub both_ends : BothEnds (sent (job_of input)) (calls (job_of input))
 
 -- For every input of bytes whose table is valid
-unfoldable pub Demand-3_of_the_program : Type 0
-Demand-3_of_the_program = (input : List ℕ) → Bytes input → Valid (sent (job_of input)) → Received input
+unfoldable pub Demand3OfTheProgram : Type 0
+Demand3OfTheProgram = (input : List ℕ) → Bytes input → Valid (sent (job_of input)) → Received input
 
 -- the same of one input, whose bytes the program has read
 unfoldable pub Meets : List ℕ → Type 0

@@ -3,13 +3,13 @@
 use Prim.Native.Nat.{ℕ, ◌+◌}
 use native.Mathlib.Omega.{arith}
 use mathlib.Core.Path.{◌≡◌, refl, sym, ap, ◌∙◌, subst}
-use mathlib.Core.Bool.{Bool, ◌&&◌}
+use mathlib.Core.Bool.{◌&&◌}
 use mathlib.Core.List.{List, [], ◌∷◌, ◌++◌}
 use Rattle.xliff.specs.Bytes.{Bytes}
 use Rattle.xliff.specs.Check.{Valid}
 use Rattle.xliff.specs.Calls as calls
 use Rattle.xliff.specs.Calls.{Call, left, after, one_if, Kind, a_split, a_join, a_setting, a_removal, count_accepted, AllGiven}
-use Rattle.xliff.specs.BothEnds.{Shared, BothEnds, Demand-3}
+use Rattle.xliff.specs.BothEnds.{Shared, BothEnds, Demand3}
 use Rattle.xliff.proofs.both_ends.Lists.{done}
 use Rattle.xliff.proofs.both_ends.Demand3.{both_ends}
 use Rattle.call_lists.specs.Lists.{AllGivenBy, no_call, one_call, Desk, call_desk, after_list, count_list, SharedBy, all_made}
@@ -111,7 +111,7 @@ module _ {S C : Type 0} (d : Desk S C) (made : S → C → List Call) (Inv : S �
   -- DEMAND 3 for the desk
   pub shared : Leaves → Counts → MadeGiven → (s : S) (cs : List C) → Inv s → Bytes (d.table s)
       → AllGivenBy Given cs → Valid (d.table s) → SharedBy d s cs
-  unfolding SharedBy Demand-3
+  unfolding SharedBy Demand3
   shared l n h s cs i b g v =
       shared_as (same_table l s cs i g) (same_counts l n a_split s cs i g) (same_counts l n a_join s cs i g)
       (same_counts l n a_setting s cs i g) (same_counts l n a_removal s cs i g)

@@ -51,6 +51,12 @@ code_width (annotation_end w i) h = absurd (let y : ⊥ = omega arith in y)
 
 -- a record that is a code has twelve bytes
 pub code_long : (r : Record) (s : List ℕ) → Inline r → 1 ≤ code_at (record_bytes r ++ s) → length (record_bytes r) ≡ 12
+code_long (Rattle.xliff.specs.Encode.opening _) s x3 h = elim x3 [ ]
+code_long Rattle.xliff.specs.Encode.closing s x3 h = elim x3 [ ]
+code_long (Rattle.xliff.specs.Encode.part_head _) s x5 h = elim x5 [ ]
+code_long (Rattle.xliff.specs.Encode.target_head _) s x6 h = elim x6 [ ]
+code_long Rattle.xliff.specs.Encode.ill_text s x6 h = elim x6 [ ]
+code_long (Rattle.xliff.specs.Encode.broken _) s x8 h = elim x8 [ ]
 code_long (inline x) s (an_item g) h = code_width x (let e = item_code s x g in omega arith)
 code_long (text_run cs) s (a_text a l) h = absurd (let e = text_code s cs in let y : ⊥ = omega arith in y)
 

@@ -91,6 +91,12 @@ fixed_texts (c ∷ cs) ys = fixed_texts cs ys
 first_off : (r : Record) (rs : List Record) (s : List ℕ) → Inline r → fixed_at (record_bytes r ++ s) ≡ false
     → fixed_list (items (r ∷ rs)) ≡ fixed_list (items rs)
 unfolding fixed_list keep reading take_record
+first_off (Rattle.xliff.specs.Encode.opening _) rs s x3 e = elim x3 [ ]
+first_off Rattle.xliff.specs.Encode.closing rs s x3 e = elim x3 [ ]
+first_off (Rattle.xliff.specs.Encode.part_head _) rs s x5 e = elim x5 [ ]
+first_off (Rattle.xliff.specs.Encode.target_head _) rs s x6 e = elim x6 [ ]
+first_off Rattle.xliff.specs.Encode.ill_text rs s x6 e = elim x6 [ ]
+first_off (Rattle.xliff.specs.Encode.broken _) rs s x8 e = elim x8 [ ]
 first_off (inline x) rs s (an_item g) e = rw (sym (item_fixed s x g) ∙ e)
 first_off (text_run cs) rs s (a_text a l) e = fixed_texts cs (items rs)
 
@@ -112,6 +118,12 @@ fixed_read s x g f i =
 first_on : (r : Record) (rs : List Record) (s : List ℕ) → Inline r → fixed_at (record_bytes r ++ s) ≡ true
     → fixed_list (items (r ∷ rs)) ≡ fixed_here (record_bytes r ++ s) ∷ fixed_list (items rs)
 unfolding reading take_record
+first_on (Rattle.xliff.specs.Encode.opening _) rs s x3 e = elim x3 [ ]
+first_on Rattle.xliff.specs.Encode.closing rs s x3 e = elim x3 [ ]
+first_on (Rattle.xliff.specs.Encode.part_head _) rs s x5 e = elim x5 [ ]
+first_on (Rattle.xliff.specs.Encode.target_head _) rs s x6 e = elim x6 [ ]
+first_on Rattle.xliff.specs.Encode.ill_text rs s x6 e = elim x6 [ ]
+first_on (Rattle.xliff.specs.Encode.broken _) rs s x8 e = elim x8 [ ]
 first_on (inline x) rs s (an_item g) e =
     let f : is_fixed x ≡ true = sym (item_fixed s x g) ∙ e in
     fixed_item x (items rs) f ∙ ap (λ (k : FixedCode). k ∷ fixed_list (items rs)) (sym (fixed_read s x g f))

@@ -1,5 +1,5 @@
 -- For callers: which bytes hold a content. A content whose records are good, and bytes that pass the content rules.
-use Prim.Native.Nat.{ℕ, ◌+◌, ◌<◌}
+use Prim.Native.Nat.{ℕ, ◌<◌}
 use mathlib.Core.Path.{◌≡◌, sym, ◌∙◌, subst}
 use mathlib.Core.Bool.{true, false}
 use mathlib.Core.List.{List, [], ◌∷◌, ◌++◌, append-nil}
@@ -24,6 +24,12 @@ data Only : List Record → Type 0 where
 only_before : (c : ℕ) (rs : List Record) → Only rs → Only (text_before c rs)
 unfolding text_before
 only_before c [] only_end = only_text only_end
+only_before c (Rattle.xliff.specs.Encode.opening _ ∷ rs) x4 = elim x4 [ ]
+only_before c (Rattle.xliff.specs.Encode.closing ∷ rs) x4 = elim x4 [ ]
+only_before c (Rattle.xliff.specs.Encode.part_head _ ∷ rs) x6 = elim x6 [ ]
+only_before c (Rattle.xliff.specs.Encode.target_head _ ∷ rs) x7 = elim x7 [ ]
+only_before c (Rattle.xliff.specs.Encode.ill_text ∷ rs) x7 = elim x7 [ ]
+only_before c (Rattle.xliff.specs.Encode.broken _ ∷ rs) x9 = elim x9 [ ]
 only_before c (inline x ∷ rs) (only_item o) = only_text (only_item o)
 only_before c (text_run cs ∷ rs) (only_text o) = only_text o
 
@@ -55,6 +61,12 @@ short_text cs s (one_byte p (one_byte q (one_byte r h))) = omega arith
 fine : (rs : List Record) → Only rs → AllGood rs → Bytes (spell rs) → Fine rs
 unfolding spell gather
 fine [] only_end each_nil h = fine_end
+fine (Rattle.xliff.specs.Encode.opening _ ∷ rs) x7 _ h = elim x7 [ ]
+fine (Rattle.xliff.specs.Encode.closing ∷ rs) x7 _ h = elim x7 [ ]
+fine (Rattle.xliff.specs.Encode.part_head _ ∷ rs) x9 _ h = elim x9 [ ]
+fine (Rattle.xliff.specs.Encode.target_head _ ∷ rs) x10 _ h = elim x10 [ ]
+fine (Rattle.xliff.specs.Encode.ill_text ∷ rs) x10 _ h = elim x10 [ ]
+fine (Rattle.xliff.specs.Encode.broken _ ∷ rs) x12 _ h = elim x12 [ ]
 fine (inline x ∷ rs) (only_item o) (each_cons g a) h = fine_item g (fine rs o a (bytes_behind (record_bytes (inline x)) (spell rs) h))
 fine (text_run cs ∷ rs) (only_text o) (each_cons g a) h =
     fine_text g (short_text cs (spell rs) h) (fine rs o a (bytes_behind (record_bytes (text_run cs)) (spell rs) h))
@@ -69,6 +81,12 @@ behind cs rs (kept_text b m k) = k
 kept_before : (c : ℕ) (rs : List Record) → Only rs → Fine (text_before c rs) → (Fine rs → Kept false rs) → Kept false (text_before c rs)
 unfolding text_before utf8s gather
 kept_before c [] only_end (fine_text a l f) ih = kept_text a l kept_end
+kept_before c (Rattle.xliff.specs.Encode.opening _ ∷ rs) x7 _ ih = elim x7 [ ]
+kept_before c (Rattle.xliff.specs.Encode.closing ∷ rs) x7 _ ih = elim x7 [ ]
+kept_before c (Rattle.xliff.specs.Encode.part_head _ ∷ rs) x9 _ ih = elim x9 [ ]
+kept_before c (Rattle.xliff.specs.Encode.target_head _ ∷ rs) x10 _ ih = elim x10 [ ]
+kept_before c (Rattle.xliff.specs.Encode.ill_text ∷ rs) x10 _ ih = elim x10 [ ]
+kept_before c (Rattle.xliff.specs.Encode.broken _ ∷ rs) x12 _ ih = elim x12 [ ]
 kept_before c (inline x ∷ rs) (only_item o) (fine_text a l f) ih = kept_text a l (again x rs (ih f))
 kept_before c (text_run cs ∷ rs) (only_text o) (fine_text (one_point p a) l f) ih =
     kept_text (one_point p a) l

@@ -140,6 +140,12 @@ text_stays cs ys = rw (no_other _ ys)
 cut_one : (r : Record) (ys : Content) → Inline r
     → turn_if (has_other (kind_at (record_bytes r)) (number (record_bytes r)) ys) (record_bytes r) ≡ record_bytes (cut_record ys r)
 unfolding cut_item
+cut_one (Rattle.xliff.specs.Encode.opening _) ys x'' = elim x'' [ ]
+cut_one Rattle.xliff.specs.Encode.closing ys x'' = elim x'' [ ]
+cut_one (Rattle.xliff.specs.Encode.part_head _) ys x4 = elim x4 [ ]
+cut_one (Rattle.xliff.specs.Encode.target_head _) ys x5 = elim x5 [ ]
+cut_one Rattle.xliff.specs.Encode.ill_text ys x5 = elim x5 [ ]
+cut_one (Rattle.xliff.specs.Encode.broken _) ys x7 = elim x7 [ ]
 cut_one (inline x) ys (an_item g) =
     ap (λ (b : Bool). turn_if b (record_bytes (inline x)))
     (ap (λ (l : List ℕ). has_other (kind_at l) (number l) ys) (sym (append-nil (record_bytes (inline x)))) ∙ turn_is x [] ys g)
@@ -161,6 +167,12 @@ cut_written r qs t o l m k i b g e mark kind id turn out =
 
 pub cut_length : (r : Record) (ys : Content) → Inline r → length (record_bytes (cut_record ys r)) ≡ length (record_bytes r)
 unfolding cut_item
+cut_length (Rattle.xliff.specs.Encode.opening _) ys x'' = elim x'' [ ]
+cut_length Rattle.xliff.specs.Encode.closing ys x'' = elim x'' [ ]
+cut_length (Rattle.xliff.specs.Encode.part_head _) ys x4 = elim x4 [ ]
+cut_length (Rattle.xliff.specs.Encode.target_head _) ys x5 = elim x5 [ ]
+cut_length Rattle.xliff.specs.Encode.ill_text ys x5 = elim x5 [ ]
+cut_length (Rattle.xliff.specs.Encode.broken _) ys x7 = elim x7 [ ]
 cut_length (inline x) ys (an_item g) = item_long form_S (any (other_half x) ys) x
 cut_length (text_run cs) ys (a_text a l) = refl
 
@@ -175,6 +187,12 @@ cut_good x ys g = by (any (other_half x) ys)
 
 pub cut_kept : (b : Bool) (ys : Content) (rs : List Record) → Kept b rs → Kept b (cut_records ys rs)
 cut_kept b ys [] k = kept_end
+cut_kept b ys (Rattle.xliff.specs.Encode.opening _ ∷ rs) k = elim k [ ]
+cut_kept b ys (Rattle.xliff.specs.Encode.closing ∷ rs) k = elim k [ ]
+cut_kept b ys (Rattle.xliff.specs.Encode.part_head _ ∷ rs) k = elim k [ ]
+cut_kept b ys (Rattle.xliff.specs.Encode.target_head _ ∷ rs) k = elim k [ ]
+cut_kept b ys (Rattle.xliff.specs.Encode.ill_text ∷ rs) k = elim k [ ]
+cut_kept b ys (Rattle.xliff.specs.Encode.broken _ ∷ rs) k = elim k [ ]
 cut_kept b ys (inline x ∷ rs) (kept_item g k) = kept_item (cut_good x ys g) (cut_kept false ys rs k)
 cut_kept b ys (text_run cs ∷ rs) (kept_text a l k) = kept_text a l (cut_kept true ys rs k)
 
@@ -193,6 +211,12 @@ cut_texts ys (c ∷ cs) xs = ap₂ ◌∷◌ (cut_text ys c) (cut_texts ys cs xs
 pub cut_items : (b : Bool) (ys : Content) (rs : List Record) → Kept b rs → items (cut_records ys rs) ≡ map (cut_item ys) (items rs)
 unfolding reading take_record
 cut_items b ys [] k = refl
+cut_items b ys (Rattle.xliff.specs.Encode.opening _ ∷ rs) k = elim k [ ]
+cut_items b ys (Rattle.xliff.specs.Encode.closing ∷ rs) k = elim k [ ]
+cut_items b ys (Rattle.xliff.specs.Encode.part_head _ ∷ rs) k = elim k [ ]
+cut_items b ys (Rattle.xliff.specs.Encode.target_head _ ∷ rs) k = elim k [ ]
+cut_items b ys (Rattle.xliff.specs.Encode.ill_text ∷ rs) k = elim k [ ]
+cut_items b ys (Rattle.xliff.specs.Encode.broken _ ∷ rs) k = elim k [ ]
 cut_items b ys (inline x ∷ rs) (kept_item g k) = ap {B = Content} (λ l. cut_item ys x ∷ l) (cut_items false ys rs k)
 cut_items b ys (text_run cs ∷ rs) (kept_text a l k) =
     ap (λ (l : Content). map text cs ++ l) (cut_items true ys rs k) ∙ sym (cut_texts ys cs (items rs))
@@ -200,6 +224,13 @@ cut_items b ys (text_run cs ∷ rs) (kept_text a l k) =
 no_text_first : (rs : List Record) → Kept true rs → starts_text rs ≡ false
 unfolding starts_text
 no_text_first [] k = refl
+no_text_first (Rattle.xliff.specs.Encode.opening _ ∷ rs) k = elim k [ ]
+no_text_first (Rattle.xliff.specs.Encode.closing ∷ rs) k = elim k [ ]
+no_text_first (Rattle.xliff.specs.Encode.part_head _ ∷ rs) k = elim k [ ]
+no_text_first (Rattle.xliff.specs.Encode.target_head _ ∷ rs) k = elim k [ ]
+no_text_first (text_run _ ∷ rs) k = elim k [ ]
+no_text_first (Rattle.xliff.specs.Encode.ill_text ∷ rs) k = elim k [ ]
+no_text_first (Rattle.xliff.specs.Encode.broken _ ∷ rs) k = elim k [ ]
 no_text_first (inline x ∷ rs) (kept_item g k) = refl
 
 item_alone : (x : Item) (rs : List Record) → GoodItem x → item_before x rs ≡ inline x ∷ rs
@@ -216,6 +247,13 @@ item_alone (annotation_end w i) rs g = refl
 pub kept_records : (b : Bool) (rs : List Record) → Kept b rs → content_records (items rs) ≡ rs
 unfolding content_records reading take_record
 kept_records b [] k = refl
+kept_records b (Rattle.xliff.specs.Encode.opening _ ∷ rs) k = elim k [ ]
+kept_records b (Rattle.xliff.specs.Encode.closing ∷ rs) k = elim k [ ]
+kept_records b (Rattle.xliff.specs.Encode.part_head _ ∷ rs) k = elim k [ ]
+kept_records b (Rattle.xliff.specs.Encode.target_head _ ∷ rs) k = elim k [ ]
+kept_records b (text_run [] ∷ rs) k = elim k [ ]
+kept_records b (Rattle.xliff.specs.Encode.ill_text ∷ rs) k = elim k [ ]
+kept_records b (Rattle.xliff.specs.Encode.broken _ ∷ rs) k = elim k [ ]
 kept_records b (inline x ∷ rs) (kept_item g k) = item_alone x (content_records (items rs)) g
     ∙ ap {B = List Record} (λ l. inline x ∷ l) (kept_records false rs k)
 kept_records b (text_run (d ∷ ds) ∷ rs) (kept_text a l k) =

@@ -37,6 +37,13 @@ items_of xs =
 
 pub weaken : (b : Bool) (rs : List Record) → Kept b rs → Kept false rs
 weaken true [] k = kept_end
+weaken true (Rattle.xliff.specs.Encode.opening _ ∷ rs) k = elim k [ ]
+weaken true (Rattle.xliff.specs.Encode.closing ∷ rs) k = elim k [ ]
+weaken true (Rattle.xliff.specs.Encode.part_head _ ∷ rs) k = elim k [ ]
+weaken true (Rattle.xliff.specs.Encode.target_head _ ∷ rs) k = elim k [ ]
+weaken true (text_run _ ∷ rs) k = elim k [ ]
+weaken true (Rattle.xliff.specs.Encode.ill_text ∷ rs) k = elim k [ ]
+weaken true (Rattle.xliff.specs.Encode.broken _ ∷ rs) k = elim k [ ]
 weaken true (inline x ∷ rs) (kept_item g k) = kept_item g k
 weaken false rs k = k
 
@@ -100,6 +107,12 @@ pub record TextKept (cs : List ℕ) (rs : List Record) : Type 0 where
 text_kept : (b : Bool) (us : List Record) (cs : List ℕ) (rs : List Record) → Kept b (us ++ (text_run cs ∷ rs))
     → TextKept cs rs
 text_kept b [] cs rs (kept_text a l k) = record { allowed = a; small = l; others = k }
+text_kept b (Rattle.xliff.specs.Encode.opening _ ∷ us) cs rs x4 = elim x4 [ ]
+text_kept b (Rattle.xliff.specs.Encode.closing ∷ us) cs rs x4 = elim x4 [ ]
+text_kept b (Rattle.xliff.specs.Encode.part_head _ ∷ us) cs rs x6 = elim x6 [ ]
+text_kept b (Rattle.xliff.specs.Encode.target_head _ ∷ us) cs rs x7 = elim x7 [ ]
+text_kept b (Rattle.xliff.specs.Encode.ill_text ∷ us) cs rs x7 = elim x7 [ ]
+text_kept b (Rattle.xliff.specs.Encode.broken _ ∷ us) cs rs x9 = elim x9 [ ]
 text_kept b (inline x ∷ us) cs rs (kept_item g k) = text_kept false us cs rs k
 text_kept b (text_run ds ∷ us) cs rs (kept_text a l k) = text_kept true us cs rs k
 
@@ -108,6 +121,12 @@ text_instead : (b : Bool) (us : List Record) (cs : List ℕ) (rs : List Record) 
     → Kept b (us ++ (text_run cs ∷ rs)) → Allowed (e ∷ es) → length (utf8s (e ∷ es)) < 65536
     → Kept b (us ++ (text_run (e ∷ es) ∷ []))
 text_instead b [] cs rs e es (kept_text a l k) p q = kept_text p q kept_end
+text_instead b (Rattle.xliff.specs.Encode.opening _ ∷ us) cs rs e es x6 p q = elim x6 [ ]
+text_instead b (Rattle.xliff.specs.Encode.closing ∷ us) cs rs e es x6 p q = elim x6 [ ]
+text_instead b (Rattle.xliff.specs.Encode.part_head _ ∷ us) cs rs e es x8 p q = elim x8 [ ]
+text_instead b (Rattle.xliff.specs.Encode.target_head _ ∷ us) cs rs e es x9 p q = elim x9 [ ]
+text_instead b (Rattle.xliff.specs.Encode.ill_text ∷ us) cs rs e es x9 p q = elim x9 [ ]
+text_instead b (Rattle.xliff.specs.Encode.broken _ ∷ us) cs rs e es x11 p q = elim x11 [ ]
 text_instead b (inline x ∷ us) cs rs e es (kept_item g k) p q = kept_item g (text_instead false us cs rs e es k p q)
 text_instead b (text_run ds ∷ us) cs rs e es (kept_text a l k) p q =
     kept_text a l (text_instead true us cs rs e es k p q)
@@ -381,6 +400,12 @@ cut_size : (b : Bool) (ys : Content) (rs : List Record) → Kept b rs
     → length (spell (cut_records ys rs)) ≡ length (spell rs)
 unfolding spell gather
 cut_size b ys [] k = refl
+cut_size b ys (Rattle.xliff.specs.Encode.opening _ ∷ rs) k = elim k [ ]
+cut_size b ys (Rattle.xliff.specs.Encode.closing ∷ rs) k = elim k [ ]
+cut_size b ys (Rattle.xliff.specs.Encode.part_head _ ∷ rs) k = elim k [ ]
+cut_size b ys (Rattle.xliff.specs.Encode.target_head _ ∷ rs) k = elim k [ ]
+cut_size b ys (Rattle.xliff.specs.Encode.ill_text ∷ rs) k = elim k [ ]
+cut_size b ys (Rattle.xliff.specs.Encode.broken _ ∷ rs) k = elim k [ ]
 cut_size b ys (inline x ∷ rs) (kept_item g k) =
     length-append (record_bytes (inline (cut_item ys x))) (spell (cut_records ys rs))
     ∙ ap₂ ◌+◌ (cut_length (inline x) ys (an_item g)) (cut_size false ys rs k)

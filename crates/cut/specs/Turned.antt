@@ -1,6 +1,6 @@
 -- The marks of start and end for those of pc and mrk. Stepping stones: `cut_one` (proofs/CutLaws) ties them to the
 -- specification's `cut_item`.
-use Rattle.std.specs.Prelude.{ℕ, ◌+◌, ◌≡◌, Bool, cond, List, [], ◌∷◌, ◌++◌, map, length}
+use Rattle.std.specs.Prelude.{ℕ, ◌≡◌, Bool, cond, List, [], ◌∷◌, ◌++◌, map, length}
 use Rattle.xliff.specs.Bytes.{'C', 'E', 'M', 'S', 'T', 'X', two}
 use Rattle.xliff.specs.Item.{Content}
 use Rattle.xliff.specs.Encode.{Record, opening, closing, part_head, target_head, text_run, inline, ill_text, broken, record_bytes, spell}

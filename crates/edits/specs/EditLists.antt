@@ -74,12 +74,12 @@ pub record SameAsSettings (s : Editing) (calls : List GrantedEditCall) : Type 0 
   pub table : (after_list edit_desk s calls).table ≡ after s.table (edit_calls s calls)
   pub counts : (k : Kind) → count_list edit_desk k s calls ≡ count_accepted k s.table (edit_calls s calls)
 
-unfoldable pub Edits-made : Type 0
-Edits-made = (s : Editing) (calls : List GrantedEditCall) → SameAsSettings s calls
+unfoldable pub EditsMade : Type 0
+EditsMade = (s : Editing) (calls : List GrantedEditCall) → SameAsSettings s calls
 
 -- demand 3 for lists of calls with edits, each with its own grant, whatever the edit is at first
-unfoldable pub Demand-3_edits : Type 0
-Demand-3_edits =
+unfoldable pub Demand3Edits : Type 0
+Demand3Edits =
     (s : Editing) (calls : List GrantedEditCall) → Bytes s.table → AllGivenBy GivenGrantedEdit calls
     → Valid s.table → SharedBy edit_desk s calls
 

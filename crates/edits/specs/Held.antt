@@ -64,8 +64,8 @@ pub record Follows (s : Editing) (cs : List GrantedEditCall) (was : Part) : Type
   pub held : Held (count_list edit_desk a_rewriting s cs) was now
 
 -- an edit that is open on a part, and a list in which it stays open
-unfoldable pub Edit-follows : Type 0
-Edit-follows =
+unfoldable pub EditFollows : Type 0
+EditFollows =
     (s : Editing) (cs : List GrantedEditCall) (p : Part) → Bytes s.table → AllGivenBy GivenGrantedEdit cs
     → Valid s.table → part_at s.table s.edit ≡ some p → StaysOpen s cs → Follows s cs p
 
@@ -78,12 +78,12 @@ pub record Opened (s : Editing) (g : Grant) (n : ℕ) : Type 0 where
   pub there : part_at s.table n ≡ some part
   pub left : edit_left s (open_call g n) ≡ record { table = s.table; edit = n }
 
-unfoldable pub Open-stands : Type 0
-Open-stands = (s : Editing) (g : Grant) (n : ℕ) → edit_accepts s (open_call g n) ≡ true → Opened s g n
+unfoldable pub OpenStands : Type 0
+OpenStands = (s : Editing) (g : Grant) (n : ℕ) → edit_accepts s (open_call g n) ≡ true → Opened s g n
 
 -- from the opening on
-unfoldable pub Held-since_open : Type 0
-Held-since_open =
+unfoldable pub HeldSinceOpen : Type 0
+HeldSinceOpen =
     (s : Editing) (g : Grant) (n : ℕ) (cs : List GrantedEditCall) (p : Part) → Bytes s.table
     → AllGivenBy GivenGrantedEdit cs → Valid s.table → edit_accepts s (open_call g n) ≡ true
     → part_at s.table n ≡ some p → StaysOpen (edit_left s (open_call g n)) cs

@@ -6,7 +6,7 @@ use mathlib.Core.List.{List}
 use mathlib.Core.Option.{Option, none, some}
 use lib.ListN.{length}
 use lib.Dec.{eqb}
-use Rattle.xliff.specs.Answer.{Refusal, refusal, applies, ◌then◌, Outcome, refuse}
+use Rattle.xliff.specs.Answer.{Refusal, refusal, applies, ◌then◌, refuse}
 use Rattle.xliff.specs.Check.{table_refusal}
 use Rattle.xliff.specs.Calls.{Call}
 use Rattle.xliff.specs.Desk as desk

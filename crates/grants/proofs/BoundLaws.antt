@@ -2,14 +2,13 @@
 use Prim.Native.Nat.{ℕ, suc, ◌+◌}
 use native.Mathlib.Omega.{arith}
 use mathlib.Core.Path.{◌≡◌, refl, sym, ap, ◌∙◌, subst}
-use mathlib.Core.Bool.{Bool, true, false, not, ◌&&◌, ◌||◌, cond, true≢false, false≢true}
+use mathlib.Core.Bool.{Bool, true, false, not, ◌||◌, cond, true≢false, false≢true}
 use mathlib.Core.List.{List, [], ◌∷◌, ◌++◌, map}
-use mathlib.Core.Option.{Option, none, some}
 use lib.ListN.{length}
 use lib.Dec.{eqb}
 use Rattle.xliff.specs.Bytes.{'S', 'T', Bytes, among, any}
-use Rattle.xliff.specs.Answer.{Refusal, applies, ◌then◌, Outcome, result, refuse, next_table}
-use Rattle.xliff.specs.Item.{Item, Content, Form}
+use Rattle.xliff.specs.Answer.{Outcome, result, refuse, next_table}
+use Rattle.xliff.specs.Item.{Content, Form}
 use Rattle.xliff.specs.Unit.{Target, no_target, target, Part, XliffUnit, target_items}
 use Rattle.xliff.specs.Parse.{unit, content}
 use Rattle.xliff.specs.Rules.{half_of_id}
@@ -25,9 +24,9 @@ use Rattle.xliff.proofs.operations.Rewrite.{half_bit, halves, untouched}
 use Rattle.xliff.proofs.operations.SetValid.{set_accepted}
 use Rattle.xliff.proofs.operations.RemoveValid.{remove_accepted}
 use Rattle.xliff.proofs.operations.RewriteValid.{rewrite_accepted}
-use Rattle.grants.specs.Grant.{Role, translator, reviewer, engineer, other_role, is_engineer, Grant, within, is_whole, halves_within, whole_granted, rewrite_granted, granted, GrantedCall, granted_outcome}
+use Rattle.grants.specs.Grant.{Role, translator, reviewer, engineer, other_role, is_engineer, Grant, within, is_whole, halves_within, whole_granted, rewrite_granted, granted, granted_outcome}
 use Rattle.grants.specs.GrantedLists.{GivenGranted}
-use Rattle.grants.specs.Bound.{SameOutside, no_parts, granted_part, same_part, Grant-binds}
+use Rattle.grants.specs.Bound.{SameOutside, no_parts, granted_part, same_part, GrantBinds}
 use Rattle.grants.proofs.OutcomeLaws.{granted_own, ungranted_refused}
 
 all_same : (g : Grant) (n : ℕ) (ps : List Part) → SameOutside g n ps ps
@@ -152,8 +151,8 @@ bound_result g t (RW side i w room) r b d e h k =
         and_right (is_whole (find_whole i (side_sequence side (unit t).parts))) _
         (and_right (among side ('S' ∷ 'T' ∷ [])) _ (by g.role e h))
 
-pub grant_binds : Grant-binds
-unfolding Grant-binds next_table
+pub grant_binds : GrantBinds
+unfolding GrantBinds next_table
 grant_binds t c b d e = by (granted g t c.call) refl
   where
     g : Grant

@@ -6,28 +6,26 @@ use mathlib.Core.Logic.{◌⊎◌, inl, inr}
 use mathlib.Core.Bool.{Bool, true, false, cond}
 use mathlib.Core.List.Memᴰ
 use mathlib.Core.List.{List, [], ◌∷◌, ◌++◌, Memᴰ}
-use mathlib.Core.Option.{Option, none, some}
+use mathlib.Core.Option.{none, some}
 use lib.ListN.{length}
 use lib.Dec.{eqb}
 use borrow.Author.Tests.{eqb-true, eqb-false, eq-eqb}
-use Rattle.xliff.specs.Bytes.{'S', Bytes, keep, gather}
+use Rattle.xliff.specs.Bytes.{'S', keep, gather}
 use Rattle.xliff.specs.Item.{Item, Content, Half}
 use Rattle.xliff.specs.Unit.{Target, no_target, target, Part, target_items, source_sequence, of_order, target_of_order, targets, target_sequence, order_list, orders}
 use Rattle.xliff.specs.Parse.{unit}
 use Rattle.xliff.specs.Rules.{half_of_id, fault_5, fault_6, fault_6_to_10}
-use Rattle.xliff.specs.Check.{Valid}
 use Rattle.xliff.specs.Rewrite.{Whole, side_content, side_sequence, find_whole}
-use Rattle.xliff.proofs.lists.Sum.{bit}
 use Rattle.xliff.proofs.lists.Tests.{keep_append, gather_append}
 use Rattle.xliff.proofs.rules.Orders.{orders_fit, order_fits}
-use Rattle.xliff.proofs.rules.Marks.{marks, Shape, waits}
-use Rattle.xliff.proofs.rules.Six.{Rule6, rule_6_counted}
-use Rattle.xliff.proofs.rules.Seven.{Good7, bare_sequence, rule_7_good}
+use Rattle.xliff.proofs.rules.Marks.{marks, Shape}
+use Rattle.xliff.proofs.rules.Six.{rule_6_counted}
+use Rattle.xliff.proofs.rules.Seven.{Good7, rule_7_good}
 use Rattle.xliff.proofs.unit.Result.{then_left, then_right, sent}
 use Rattle.xliff.proofs.operations.SplitTarget.{fault_5_fits}
 use Rattle.xliff.proofs.operations.Rewrite as rewriting
 use Rattle.xliff.proofs.operations.Rewrite.{half_bit, halves, two_halves, found, found_two}
-use Rattle.grants.specs.Grant.{TwoHalves, Both-halves}
+use Rattle.grants.specs.Grant.{TwoHalves, BothHalves}
 
 no_half : (i : ℕ) (xs : Content) → halves i xs ≡ 0 → keep (half_of_id i) xs ≡ []
 unfolding keep
@@ -140,8 +138,8 @@ module _ (b : List Part) (p : Part) (a : List Part) (five : fault_5 (b ++ (p ∷
           mem_targets ps 0 (length ps) q (omega (arith, fits.0)) (omega (arith, fits.1))
           (mem_gather (λ r. of_order q r.target) b p a (subst (Memᴰ x) (sym there) k))
 
-pub both_halves : Both-halves
-unfolding Both-halves side_sequence side_content source_sequence fault_6_to_10
+pub both_halves : BothHalves
+unfolding BothHalves side_sequence side_content source_sequence fault_6_to_10
 both_halves t side i w b v = by (eqb side 'S') refl
   where
     ps : List Part

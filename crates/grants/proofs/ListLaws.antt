@@ -1,5 +1,5 @@
 -- Lists of calls with grants: the ungranted calls left out, and demand 3.
-use Prim.Native.Nat.{ℕ, ◌+◌}
+use Prim.Native.Nat.{ℕ}
 use native.Mathlib.Omega.{arith}
 use mathlib.Core.Path.{◌≡◌, refl, ap, ◌∙◌}
 use mathlib.Core.Bool.{Bool, true, false, ◌&&◌, cond}
@@ -10,7 +10,7 @@ use Rattle.xliff.specs.Calls.{Call, left, after, one_if, Kind, of_kind, count_ac
 use Rattle.xliff.proofs.lists.Tests.{and_false}
 use Rattle.call_lists.proofs.ListLaws.{Leaves, same_table, same_counts, shared, Any, all_any}
 use Rattle.grants.specs.Grant.{GrantedCall, granted, granted_outcome}
-use Rattle.grants.specs.GrantedLists.{GivenGranted, granted_desk, made_granted, granted_calls, Left-out, Demand-3_granted}
+use Rattle.grants.specs.GrantedLists.{GivenGranted, granted_desk, made_granted, granted_calls, LeftOut, Demand3Granted}
 use Rattle.grants.proofs.OutcomeLaws.{granted_own, ungranted_refused}
 
 leaves : (t : List ℕ) (c : GrantedCall) → next_table (granted_outcome t c) t ≡ after t (made_granted t c)
@@ -45,8 +45,8 @@ given t c g = by (granted c.grant t c.call)
     by false = calls.no_call
 
 -- THE UNGRANTED CALLS LEFT OUT
-pub left_out : Left-out
-unfolding Left-out granted_calls
+pub left_out : LeftOut
+unfolding LeftOut granted_calls
 left_out t cs =
     let l : Leaves granted_desk made_granted Any Any
     = record { stays = λ s c i g. tt; table = λ s c i g. leaves s c } in
@@ -56,8 +56,8 @@ left_out t cs =
     }
 
 -- DEMAND 3
-pub both_ends_granted : Demand-3_granted
-unfolding Demand-3_granted
+pub both_ends_granted : Demand3Granted
+unfolding Demand3Granted
 both_ends_granted t cs b g v =
     shared granted_desk made_granted Any GivenGranted (record { stays = λ s c i h. tt; table = λ s c i h. leaves s c })
     (λ k s c i h. counts k s c) (λ s c i h. given s c h) t cs tt b g v

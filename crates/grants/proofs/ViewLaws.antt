@@ -1,15 +1,14 @@
 -- The view does not show what is outside the grant; an engineer's is the table.
 use Prim.Native.Nat.{ℕ, suc}
 use mathlib.Core.Path.{◌≡◌, refl, sym, ap, ap₂, ◌∙◌}
-use mathlib.Core.Bool.{Bool, true, false, cond}
+use mathlib.Core.Bool.{cond}
 use mathlib.Core.List.{List, [], ◌∷◌}
-use mathlib.Core.Option.{Option, none, some}
+use mathlib.Core.Option.{Option, none}
 use lib.ListN.{length}
 use lib.Dec.{ltb}
-use Rattle.xliff.specs.Bytes.{'I', Bytes, among}
+use Rattle.xliff.specs.Bytes.{'I', among}
 use Rattle.xliff.specs.Answer.{Refusal, applies, ◌then◌, Outcome, unless}
-use Rattle.xliff.specs.Item.{Content}
-use Rattle.xliff.specs.Unit.{Opening, Head, segment, Target, no_target, Part, XliffUnit, with_state}
+use Rattle.xliff.specs.Unit.{Opening, Head, segment, no_target, Part, XliffUnit, with_state}
 use Rattle.xliff.specs.Encode.{encode}
 use Rattle.xliff.specs.Parse.{unit, table_fault}
 use Rattle.xliff.specs.Check.{table_refusal, Valid, operation}
@@ -17,7 +16,7 @@ use Rattle.xliff.specs.Focus.{with_parts}
 use Rattle.xliff.proofs.unit.Result.{then_left, then_right}
 use Rattle.xliff.proofs.unit.Table.{encode_unit}
 use Rattle.grants.specs.Grant.{Role, engineer, Grant, part_granted, within}
-use Rattle.grants.specs.View.{hidden, shown, view_parts, view_unit, view, SameButState, two_segments, two_ignorables, DifferOutside, no_parts, inside, outside, Same-view, Engineers-view}
+use Rattle.grants.specs.View.{hidden, shown, view_parts, view_unit, view, SameButState, two_segments, two_ignorables, DifferOutside, no_parts, inside, outside, SameView, EngineersView}
 
 same_heads : (h k : Head) → SameButState h k → with_state 'I' h ≡ with_state 'I' k
 unfolding with_state
@@ -47,8 +46,8 @@ view_valid : (t : List ℕ) (g : Grant) (room : ℕ) → Valid t → view t g ro
 unfolding view Valid shown_as
 view_valid t g room v = on_valid t _ (view_unit g (unit t)) v
 
-pub same_view : Same-view
-unfolding Same-view view_unit with_parts
+pub same_view : SameView
+unfolding SameView view_unit with_parts
 same_view s t g room v w c d =
     view_valid s g room v
     ∙ ap₂ (λ (o : Opening) (ps : List Part). shown_as room (record { opening = o; parts = ps })) c
@@ -62,8 +61,8 @@ engineer_parts g e n (p ∷ ps) =
     ap₂ {C = List Part} ◌∷◌ (ap (λ (r : Role). cond (part_granted r (among n g.positions)) p (hidden p)) e)
     (engineer_parts g e (suc n) ps)
 
-pub engineers_view : Engineers-view
-unfolding Engineers-view view_unit with_parts Valid table_refusal shown_as
+pub engineers_view : EngineersView
+unfolding EngineersView view_unit with_parts Valid table_refusal shown_as
 engineers_view t g room b v e =
     let f : table_fault t ≡ none = then_left _ _ (then_right _ _ v) in
     view_valid t g room v

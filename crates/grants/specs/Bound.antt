@@ -15,7 +15,7 @@ pub data SameOutside (g : Grant) : ℕ → List Part → List Part → Type 0 wh
       → SameOutside g n (p ∷ ps) (q ∷ qs)
   same_part : (n : ℕ) (p : Part) (ps qs : List Part) → SameOutside g (suc n) ps qs → SameOutside g n (p ∷ ps) (p ∷ qs)
 
-unfoldable pub Grant-binds : Type 0
-Grant-binds =
+unfoldable pub GrantBinds : Type 0
+GrantBinds =
     (t : List ℕ) (c : GrantedCall) → Bytes t → GivenGranted c → is_engineer c.grant.role ≡ false
     → SameOutside c.grant 1 (unit t).parts (unit (next_table (granted_outcome t c) t)).parts

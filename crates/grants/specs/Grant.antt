@@ -54,7 +54,7 @@ is_whole none = false
 is_whole (some p) = true
 
 -- "and both halves stand in granted parts": of the parts from a position on, those with a half of that id on that side
--- are within the grant. (`Both-halves` below: there are no other halves of that id)
+-- are within the grant. (`BothHalves` below: there are no other halves of that id)
 unfoldable pub halves_within : Grant → ℕ → ℕ → ℕ → List Part → Bool
 halves_within g side i n [] = true
 halves_within g side i n (p ∷ ps) =
@@ -104,8 +104,8 @@ pub record TwoHalves (ps : List Part) (side i : ℕ) (w : Whole) : Type 0 where
   pub either : (b : List Part) (p : Part) (a : List Part) → ps ≡ b ++ (p ∷ a) → (x : Item)
       → Memᴰ x (side_content side p) → half_of_id i x ≡ true → (x ≡ w.start) ⊎ (x ≡ w.end)
 
-unfoldable pub Both-halves : Type 0
-Both-halves =
+unfoldable pub BothHalves : Type 0
+BothHalves =
     (t : List ℕ) (side i : ℕ) (w : Whole) → Bytes t → Valid t
     → find_whole i (side_sequence side (unit t).parts) ≡ some w → TwoHalves (unit t).parts side i w
 

@@ -33,12 +33,12 @@ pub record SameAsLeftOut (sent : List ℕ) (calls : List GrantedCall) : Type 0 w
   pub table : after_list granted_desk sent calls ≡ after sent (granted_calls sent calls)
   pub counts : (k : Kind) → count_list granted_desk k sent calls ≡ count_accepted k sent (granted_calls sent calls)
 
-unfoldable pub Left-out : Type 0
-Left-out = (sent : List ℕ) (calls : List GrantedCall) → SameAsLeftOut sent calls
+unfoldable pub LeftOut : Type 0
+LeftOut = (sent : List ℕ) (calls : List GrantedCall) → SameAsLeftOut sent calls
 
 -- "and Merger and Extractor agree as before": demand 3 for lists of calls, each with its own grant
-unfoldable pub Demand-3_granted : Type 0
-Demand-3_granted =
+unfoldable pub Demand3Granted : Type 0
+Demand3Granted =
     (sent : List ℕ) (calls : List GrantedCall) → Bytes sent → AllGivenBy GivenGranted calls → Valid sent
     → SharedBy granted_desk sent calls
 

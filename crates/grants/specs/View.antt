@@ -50,14 +50,14 @@ pub data DifferOutside (g : Grant) : ℕ → List Part → List Part → Type 0 
       → DifferOutside g n
       (record { head = h; source = xs; target = a } ∷ ps) (record { head = k; source = xs; target = b } ∷ qs)
 
-unfoldable pub Same-view : Type 0
-Same-view =
+unfoldable pub SameView : Type 0
+SameView =
     (s t : List ℕ) (g : Grant) (room : ℕ) → Valid s → Valid t → (unit s).opening ≡ (unit t).opening
     → DifferOutside g 1 (unit s).parts (unit t).parts → view s g room ≡ view t g room
 
 -- "An engineer's grant counts as every part, so that view is the whole table."
-unfoldable pub Engineers-view : Type 0
-Engineers-view =
+unfoldable pub EngineersView : Type 0
+EngineersView =
     (t : List ℕ) (g : Grant) (room : ℕ) → Bytes t → Valid t → g.role ≡ engineer
     → view t g room ≡ unless (applies 15 (ltb room (length t))) t
 

@@ -9,7 +9,6 @@ use Rattle.places.specs.Found.{found_at, head_name, no_name}
 use Rattle.table.specs.Meaning.{half, fields, item, record_meaning, meaning}
 use Rattle.keys.specs.Keys.{id_key, class_key, half_key}
 use Rattle.table.specs.declared.Fields.{Fields}
-use Rattle.table.specs.declared.Form.{Form}
 use Rattle.table.specs.declared.Half.{Half}
 use Rattle.table.specs.declared.Item.{Item}
 use Rattle.table.specs.declared.Record.{Record}

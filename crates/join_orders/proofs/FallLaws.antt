@@ -50,6 +50,12 @@ module _ (q : ℕ) where
   inner_sets : (rs : List encode.Record) → Inner rs → any (Sets q) rs ≡ false
   unfolding any
   inner_sets [] no_inner = refl
+  inner_sets (encode.opening _ ∷ rs) x4 = elim x4 [ ]
+  inner_sets (closing ∷ rs) x4 = elim x4 [ ]
+  inner_sets (encode.part_head _ ∷ rs) x6 = elim x6 [ ]
+  inner_sets (encode.target_head _ ∷ rs) x7 = elim x7 [ ]
+  inner_sets (encode.ill_text ∷ rs) x7 = elim x7 [ ]
+  inner_sets (encode.broken _ ∷ rs) x9 = elim x9 [ ]
   inner_sets (text_run cs ∷ rs) (text_inner i) = inner_sets rs i
   inner_sets (inline x ∷ rs) (inline_inner i) = inner_sets rs i
 

@@ -65,6 +65,12 @@ module _ (c : List ℕ) (rs : List Record) (at next : ℕ) (h : at < length c) (
 pub kept_last : (b : Bool) (a : List Record) (r : Record) → Kept b (a ++ (r ∷ [])) → Inline r
 kept_last b [] r (kept_item g k) = an_item g
 kept_last b [] r (kept_text a l k) = a_text a l
+kept_last b (Rattle.xliff.specs.Encode.opening _ ∷ a) r x4 = elim x4 [ ]
+kept_last b (Rattle.xliff.specs.Encode.closing ∷ a) r x4 = elim x4 [ ]
+kept_last b (Rattle.xliff.specs.Encode.part_head _ ∷ a) r x6 = elim x6 [ ]
+kept_last b (Rattle.xliff.specs.Encode.target_head _ ∷ a) r x7 = elim x7 [ ]
+kept_last b (Rattle.xliff.specs.Encode.ill_text ∷ a) r x7 = elim x7 [ ]
+kept_last b (Rattle.xliff.specs.Encode.broken _ ∷ a) r x9 = elim x9 [ ]
 kept_last b (inline x ∷ a) r (kept_item g k) = kept_last false a r k
 kept_last b (text_run cs ∷ a) r (kept_text p l k) = kept_last true a r k
 
@@ -76,6 +82,12 @@ text_marked cs s = refl
 strong : (qs : List Record) → Kept false qs → marked (spell qs) (84 ∷ 88 ∷ []) ≡ false → Kept true qs
 unfolding spell gather
 strong [] k e = kept_end
+strong (Rattle.xliff.specs.Encode.opening _ ∷ qs) k e = elim k [ ]
+strong (Rattle.xliff.specs.Encode.closing ∷ qs) k e = elim k [ ]
+strong (Rattle.xliff.specs.Encode.part_head _ ∷ qs) k e = elim k [ ]
+strong (Rattle.xliff.specs.Encode.target_head _ ∷ qs) k e = elim k [ ]
+strong (Rattle.xliff.specs.Encode.ill_text ∷ qs) k e = elim k [ ]
+strong (Rattle.xliff.specs.Encode.broken _ ∷ qs) k e = elim k [ ]
 strong (inline x ∷ qs) (kept_item g k) e = kept_item g k
 strong (text_run cs ∷ qs) (kept_text a l k) e = absurd (true≢false (sym (text_marked cs (spell qs)) ∙ e))
 
@@ -85,6 +97,12 @@ pub kept_meet : (b : Bool) (a : List Record) (r : Record) (qs : List Record) →
 unfolding record_bytes
 kept_meet b [] r qs (kept_item g k) q e = kept_item g q
 kept_meet b [] r qs (kept_text a l k) q e = kept_text a l (strong qs q e)
+kept_meet b (Rattle.xliff.specs.Encode.opening _ ∷ a) r qs x6 q e = elim x6 [ ]
+kept_meet b (Rattle.xliff.specs.Encode.closing ∷ a) r qs x6 q e = elim x6 [ ]
+kept_meet b (Rattle.xliff.specs.Encode.part_head _ ∷ a) r qs x8 q e = elim x8 [ ]
+kept_meet b (Rattle.xliff.specs.Encode.target_head _ ∷ a) r qs x9 q e = elim x9 [ ]
+kept_meet b (Rattle.xliff.specs.Encode.ill_text ∷ a) r qs x9 q e = elim x9 [ ]
+kept_meet b (Rattle.xliff.specs.Encode.broken _ ∷ a) r qs x11 q e = elim x11 [ ]
 kept_meet b (inline x ∷ a) r qs (kept_item g k) q e = kept_item g (kept_meet false a r qs k q e)
 kept_meet b (text_run cs ∷ a) r qs (kept_text p l k) q e = kept_text p l (kept_meet true a r qs k q e)
 
@@ -156,6 +174,12 @@ one_text : (b : Bool) (a : List Record) (cs ds : List ℕ) (rs : List Record) �
     → Kept false (text_run ds ∷ rs) → length (utf8s (cs ++ ds)) < 65536
     → Kept b (a ++ (text_run (cs ++ ds) ∷ rs))
 one_text b [] cs ds rs (kept_text a l k) (kept_text p m n) h = kept_text (allowed_both cs ds a p) h n
+one_text b (Rattle.xliff.specs.Encode.opening _ ∷ a) cs ds rs x7 q h = elim x7 [ ]
+one_text b (Rattle.xliff.specs.Encode.closing ∷ a) cs ds rs x7 q h = elim x7 [ ]
+one_text b (Rattle.xliff.specs.Encode.part_head _ ∷ a) cs ds rs x9 q h = elim x9 [ ]
+one_text b (Rattle.xliff.specs.Encode.target_head _ ∷ a) cs ds rs x10 q h = elim x10 [ ]
+one_text b (Rattle.xliff.specs.Encode.ill_text ∷ a) cs ds rs x10 q h = elim x10 [ ]
+one_text b (Rattle.xliff.specs.Encode.broken _ ∷ a) cs ds rs x12 q h = elim x12 [ ]
 one_text b (inline x ∷ a) cs ds rs (kept_item g k) q h = kept_item g (one_text false a cs ds rs k q h)
 one_text b (text_run es ∷ a) cs ds rs (kept_text p l k) q h = kept_text p l (one_text true a cs ds rs k q h)
 

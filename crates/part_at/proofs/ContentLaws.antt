@@ -92,10 +92,22 @@ walked_start t start inner rest a i o = record { left = inner; only = i; there =
 
 inner_first : (x : encode.Record) (rs : List encode.Record) → Inner (x ∷ rs) → is_content x ≡ true
 unfolding is_content
+inner_first (encode.opening _) rs x3 = elim x3 [ ]
+inner_first encode.closing rs x3 = elim x3 [ ]
+inner_first (encode.part_head _) rs x5 = elim x5 [ ]
+inner_first (encode.target_head _) rs x6 = elim x6 [ ]
+inner_first ill_text rs x6 = elim x6 [ ]
+inner_first (encode.broken _) rs x8 = elim x8 [ ]
 inner_first (text_run cs) rs (text_inner i) = refl
 inner_first (inline x) rs (inline_inner i) = refl
 
 inner_others : (x : encode.Record) (rs : List encode.Record) → Inner (x ∷ rs) → Inner rs
+inner_others (encode.opening _) rs x3 = elim x3 [ ]
+inner_others encode.closing rs x3 = elim x3 [ ]
+inner_others (encode.part_head _) rs x5 = elim x5 [ ]
+inner_others (encode.target_head _) rs x6 = elim x6 [ ]
+inner_others ill_text rs x6 = elim x6 [ ]
+inner_others (encode.broken _) rs x8 = elim x8 [ ]
 inner_others (text_run cs) rs (text_inner i) = i
 inner_others (inline x) rs (inline_inner i) = i
 

@@ -51,6 +51,13 @@ order_same cs (Broken b) = refl
 
 outer_begins : (rest : List encode.Record) → PartOrEnd rest → outer rest ≡ true
 unfolding outer is_content
+outer_begins mathlib.Core.List.[] x' = elim x' [ ]
+outer_begins (opening _ ∷ rs) x5 = elim x5 [ ]
+outer_begins (target_head _ ∷ rs) x6 = elim x6 [ ]
+outer_begins (text_run _ ∷ rs) x7 = elim x7 [ ]
+outer_begins (inline _ ∷ rs) x8 = elim x8 [ ]
+outer_begins (ill_text ∷ rs) x8 = elim x8 [ ]
+outer_begins (broken _ ∷ rs) x10 = elim x10 [ ]
 outer_begins (part_head h ∷ rs) part_next = refl
 outer_begins (closing ∷ rs) end_next = refl
 
@@ -67,6 +74,13 @@ module _ (t : List ℕ) (at : ℕ) (r : Read) (m : Means t at r) (w : ℕ) (wide
   target_is : (q : ℕ) → order_of r ≡ Is q → (g : Target) (rest : List encode.Record) → At t at (target_records g ++ rest) → PartOrEnd rest
       → (xs : List _) × (g ≡ target q xs)
   unfolding target_records
+  target_is q e no_target mathlib.Core.List.[] a b = elim b [ ]
+  target_is q e no_target (opening _ ∷ rs) a b = elim b [ ]
+  target_is q e no_target (target_head _ ∷ rs) a b = elim b [ ]
+  target_is q e no_target (text_run _ ∷ rs) a b = elim b [ ]
+  target_is q e no_target (inline _ ∷ rs) a b = elim b [ ]
+  target_is q e no_target (ill_text ∷ rs) a b = elim b [ ]
+  target_is q e no_target (broken _ ∷ rs) a b = elim b [ ]
   target_is q e no_target (part_head h ∷ rs) a part_next = is_not (sym (order_first (part_head h) rs a) ∙ e)
   target_is q e no_target (closing ∷ rs) a end_next = is_not (sym (order_first closing rs a) ∙ e)
   target_is q e (target k xs) rest a b = (xs, ap (λ (n : ℕ). target n xs) (is_is (sym (order_first (target_head k) (content_records xs ++ rest) a) ∙ e)))

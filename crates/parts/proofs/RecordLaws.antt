@@ -45,6 +45,10 @@ item_bare (annotation_end form_S i) g = refl
 
 pub target_marked : (r : Record) → InPart r → marked (record_bytes r) (84 ∷ 71 ∷ []) ≡ true → ATarget r
 unfolding record_bytes head_bytes
+target_marked (Rattle.xliff.specs.Encode.opening _) x3 h = elim x3 [ ]
+target_marked Rattle.xliff.specs.Encode.closing x3 h = elim x3 [ ]
+target_marked Rattle.xliff.specs.Encode.ill_text x4 h = elim x4 [ ]
+target_marked (Rattle.xliff.specs.Encode.broken _) x6 h = elim x6 [ ]
 target_marked (part_head (segment f)) (head_in g) h = absurd (true≢false (sym h))
 target_marked (part_head (ignorable i)) (head_in g) h = absurd (true≢false (sym h))
 target_marked (target_head q) (target_in l) h = record { order = q; is = refl; small = l }
@@ -53,6 +57,10 @@ target_marked (text_run cs) (text_in a l) h = absurd (true≢false (sym h))
 
 pub others_stay : (f : ℕ → ℕ) (r : Record) → InPart r → marked (record_bytes r) (84 ∷ 71 ∷ []) ≡ false → order_record f r ≡ r
 unfolding record_bytes
+others_stay f (Rattle.xliff.specs.Encode.opening _) x3 e = elim x3 [ ]
+others_stay f Rattle.xliff.specs.Encode.closing x3 e = elim x3 [ ]
+others_stay f Rattle.xliff.specs.Encode.ill_text x4 e = elim x4 [ ]
+others_stay f (Rattle.xliff.specs.Encode.broken _) x6 e = elim x6 [ ]
 others_stay f (part_head h) (head_in g) e = refl
 others_stay f (target_head q) (target_in l) e = absurd (true≢false e)
 others_stay f (inline x) (item_in g) e = refl

@@ -19,7 +19,7 @@ use Rattle.places.specs.Passes.{Passes}
 use Rattle.places.specs.Offsets.{At, Inner, no_inner, text_inner, inline_inner}
 use Rattle.places.proofs.Places.{at_start, at_next, content_inner}
 use Rattle.places.specs.Found.{found, found_at, state_after, marker, marks_found}
-use Rattle.table.specs.Meaning.{item, record_meaning, body}
+use Rattle.table.specs.Meaning.{record_meaning, body}
 use Rattle.table.specs.declared.Record.{Record}
 use Rattle.table.specs.declared.Record.TheVariants.{Unit as UnitStart, UnitEnd, Segment, Ignorable, Target as TargetRecord, Text, Inline}
 use Rattle.glance.specs.declared.Glance.{Glance}

@@ -11,7 +11,7 @@ use Rattle.xliff.specs.Bytes.{gather}
 use Rattle.xliff.specs.Item.{Item, Content}
 use Rattle.xliff.specs.Good.{each_nil, each_cons}
 use Rattle.sheet.specs.Column.{shown, shown_all, column_cells, in_row, in_next_row, fits, fill, column}
-use Rattle.sheet.specs.Claims.{joined, Within, Order-5_columns}
+use Rattle.sheet.specs.Claims.{joined, Within, Order5Columns}
 use Rattle.sheet.proofs.Columns.{fits_room, fits_not, fill_fitting, fill_next, laid, full_is, shown_cons, column_down}
 
 -- the rows after the one begun
@@ -93,8 +93,8 @@ fewest xs zs zss e (each_cons p r) =
     let a = in_room zs (joined zss) (length zss) column_cells (at_most zss r) (omega arith) p in
     subst (λ (ys : Content). suc (more column_cells ys) ≤ suc (length zss)) e (omega arith)
 
-pub order_5_columns : Order-5_columns
-unfolding Order-5_columns column
+pub order_5_columns : Order5Columns
+unfolding Order5Columns column
 order_5_columns xs =
     let l = laid column_cells xs in
     record {

@@ -8,7 +8,7 @@ use Rattle.xliff.specs.Unit.{Part, head_id, target_items}
 use Rattle.xliff.specs.Desk.{decimal}
 use Rattle.sheet.specs.Column.{column_cells, fill, column}
 use Rattle.sheet.specs.Sheet.{Row, id_cells, state_cells, later_row, later_rows, part_rows}
-use Rattle.sheet.specs.Claims.{PartOf, Order-5_parts}
+use Rattle.sheet.specs.Claims.{PartOf, Order5Parts}
 
 later_count : (ss ts : List (List ℕ)) → length (later_rows ss ts) ≡ max (length ss) (length ts)
 unfolding later_rows
@@ -83,6 +83,6 @@ part_of n p =
           (blank_later (λ (r : Row). r.state) (λ a b. refl) s.later t.later);
     }
 
-pub order_5_parts : Order-5_parts
-unfolding Order-5_parts
+pub order_5_parts : Order5Parts
+unfolding Order5Parts
 order_5_parts n p = part_of n p

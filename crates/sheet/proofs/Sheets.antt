@@ -24,7 +24,7 @@ use Rattle.xliff.proofs.both_ends.FitsKept.{table_fits}
 use Rattle.places.proofs.Places.{checked_passes}
 use Rattle.sheet.specs.Column.{shown, shown_all, column}
 use Rattle.sheet.specs.Sheet.{Row, part_rows, rows_from, sheet_rows, row_cells, row_bytes, sheet_bytes, sheet}
-use Rattle.sheet.specs.Claims.{Order-5}
+use Rattle.sheet.specs.Claims.{Order5}
 use Rattle.sheet.proofs.Columns.{rows_down, column_down}
 use Rattle.sheet.proofs.Parts.{source_of, target_of, part_of}
 use Rattle.sheet.proofs.Rows.{Roomy, part_roomy, row_79, row_columns, row_clean}
@@ -99,8 +99,8 @@ sheet_result t room s h =
     let k = ltb-false room (length (sheet_bytes (unit t))) (applies_none 15 _ (then_right (table_refusal t) _ o)) in
     (sym e, subst (λ (l : List ℕ). length l ≤ room) e k)
 
-pub order_5 : Order-5
-unfolding Order-5 sheet_rows sheet_bytes
+pub order_5 : Order5
+unfolding Order5 sheet_rows sheet_bytes
 order_5 t b v =
     record {
       cells = each_weaken row_79 (sheet_rows (unit t)) (table_roomy t b v);

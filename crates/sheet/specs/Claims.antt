@@ -80,11 +80,11 @@ pub record SheetOf (t : List ℕ) : Type 0 where
   pub bytes : (room : ℕ) (s : List ℕ) → sheet t room ≡ result s
       → (s ≡ gather (λ (r : Row). utf8s (row_cells r ++ (line_feed ∷ []))) (sheet_rows (unit t))) × (length s ≤ room)
 
-unfoldable pub Order-5_columns : Type 0
-Order-5_columns = (xs : Content) → ColumnOf xs
+unfoldable pub Order5Columns : Type 0
+Order5Columns = (xs : Content) → ColumnOf xs
 
-unfoldable pub Order-5_parts : Type 0
-Order-5_parts = (n : ℕ) (p : Part) → PartOf n p
+unfoldable pub Order5Parts : Type 0
+Order5Parts = (n : ℕ) (p : Part) → PartOf n p
 
-unfoldable pub Order-5 : Type 0
-Order-5 = (t : List ℕ) → Bytes t → Valid t → SheetOf t
+unfoldable pub Order5 : Type 0
+Order5 = (t : List ℕ) → Bytes t → Valid t → SheetOf t

@@ -8,7 +8,7 @@ use lib.ListN.{length, take, drop, length-append, drop_of_length-le}
 use lib.Seq.{take_all}
 use Rattle.xliff.specs.Bytes.{two, gather}
 use Rattle.xliff.specs.Text.{utf8s}
-use Rattle.xliff.specs.Item.{Content, text}
+use Rattle.xliff.specs.Item.{Content}
 use Rattle.xliff.specs.Unit.{Target, no_target, target, Part, target_items}
 use Rattle.xliff.specs.Encode.{Record, text_run, record_bytes, head_bytes, spell, content_records, content_bytes, target_records, part_records}
 use Rattle.xliff.specs.Parse.{reading, take_record}

@@ -5,7 +5,7 @@ use mathlib.Core.Bool.{Bool, true, false, not, ◌||◌}
 use lib.ListN.{length}
 use lib.Dec.{eqb, leb, ltb}
 use borrow.Author.Tests.{lt-ltb, le-ltb, le-leb, lt-leb, ltb-true, ltb-false, leb-true, leb-false}
-use Rattle.xliff.specs.Unit.{target, Part, target_items}
+use Rattle.xliff.specs.Unit.{Part, target_items}
 use Rattle.xliff.specs.Split.{bad_cut}
 
 -- tests turned

@@ -19,7 +19,7 @@ use Rattle.xliff.specs.Good.{Each, bytes_of}
 use Rattle.xliff.proofs.lists.Each.{each_apart}
 use Rattle.xliff.proofs.unit.Pieces.{spell_append, bytes_append}
 use Rattle.xliff.proofs.lists.Slices.{slice_long}
-use Rattle.parts.specs.Parts.{GoodPart, moved, ordered, TableOf}
+use Rattle.parts.specs.Parts.{GoodPart, moved, TableOf}
 use Rattle.parts.proofs.OrderLaws.{ordered_length}
 use Rattle.parts.proofs.TableLaws.{table_long}
 use Rattle.halves_of_part.specs.Parts.{halves}

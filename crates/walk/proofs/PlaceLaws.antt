@@ -48,6 +48,12 @@ pub record IsText (r : Record) : Type 0 where
 
 pub is_text : (r : Record) (t s : List ℕ) → Inline r → t ≡ record_bytes r ++ s → marked t (84 ∷ 88 ∷ []) ≡ true
     → IsText r
+is_text (Rattle.xliff.specs.Encode.opening _) t s x4 e m = elim x4 [ ]
+is_text Rattle.xliff.specs.Encode.closing t s x4 e m = elim x4 [ ]
+is_text (Rattle.xliff.specs.Encode.part_head _) t s x6 e m = elim x6 [ ]
+is_text (Rattle.xliff.specs.Encode.target_head _) t s x7 e m = elim x7 [ ]
+is_text Rattle.xliff.specs.Encode.ill_text t s x7 e m = elim x7 [ ]
+is_text (Rattle.xliff.specs.Encode.broken _) t s x9 e m = elim x9 [ ]
 is_text (inline x) t s (an_item g) e m =
     absurd (true≢false (sym m ∙ ap (λ (l : List ℕ). marked l (84 ∷ 88 ∷ [])) e ∙ not_marked x s g))
 is_text (text_run cs) t s (a_text a l) e m = record { points = cs; is = refl; allowed = a }
@@ -70,6 +76,12 @@ marked_text r t g e m =
 pub pass_item_lem : (r : Record) (t : List ℕ) (k : ℕ) → Inline r → t ≡ record_bytes r → marked t (84 ∷ 88 ∷ []) ≡ false
     → pass_of r k ≡ pass_item k
 unfolding record_bytes
+pass_item_lem (Rattle.xliff.specs.Encode.opening _) t k x4 e m = elim x4 [ ]
+pass_item_lem Rattle.xliff.specs.Encode.closing t k x4 e m = elim x4 [ ]
+pass_item_lem (Rattle.xliff.specs.Encode.part_head _) t k x6 e m = elim x6 [ ]
+pass_item_lem (Rattle.xliff.specs.Encode.target_head _) t k x7 e m = elim x7 [ ]
+pass_item_lem Rattle.xliff.specs.Encode.ill_text t k x7 e m = elim x7 [ ]
+pass_item_lem (Rattle.xliff.specs.Encode.broken _) t k x9 e m = elim x9 [ ]
 pass_item_lem (inline x) t k (an_item g) e m = refl
 pass_item_lem (text_run cs) t k (a_text a l) e m =
     let z : true ≡ false = ap (λ (l : List ℕ). marked l (84 ∷ 88 ∷ [])) (sym e)
@@ -79,6 +91,12 @@ pass_item_lem (text_run cs) t k (a_text a l) e m =
 pub kept_items : (b : Bool) (rs qs : List Record) → Kept b (rs ++ qs) → items (rs ++ qs) ≡ items rs ++ items qs
 unfolding reading take_record
 kept_items b [] qs k = refl
+kept_items b (Rattle.xliff.specs.Encode.opening _ ∷ rs) qs k = elim k [ ]
+kept_items b (Rattle.xliff.specs.Encode.closing ∷ rs) qs k = elim k [ ]
+kept_items b (Rattle.xliff.specs.Encode.part_head _ ∷ rs) qs k = elim k [ ]
+kept_items b (Rattle.xliff.specs.Encode.target_head _ ∷ rs) qs k = elim k [ ]
+kept_items b (Rattle.xliff.specs.Encode.ill_text ∷ rs) qs k = elim k [ ]
+kept_items b (Rattle.xliff.specs.Encode.broken _ ∷ rs) qs k = elim k [ ]
 kept_items b (inline x ∷ rs) qs (kept_item g k) = ap {B = Content} (λ l. x ∷ l) (kept_items false rs qs k)
 kept_items b (text_run cs ∷ rs) qs (kept_text a l k) =
     ap (λ (l : Content). map text cs ++ l) (kept_items true rs qs k)
@@ -137,17 +155,35 @@ passed_text cs left l e = by (ltb (length (utf8s (take left cs))) (length (utf8s
 
 passed : (r : Record) (left l : ℕ) → Inline r → pass_of r left ≡ On l → length (items (r ∷ [])) + l ≡ left
 unfolding reading take_record
+passed (Rattle.xliff.specs.Encode.opening _) left l x3 e = elim x3 [ ]
+passed Rattle.xliff.specs.Encode.closing left l x3 e = elim x3 [ ]
+passed (Rattle.xliff.specs.Encode.part_head _) left l x5 e = elim x5 [ ]
+passed (Rattle.xliff.specs.Encode.target_head _) left l x6 e = elim x6 [ ]
+passed Rattle.xliff.specs.Encode.ill_text left l x6 e = elim x6 [ ]
+passed (Rattle.xliff.specs.Encode.broken _) left l x8 e = elim x8 [ ]
 passed (inline x) left l (an_item g) e = omega (arith, passed_item left l e)
 passed (text_run cs) left l (a_text a h) e = passed_text cs left l e
 
 -- the first of two lists of kept records is kept, and the second
 pub kept_front : (b : Bool) (rs qs : List Record) → Kept b (rs ++ qs) → Kept b rs
 kept_front b [] qs k = kept_end
+kept_front b (Rattle.xliff.specs.Encode.opening _ ∷ rs) qs k = elim k [ ]
+kept_front b (Rattle.xliff.specs.Encode.closing ∷ rs) qs k = elim k [ ]
+kept_front b (Rattle.xliff.specs.Encode.part_head _ ∷ rs) qs k = elim k [ ]
+kept_front b (Rattle.xliff.specs.Encode.target_head _ ∷ rs) qs k = elim k [ ]
+kept_front b (Rattle.xliff.specs.Encode.ill_text ∷ rs) qs k = elim k [ ]
+kept_front b (Rattle.xliff.specs.Encode.broken _ ∷ rs) qs k = elim k [ ]
 kept_front b (inline x ∷ rs) qs (kept_item g k) = kept_item g (kept_front false rs qs k)
 kept_front b (text_run cs ∷ rs) qs (kept_text a l k) = kept_text a l (kept_front true rs qs k)
 
 pub kept_back : (b : Bool) (rs qs : List Record) → Kept b (rs ++ qs) → (a : Bool) × Kept a qs
 kept_back b [] qs k = (b, k)
+kept_back b (Rattle.xliff.specs.Encode.opening _ ∷ rs) qs k = elim k [ ]
+kept_back b (Rattle.xliff.specs.Encode.closing ∷ rs) qs k = elim k [ ]
+kept_back b (Rattle.xliff.specs.Encode.part_head _ ∷ rs) qs k = elim k [ ]
+kept_back b (Rattle.xliff.specs.Encode.target_head _ ∷ rs) qs k = elim k [ ]
+kept_back b (Rattle.xliff.specs.Encode.ill_text ∷ rs) qs k = elim k [ ]
+kept_back b (Rattle.xliff.specs.Encode.broken _ ∷ rs) qs k = elim k [ ]
 kept_back b (inline x ∷ rs) qs (kept_item g k) = kept_back false rs qs k
 kept_back b (text_run cs ∷ rs) qs (kept_text a l k) = kept_back true rs qs k
 
@@ -211,6 +247,12 @@ stopped_text k n cs rs left into h e = by (ltb (length (utf8s (take left cs))) (
 stopped : (k n : ℕ) (r : Record) (rs : List Record) (left into : ℕ) → n + left ≡ k → Inline r
     → pass_of r left ≡ Stop into
     → Inside k n into 0 (r ∷ rs)
+stopped k n (Rattle.xliff.specs.Encode.opening _) rs left into h x4 e = elim x4 [ ]
+stopped k n Rattle.xliff.specs.Encode.closing rs left into h x4 e = elim x4 [ ]
+stopped k n (Rattle.xliff.specs.Encode.part_head _) rs left into h x6 e = elim x6 [ ]
+stopped k n (Rattle.xliff.specs.Encode.target_head _) rs left into h x7 e = elim x7 [ ]
+stopped k n Rattle.xliff.specs.Encode.ill_text rs left into h x7 e = elim x7 [ ]
+stopped k n (Rattle.xliff.specs.Encode.broken _) rs left into h x9 e = elim x9 [ ]
 stopped k n (inline x) rs left into h (an_item g) e = stopped_item k n x rs left into h e
 stopped k n (text_run cs) rs left into h (a_text a l) e = stopped_text k n cs rs left into h e
 

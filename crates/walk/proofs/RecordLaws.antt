@@ -17,6 +17,10 @@ use Rattle.walker.specs.Offsets.{WidthAt}
 use Rattle.walk.specs.Kept.{InPart, head_in, target_in, item_in, text_in, RestOf}
 
 pub good_in : (r : Record) → InPart r → GoodRecord r
+good_in (Rattle.xliff.specs.Encode.opening _) x'' = elim x'' [ ]
+good_in Rattle.xliff.specs.Encode.closing x'' = elim x'' [ ]
+good_in Rattle.xliff.specs.Encode.ill_text x3 = elim x3 [ ]
+good_in (Rattle.xliff.specs.Encode.broken _) x5 = elim x5 [ ]
 good_in (part_head h) (head_in g) = g
 good_in (target_head q) (target_in l) = tt
 good_in (inline x) (item_in g) = g
@@ -46,6 +50,10 @@ head_least (ignorable i) = omega arith
 
 pub record_least : (r : Record) → InPart r → 4 ≤ length (record_bytes r)
 unfolding record_bytes two
+record_least (Rattle.xliff.specs.Encode.opening _) x'' = elim x'' [ ]
+record_least Rattle.xliff.specs.Encode.closing x'' = elim x'' [ ]
+record_least Rattle.xliff.specs.Encode.ill_text x3 = elim x3 [ ]
+record_least (Rattle.xliff.specs.Encode.broken _) x5 = elim x5 [ ]
 record_least (part_head h) (head_in g) = head_least h
 record_least (target_head q) (target_in l) = omega arith
 record_least (inline x) (item_in g) = item_least x g

@@ -69,6 +69,12 @@ module _ (s : List ℕ) where
 
 -- inline records are records of parts
 pub inline_in : (r : Record) → Inline r → InPart r
+inline_in (Rattle.xliff.specs.Encode.opening _) x'' = elim x'' [ ]
+inline_in Rattle.xliff.specs.Encode.closing x'' = elim x'' [ ]
+inline_in (Rattle.xliff.specs.Encode.part_head _) x4 = elim x4 [ ]
+inline_in (Rattle.xliff.specs.Encode.target_head _) x5 = elim x5 [ ]
+inline_in Rattle.xliff.specs.Encode.ill_text x5 = elim x5 [ ]
+inline_in (Rattle.xliff.specs.Encode.broken _) x7 = elim x7 [ ]
 inline_in (inline x) (an_item g) = item_in g
 inline_in (text_run cs) (a_text a l) = text_in a l
 
@@ -128,6 +134,12 @@ module _ (p : Item → Bool) (q : List ℕ → Bool) (no_text : (c : ℕ) → p 
 
   any_first : (r : Record) (rs : List Record) (s : List ℕ) → Inline r → any p (items (r ∷ rs)) ≡ q (record_bytes r ++ s) || any p (items rs)
   unfolding any reading take_record
+  any_first (Rattle.xliff.specs.Encode.opening _) rs s x'' = elim x'' [ ]
+  any_first Rattle.xliff.specs.Encode.closing rs s x'' = elim x'' [ ]
+  any_first (Rattle.xliff.specs.Encode.part_head _) rs s x4 = elim x4 [ ]
+  any_first (Rattle.xliff.specs.Encode.target_head _) rs s x5 = elim x5 [ ]
+  any_first Rattle.xliff.specs.Encode.ill_text rs s x5 = elim x5 [ ]
+  any_first (Rattle.xliff.specs.Encode.broken _) rs s x7 = elim x7 [ ]
   any_first (inline x) rs s (an_item g) = rw (others x s g)
   any_first (text_run cs) rs s (a_text a l) = any_texts cs (items rs) ∙ rw (texts cs s)
 

@@ -66,8 +66,8 @@ pub record Restored (original halves : List ℕ) (part : ℕ) (c : OpenAtCuts) :
   -- and a shorter one is not: 15, an output too short for the result
   pub too_short : (room : ℕ) → room < length original → join halves part room ≡ refuse (record { number = 15; place = 0 })
 
-unfoldable pub Split-and_join : Type 0
-Split-and_join =
+unfoldable pub SplitAndJoin : Type 0
+SplitAndJoin =
     (t : List ℕ) (part source_cut target_cut new room : ℕ) (halves : List ℕ) → Bytes t → Valid t
     → split t part source_cut target_cut new room ≡ result halves
     → Restored t halves part (open_at_cuts t part source_cut target_cut)
@@ -134,8 +134,8 @@ pub record Undone (t : List ℕ) (cs : List SplitJoin) : Type 0 where
 
 -- "Hence every list of accepted splits undone in reverse sequence, each by its join, gives the original apart from those
 -- marks." As in demand 3 each split has arguments that it can be given: a new id of two bytes
-unfoldable pub Split-and_rejoin : Type 0
-Split-and_rejoin =
+unfoldable pub SplitAndRejoin : Type 0
+SplitAndRejoin =
     (t : List ℕ) (cs : List SplitJoin) → Bytes t → Valid t → AllGiven (splits cs) → all_accepted t (splits cs) ≡ true
     → enough_output t cs ≡ true → Undone t cs
 

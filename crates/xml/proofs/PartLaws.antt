@@ -17,7 +17,7 @@ use Rattle.xliff.proofs.records.Fits.{FitContent}
 use Rattle.xml.specs.Words.{'unit', 'source', 'target', 'id', 'canResegment', 'state', 'order', Words·all}
 use Rattle.xml.specs.Tokens.{Attribute, start_tag, end_tag, doubled}
 use Rattle.xml.specs.Attributes.{with, named, only, value_of, yes_no, states}
-use Rattle.xml.specs.Elements.{segment_head, ignorable_head, part_of_name, target_order, Where, outside, in_content, part_due, source_due, target_due, part_end_due, Side, on, or_blame, opened, closed, inline_closed, turn, behind, elements}
+use Rattle.xml.specs.Elements.{segment_head, ignorable_head, part_of_name, target_order, Where, outside, in_content, part_due, source_due, target_due, part_end_due, Side, on, or_blame, opened, closed, inline_closed, turn, elements}
 use Rattle.xml.specs.Write.{opening_tag, closing_tag, number_attribute, unless_zero, word_of, word_attribute, unless_hyphen, pending, content_text, deeper, head_name, head_attributes, target_text, part_text}
 use Rattle.xml.proofs.TagLaws.{good_name, good_attributes, opening_read, closing_read}
 use Rattle.xml.proofs.LetterLaws.{is_letter, letters}

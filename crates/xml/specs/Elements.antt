@@ -1,6 +1,6 @@
 -- The elements of the subset over tokens: what each token makes of the place in the unit, and the records that it
 -- gives. "Comments are skipped, as are blanks outside source and target, and text around a comment is a single run".
-use Rattle.std.specs.Prelude.{ℕ, suc, not, ◌&&◌, cond, List, [], ◌∷◌, ◌++◌, length, eqb, ltb}
+use Rattle.std.specs.Prelude.{ℕ, suc, ◌&&◌, cond, List, [], ◌∷◌, ◌++◌, length, eqb, ltb}
 use Rattle.std.proofs.Math.Option.{Option, none, some}
 use Rattle.xliff.specs.Bytes.{'-', 'I', 'N', 'Y', equal}
 use Rattle.xliff.specs.Item.{Item, Fields, start, end, form_P, form_S, character, standalone, isolated, pair, annotation_start, annotation_end}

@@ -1,7 +1,7 @@
 -- A unit written as XML. Order 1: "The writer spells every attribute out except a canResegment or translate of - and an
 -- id, copy_of or dataRef of 0, and writes a carriage return as a reference". No XML declaration, nothing between
 -- elements.
-use Rattle.std.specs.Prelude.{ℕ, zero, suc, ◌/◌, ◌%◌, Bool, true, false, not, ◌||◌, cond, List, [], ◌∷◌, ◌++◌, eqb, ltb}
+use Rattle.std.specs.Prelude.{ℕ, zero, suc, ◌/◌, ◌%◌, Bool, true, false, ◌||◌, cond, List, [], ◌∷◌, ◌++◌, eqb, ltb}
 use Rattle.xliff.specs.Bytes.{'-', gather, any}
 use Rattle.xliff.specs.Text.{utf8}
 use Rattle.xliff.specs.Item.{Item, Content, Fields, start, end, form_P, form_S, text, character, standalone, isolated, pair, annotation_start, annotation_end, is_form_P, is_start_half, fields}

@@ -5,13 +5,13 @@ use Rattle.xliff.specs.Answer.{Answer, accepted, refused, answer}
 use Rattle.xliff.specs.Item.{Fields}
 use Rattle.xliff.specs.Encode.{Record, spell}
 use Rattle.xliff.specs.SetTarget.{SetTarget·all}
-use Rattle.xliff.specs.Calls.{Call, SP, JN, ST, RT, RW}
+use Rattle.xliff.specs.Calls.{SP, JN, ST, RT, RW}
 use Rattle.xliff.specs.examples.Notation.{UN, UE, SG, TG, TX, letters, SC, EC}
 use Rattle.call_lists.specs.Lists.{after_list}
 use Rattle.grants.specs.Grant.{Grant, by_letter}
 use Rattle.edits.specs.Edit.{EditCall, plain, OP, CL, DR, GrantedEditCall, edit_outcome, edit_after}
 use Rattle.edits.specs.Requests.{'D', 'L', Edited, edited_request, EditRequests·all}
-use Rattle.edits.specs.EditLists.{Editing, edit_desk, EditLists·all}
+use Rattle.edits.specs.EditLists.{edit_desk, EditLists·all}
 
 five : Fields
 five = letters 5 'Y' 'Y' 'Y' 'Y'

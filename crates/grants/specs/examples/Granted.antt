@@ -6,9 +6,9 @@ use Rattle.xliff.specs.Answer.{Outcome, result, refuse}
 use Rattle.xliff.specs.Item.{Fields}
 use Rattle.xliff.specs.Encode.{Record, spell}
 use Rattle.xliff.specs.SetTarget.{SetTarget·all}
-use Rattle.xliff.specs.Calls.{Call, SP, JN, ST, RT, RW}
+use Rattle.xliff.specs.Calls.{Call, JN, ST, RT, RW}
 use Rattle.xliff.specs.examples.Notation.{UN, UE, SG, TG, TX, letters, SC, EC}
-use Rattle.grants.specs.Grant.{Grant, by_letter, GrantedCall, granted_outcome, Grant·all}
+use Rattle.grants.specs.Grant.{Grant, by_letter, granted_outcome}
 use Rattle.grants.specs.View.{view, View·all}
 use Rattle.grants.specs.Requests.{granted_request, Requests·all}
 

@@ -22,7 +22,7 @@ use Rattle.xliff.specs.SetTarget.{state_fits, set_focus, set_unit, set_refusal, 
 use Rattle.xliff.specs.RemoveTarget.{remove_focus, remove_unit, remove_target}
 use Rattle.xliff.specs.Rewrite.{form_of, rewrite_item, rewrite_part, rewrite_unit, rewrite}
 use Rattle.xliff.specs.Calls.{Call, SP, JN, ST, RT, RW, outcome, left, one_if, Kind, a_split, a_join, a_setting, a_removal, kind, kind_number, of_kind, Given}
-use Rattle.xliff.specs.BothEnds.{closed_part, flat_source, flat_target, part_count, closed_parts, times, Demand-3}
+use Rattle.xliff.specs.BothEnds.{closed_part, flat_source, flat_target, part_count, closed_parts, times, Demand3}
 use Rattle.xliff.proofs.operations.Sources.{focus_here, split_source, join_source, set_source, remove_source, rewrite_source, split_count, join_count}
 use Rattle.xliff.proofs.operations.SplitTarget.{split_target}
 use Rattle.xliff.proofs.operations.JoinTarget.{join_target, rewrite_target_sequence}
@@ -303,5 +303,5 @@ each_call t (RW side i w room) b g v = by (rewrite t side i w room) refl
     by (result r) e = accepted_call t (RW side i w room) r (rewrite_unit (unit t) side i (form_of w)) e (rewrite_accepted t side i w room r b e) (rewrite_keeps t side i w room b v)
 
 -- DEMAND 3
-pub both_ends : Demand-3
+pub both_ends : Demand3
 both_ends = demand_3 each_call once

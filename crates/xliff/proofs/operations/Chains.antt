@@ -5,7 +5,7 @@ use mathlib.Core.List.{List, [], ◌∷◌, ◌++◌, append-nil, Permᴰ}
 use borrow.Author.Tests.{not-true, not-false}
 use Rattle.xliff.specs.Bytes.{any, gather}
 use Rattle.xliff.specs.Good.{Each, each_nil, each_cons}
-use Rattle.xliff.specs.SetTarget.{FixedCode, Chain, Chains, begins_chain, in_front, chains, same_chain, rearranged, chains_kept, fixed_list, fixed_differ, is_chain, in_sequence, CutBeforeF, ChainsOf, Rearrangement, Order-4}
+use Rattle.xliff.specs.SetTarget.{FixedCode, Chain, Chains, begins_chain, in_front, chains, same_chain, rearranged, chains_kept, fixed_list, fixed_differ, is_chain, in_sequence, CutBeforeF, ChainsOf, Rearrangement, Order4}
 use Rattle.xliff.proofs.lists.Tests.{and_left, and_right, and_both, or_left, or_right}
 use Rattle.xliff.proofs.operations.ChainCounts.{same_chain_true, same_chain_refl, rearranged_perm, perm_rearranged}
 
@@ -115,8 +115,8 @@ module _ (old new : List FixedCode) where
       ap (λ (c : Chains). same_chain (chains old).first c.first && rearranged (chains old).others c.others) e
       ∙ and_both _ _ (same_chain_refl (chains old).first) (perm_rearranged (chains old).others sequence r.moved)
 
-pub order_4 : Order-4
-unfolding Order-4 fixed_differ
+pub order_4 : Order4
+unfolding Order4 fixed_differ
 order_4 old new =
     let before = fixed_list old in
     let after = fixed_list new in

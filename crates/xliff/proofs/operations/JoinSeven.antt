@@ -1,7 +1,7 @@
 -- A join of two parts that both have a target, or both have none, keeps rule 7: the refusal 17 is met only where
 -- exactly one of them has a target.
 use mathlib.Core.Path.{◌≡◌, refl, sym, ap, ◌∙◌, subst}
-use mathlib.Core.Bool.{true, false, cond, true≢false, false≢true}
+use mathlib.Core.Bool.{false, cond, true≢false, false≢true}
 use mathlib.Core.List.{List, [], ◌∷◌, ◌++◌, append_assoc}
 use mathlib.Core.Option.{none}
 use Rattle.xliff.specs.Bytes.{gather}

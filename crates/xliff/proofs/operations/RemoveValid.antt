@@ -1,6 +1,6 @@
 -- An accepted removal leaves a valid table: 7 and 9 are tried anew by the operation, 5, 6, 8 and 10 are kept.
 use borrow.Author.Tests.{not-true}
-use Prim.Native.Nat.{ℕ, ◌+◌}
+use Prim.Native.Nat.{ℕ}
 use native.Mathlib.Omega.{arith}
 use mathlib.Core.Path.{◌≡◌, refl, sym, ap, ap₂, ◌∙◌, subst}
 use mathlib.Core.Bool.{Bool, true, false, not, ◌||◌, cond, true≢false}

@@ -9,7 +9,7 @@ use lib.Dec.{eqb}
 use Rattle.xliff.specs.Bytes.{'P', 'S', 'T', Bytes, any, among}
 use Rattle.xliff.specs.Answer.{applies, result}
 use Rattle.xliff.specs.Item.{Item, Content, Half, Form, form_P, form_S}
-use Rattle.xliff.specs.Unit.{Target, target, Part, XliffUnit, target_items, source_sequence, target_sequence}
+use Rattle.xliff.specs.Unit.{Target, Part, XliffUnit, target_items, source_sequence, target_sequence}
 use Rattle.xliff.specs.Parse.{unit}
 use Rattle.xliff.specs.Rules.{half_of_id, fault_6, fault_7, fault_8, fault_9, fault_6_to_10}
 use Rattle.xliff.specs.Check.{Valid, too_large}

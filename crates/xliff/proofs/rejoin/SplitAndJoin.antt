@@ -17,7 +17,7 @@ use Rattle.xliff.specs.Check.{Valid}
 use Rattle.xliff.specs.Focus.{Focus, nowhere, here, focus, order_part, order_parts, with_parts}
 use Rattle.xliff.specs.Split.{split_order, first_half, second_half, split_focus, split_unit, split_refusal, split}
 use Rattle.xliff.specs.Join.{join_focus, join_unit, join}
-use Rattle.xliff.specs.Rejoin.{OpenAtCuts, nothing_open, open_in, open_at_cuts, turned_part, turned, turned_table, Restored, Split-and_join, both_open}
+use Rattle.xliff.specs.Rejoin.{OpenAtCuts, nothing_open, open_in, open_at_cuts, turned_part, turned, turned_table, Restored, SplitAndJoin, both_open}
 use Rattle.xliff.specs.Good.{GoodParts}
 use Rattle.xliff.proofs.lists.Each.{each_apart}
 use Rattle.xliff.proofs.rules.Six.{Rule6, rule_6_counted}
@@ -165,8 +165,8 @@ nothing_more : (c : OpenAtCuts) → both_open c nothing_open ≡ c
 unfolding both_open
 nothing_more c = ap₂ (λ (k l : Content). record { source = k; target = l }) (append-nil c.source) (append-nil c.target)
 
-pub split_and_join : Split-and_join
-unfolding Split-and_join
+pub split_and_join : SplitAndJoin
+unfolding SplitAndJoin
 split_and_join t part source_cut target_cut new room halves bt v e =
     subst (λ (s : List ℕ). Restored t s part (open_at_cuts t part source_cut target_cut))
     (nothing_turned t part source_cut target_cut new room halves bt v e)

@@ -14,7 +14,7 @@ use Rattle.xliff.specs.Check.{Valid}
 use Rattle.xliff.specs.Focus.{with_parts}
 use Rattle.xliff.specs.Split.{split_unit, split}
 use Rattle.xliff.specs.Calls.{Call, outcome, left, after, Given, AllGiven, one_call}
-use Rattle.xliff.specs.Rejoin.{OpenAtCuts, open_at_cuts, turned, turned_table, SplitJoin, split_call, join_call, splits, joins, rejoined, all_accepted, enough_output, both_open, all_open, flat_unit, Split-and_rejoin}
+use Rattle.xliff.specs.Rejoin.{OpenAtCuts, open_at_cuts, turned, turned_table, SplitJoin, split_call, join_call, splits, joins, rejoined, all_accepted, enough_output, both_open, all_open, flat_unit, SplitAndRejoin}
 use Rattle.xliff.proofs.lists.Tests.{and_left, and_right, and_both, rev_append}
 use Rattle.xliff.proofs.unit.Result.{sent}
 use Rattle.xliff.proofs.unit.Accepted.{accepted_bytes, read_back}
@@ -111,8 +111,8 @@ gives t (c ∷ cs) bt v g a o =
     (ap (λ (z : List ℕ). all_accepted z (splits cs)) (sym same) ∙ and_right (is_accepted (answer first)) _ a)
     (ap (λ (z : List ℕ). enough_output z cs) (sym same) ∙ and_right (leb (length t) c.join_room) _ o))
 
-pub split_and_rejoin : Split-and_rejoin
-unfolding Split-and_rejoin turned_table
+pub split_and_rejoin : SplitAndRejoin
+unfolding SplitAndRejoin turned_table
 split_and_rejoin t cs bt v g a o =
     let r = gives t cs bt v g a o in
     let c : OpenAtCuts = all_open t cs in

@@ -1,7 +1,7 @@
 -- What keeps rule 8: sequences whose forms change, where each end that takes the mark of pc has the PC letter; and
 -- sequences from which a stretch is taken out.
 use borrow.Author.Tests.{not-true}
-use Prim.Native.Nat.{ℕ, ◌+◌}
+use Prim.Native.Nat.{ℕ}
 use mathlib.Core.Path.{◌≡◌, refl, sym, ap, ap₂, ◌∙◌, subst}
 use mathlib.Core.Bool.{Bool, true, false, not, ◌&&◌, ◌||◌, cond, true≢false, false≢true}
 use mathlib.Core.List.{List, [], ◌∷◌, ◌++◌, map, reverse_aux}

@@ -1,7 +1,7 @@
 -- Where 6 and 7 are met, beside a half there is one other half of its id at most, and that is its partner: of the same
 -- class and form, on the other side. So the rules 8, 9, 10 and rewrite may take "the other half of its class and id,
 -- the nearest" for the partner (OPEN-POINTS 11).
-use Prim.Native.Nat.{ℕ, ◌+◌}
+use Prim.Native.Nat.{ℕ}
 use native.Mathlib.Omega.{arith}
 use mathlib.Core.Path.{◌≡◌, refl, sym, ap, ap₂, ◌∙◌, subst}
 use mathlib.Core.Bool.{Bool, true}

@@ -1,0 +1,14 @@
+use lib.ListN.{length}
+use borrow.Author.Rules.{rules}
+use Rattle.grants.specs.View.{view}
+use Rattle.desk_library.proofs.TellLaws.{tells_granted}
+use Rattle.desk_library.proofs.xliff_desk_view.Goals as goal
+
+-- tell(a, number, value)
+pub returns : goal.returns
+returns c =
+    let args = c.args in
+    let table = args.table.now in
+    let out = args.out.now in
+    tells_granted (λ g. view table g (length out)) c.role_of.result args.role
+    args.positions.now c.role_of.ensures _ _ _ _ out _ c.view-a.ensures c.tell.ensures

@@ -1,0 +1,26 @@
+use mathlib.Core.Path.{sym, ◌∙◌}
+use Rattle.grants.specs.Grant.{rewrite_granted}
+use Rattle.granted_requests.proofs.GrantedLaws.{reviewer_granted}
+use borrow.Author.Rules.{rules}
+use Rattle.granted_requests.proofs.rewrite_granted.Goals as goal
+
+-- Role::Translator => false
+pub returns-in-Translator : goal.returns-in-Translator
+unfolding rewrite_granted
+returns-in-Translator c = search rules
+
+-- Role::Reviewer => whole_granted(role, positions, table, side, id)
+pub returns-in-Reviewer : goal.returns-in-Reviewer
+returns-in-Reviewer c =
+    let told = c.in-Reviewer.is in
+    c.whole_granted.ensures ∙ sym (reviewer_granted _ _ told)
+
+-- Role::Engineer => true
+pub returns-in-Engineer : goal.returns-in-Engineer
+unfolding rewrite_granted
+returns-in-Engineer c = search rules
+
+-- Role::Other => false
+pub returns-in-Other : goal.returns-in-Other
+unfolding rewrite_granted
+returns-in-Other c = search rules

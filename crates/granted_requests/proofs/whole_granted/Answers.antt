@@ -1,0 +1,54 @@
+use mathlib.Core.Path.{sym, ◌∙◌}
+use borrow.Author.Tests.{not-true, not-false}
+use Rattle.xliff.specs.Parse.{unit}
+use Rattle.xliff.proofs.unit.Result.{small_table}
+use Rattle.part_at.proofs.CheckedLaws.{table_passes}
+use Rattle.granted_parts.specs.Roles.{grant_of}
+use Rattle.granted_requests.proofs.GrantedLaws.{by_side, by_missing, by_halves}
+use Rattle.granted_requests.proofs.whole_granted.Goals as goal
+
+-- if !((side == b'S') | (side == b'T')) { return false; }
+pub returns-then-not-side : goal.returns-then-not-side
+returns-then-not-side c =
+    let args = c.args in
+    let grant = grant_of args.role args.positions.now in
+    let parts = (unit args.table.now).parts in
+    sym (by_side grant parts args.side args.id (not-true _ c.if-not-side.true-raw))
+
+-- whole_pair::find(table, side, id)
+pub find-requires : goal.find-requires
+find-requires c =
+    let table = c.args.table.now in
+    (table_passes table c.shared_slice_known-2-1.given c.requires, small_table table c.requires)
+
+-- if !is_complete(..) { return false; }
+pub returns-then-not-is_complete : goal.returns-then-not-is_complete
+returns-then-not-is_complete c =
+    let is_complete = c.is_complete in
+    let find = c.find in
+    let sided = not-false _ c.if-not-side.false-raw in
+    let args = c.args in
+    let grant = grant_of args.role args.positions.now in
+    let parts = (unit args.table.now).parts in
+    sym
+    (by_missing grant parts args.side args.id sided find.result find.ensures
+    (sym is_complete.ensures ∙ not-true _ c.if-not-is_complete.true-raw))
+
+-- granted_halves::halves_within(table, role, positions, side, id)
+pub halves_within-requires : goal.halves_within-requires
+halves_within-requires c =
+    let known = c.shared_slice_known-2-1.given in
+    table_passes c.args.table.now known c.requires
+
+pub returns : goal.returns
+returns c =
+    let is_complete = c.is_complete in
+    let find = c.find in
+    let sided = not-false _ c.if-not-side.false-raw in
+    let args = c.args in
+    let grant = grant_of args.role args.positions.now in
+    let parts = (unit args.table.now).parts in
+    c.halves_within.ensures
+    ∙ sym
+    (by_halves grant parts args.side args.id sided find.result find.ensures
+    (sym is_complete.ensures ∙ not-false _ c.if-not-is_complete.false-raw))

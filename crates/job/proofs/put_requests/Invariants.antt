@@ -1,0 +1,21 @@
+use mathlib.Core.Path.{refl, sym, ap, ◌∙◌}
+use lib.Seq.{length-take-le}
+use lib.ListN.{take, length-drop}
+use native.Mathlib.Omega.{arith}
+use Rattle.lines.proofs.LineLaws.{table_line_length}
+use Rattle.job.proofs.StepLaws.{back_length}
+use Rattle.xliff.proofs.lists.Slices.{tail_is}
+use Rattle.xliff.specs.Parse.{most_bytes}
+use Prim.Native.Nat.{◌-◌, ◌*◌, ◌≤◌}
+use mathlib.Core.Path.{◌≡◌}
+use lib.ListN.{length}
+use Rattle.job.proofs.StepLaws.{Printed, printed_start, printed_on, printed_stop, printed_end}
+use borrow.Author.Rules.{rules}
+use Rattle.job.proofs.put_requests.Given as goal
+
+abbrev pub invariant-loop-at : goal.invariant-loop-at
+invariant-loop-at l =
+    (l.at ≤ length l.job) × (l.m ≤ most_bytes) × (l.k ≤ 12 * l.at) × (length l.table ≡ most_bytes) × (length l.out ≡ 1048576) × Printed l.job l.initial.table l.n l.initial.out l.out l.table l.at l.m l.k
+
+abbrev pub decreases-loop-at : goal.decreases-loop-at
+decreases-loop-at l = length l.job - l.at

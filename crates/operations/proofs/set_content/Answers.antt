@@ -1,0 +1,11 @@
+use Prim.Native.Nat.{◌+◌, ◌-◌}
+use mathlib.Core.Path.{◌≡◌}
+use native.Mathlib.Omega.{arith}
+use Rattle.operations.proofs.set_content.Goals as goal
+
+-- set_target::set_target(table, part, state, &s[7..e], out)
+pub returns : goal.returns
+returns c =
+    let n = c.args.n in
+    let z : 7 + n - 7 ≡ n = omega arith in
+    rw z at c.set_target.ensures

@@ -1,0 +1,100 @@
+use mathlib.Core.Path.{sym, ◌∙◌}
+use native.Mathlib.Omega.{arith}
+use Rattle.orders.proofs.WalkLaws.{walked, few_parts}
+use Rattle.orders.proofs.OrderLaws.{ordering_start, ordering_refuses, order_within, ordering_uses, ordering_skips, ordering_end}
+use Rattle.orders.proofs.rule_5.Goals as goal
+
+-- the loop's start
+pub loop-at-init : goal.loop-at-init
+loop-at-init c =
+    let args = c.args in
+    ordering_start args.t.now args.n c.requires.0 c.requires.1
+
+-- bad_order(n, &used, k)
+pub bad_order-requires : goal.bad_order-requires
+bad_order-requires c =
+    omega (arith, few_parts c.args.t.now c.requires.0, c.requires.1)
+
+-- return Place::At(at)
+pub returns-then-bad_order : goal.returns-then-bad_order
+returns-then-bad_order c =
+    let t = c.args.t.now in
+    let loop = c.loop-at in
+    let glance_at = c.glance_at-g in
+    let v = walked t loop.at loop.invariant.records glance_at.result loop.invariant.here
+    c.loop-at-test.true glance_at.ensures in
+    ordering_refuses loop.invariant glance_at.result v (omega (arith, few_parts t c.requires.0, c.requires.1))
+    c.in-Is.q (sym c.order_of.ensures ∙ c.in-Is.is) (sym c.bad_order.ensures ∙ c.if-bad_order.true)
+
+-- used[k] = 1
+pub bounds-used-k : goal.bounds-used-k
+bounds-used-k c =
+    let t = c.args.t.now in
+    let loop = c.loop-at in
+    let glance_at = c.glance_at-g in
+    let v = walked t loop.at loop.invariant.records glance_at.result loop.invariant.here
+    c.loop-at-test.true glance_at.ensures in
+    order_within loop.invariant glance_at.result v (omega (arith, few_parts t c.requires.0, c.requires.1))
+    c.in-Is.q (sym c.order_of.ensures ∙ c.in-Is.is) (sym c.bad_order.ensures ∙ c.if-bad_order.false)
+
+-- at += w, behind an order
+pub overflow_add-at : goal.overflow_add-at
+overflow_add-at c =
+    let loop = c.loop-at in
+    let glance_at = c.glance_at-g in
+    let v = walked c.args.t.now loop.at loop.invariant.records
+    glance_at.result loop.invariant.here c.loop-at-test.true glance_at.ensures in
+    omega (arith, v.fits)
+
+pub loop-at-smaller-in-Is : goal.loop-at-smaller-in-Is
+loop-at-smaller-in-Is c =
+    let loop = c.loop-at in
+    let glance_at = c.glance_at-g in
+    let v = walked c.args.t.now loop.at loop.invariant.records
+    glance_at.result loop.invariant.here c.loop-at-test.true glance_at.ensures in
+    omega (arith, v.fits, v.moves)
+
+-- the loop's step, behind an order
+pub loop-at-preserved-in-Is : goal.loop-at-preserved-in-Is
+loop-at-preserved-in-Is c =
+    let t = c.args.t.now in
+    let loop = c.loop-at in
+    let glance_at = c.glance_at-g in
+    let v = walked t loop.at loop.invariant.records glance_at.result loop.invariant.here
+    c.loop-at-test.true glance_at.ensures in
+    ordering_uses loop.invariant glance_at.result v (omega (arith, few_parts t c.requires.0, c.requires.1))
+    c.in-Is.q (sym c.order_of.ensures ∙ c.in-Is.is) (sym c.bad_order.ensures ∙ c.if-bad_order.false)
+
+-- at += w, behind any other record
+pub overflow_add-at-in-Not : goal.overflow_add-at-in-Not
+overflow_add-at-in-Not c =
+    let loop = c.loop-at in
+    let glance_at = c.glance_at-g in
+    let v = walked c.args.t.now loop.at
+    loop.invariant.records glance_at.result loop.invariant.here c.loop-at-test.true
+    glance_at.ensures in
+    omega (arith, v.fits)
+
+pub loop-at-smaller : goal.loop-at-smaller
+loop-at-smaller c =
+    let loop = c.loop-at in
+    let glance_at = c.glance_at-g in
+    let v = walked c.args.t.now loop.at
+    loop.invariant.records glance_at.result loop.invariant.here c.loop-at-test.true
+    glance_at.ensures in
+    omega (arith, v.fits, v.moves)
+
+-- the loop's step, behind any other record
+pub loop-at-preserved : goal.loop-at-preserved
+loop-at-preserved c =
+    let loop = c.loop-at in
+    let glance_at = c.glance_at-g in
+    let v = walked c.args.t.now loop.at
+    loop.invariant.records glance_at.result loop.invariant.here c.loop-at-test.true
+    glance_at.ensures in
+    ordering_skips loop.invariant glance_at.result v
+    (sym c.order_of.ensures ∙ c.in-Not.is)
+
+-- Place::Nowhere
+pub returns : goal.returns
+returns c = ordering_end c.loop-at.invariant c.loop-at-test.false

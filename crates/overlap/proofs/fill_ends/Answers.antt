@@ -1,0 +1,38 @@
+use Rattle.id_links.proofs.Filled.{set_next}
+use Rattle.halves.specs.Nearest.{half_after}
+use native.Mathlib.Omega.{arith}
+use borrow.Author.Rules.{rules}
+use Rattle.overlap.proofs.fill_ends.Goals as goal
+
+-- the loop's start
+pub loop-i-init : goal.loop-i-init
+loop-i-init c = (search rules, search rules, λ k h. absurd (omega (arith, h)))
+
+-- halves::linked_after(keys, links, i)
+pub linked_after-requires : goal.linked_after-requires
+linked_after-requires c =
+    let pre = c.requires in
+    (pre.3, pre.0, pre.1, c.loop-i-test.true)
+
+-- halves::linked_after(keys, links, i)
+pub overflow_cast-ends : goal.overflow_cast-ends
+overflow_cast-ends c =
+    let pre = c.requires in
+    omega (arith, c.linked_after.ensures.2, c.loop-i-test.true, pre.0)
+
+-- the loop's step
+pub loop-i-preserved : goal.loop-i-preserved
+loop-i-preserved c =
+    let loop = c.loop-i in (
+      search rules,
+      search rules,
+      set_next (half_after c.args.keys.now) loop.ends loop.i c.linked_after.result
+          (omega (arith, c.loop-i-test.true, c.requires.0, loop.invariant.1)) c.linked_after.ensures.0
+          loop.invariant.2,
+    )
+
+-- the end
+pub returns : goal.returns
+returns c =
+    let loop = c.loop-i in
+    (loop.invariant.1, λ k h. loop.invariant.2 k (omega (arith, h, c.loop-i-test.false)))

@@ -1,0 +1,12 @@
+use Rattle.overlap.specs.Nine.{stray_at}
+use Rattle.id_links.specs.Nearest.{next}
+use mathlib.Core.Path.{◌≡◌}
+use Prim.Native.Nat.{◌-◌}
+use Rattle.overlap.proofs.first_stray.Given as goal
+
+abbrev pub invariant-loop-j : goal.invariant-loop-j
+invariant-loop-j l =
+    next (stray_at l.keys l.first l.end) l.first (l.end - l.first) ≡ next (stray_at l.keys l.first l.end) l.j (l.end - l.j)
+
+abbrev pub decreases-loop-j : goal.decreases-loop-j
+decreases-loop-j l = l.end - l.j

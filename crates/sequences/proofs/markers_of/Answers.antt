@@ -1,0 +1,16 @@
+use mathlib.Core.Path.{sym, ◌∙◌}
+use Rattle.sequences.specs.Targets.{of_order, head_number}
+use Rattle.sequences.proofs.FillLaws.{fill_none}
+use Rattle.sequences.proofs.TargetLaws.{other_order}
+use Rattle.sequences.proofs.markers_of.Goals as goal
+
+-- return n
+pub returns-then-q-orders : goal.returns-then-q-orders
+returns-then-q-orders c =
+    let args = c.args in
+    let q = args.q in
+    let t = args.t.now in
+    let i = args.i in
+    let pre = c.requires in
+    fill_none args.out.now (of_order q (head_number t i)) args.n
+    (other_order q (head_number t i) (λ z. c.if-q-orders.true (z ∙ sym (pre.7 i pre.3))))

@@ -1,0 +1,78 @@
+use native.Mathlib.Omega.{arith}
+use Rattle.halves.proofs.Others.{keys_long, key_there, view_there}
+use mathlib.Core.Path.{◌∙◌, sym}
+use Rattle.answers.proofs.Places.{blamed_end, toward_none}
+use Rattle.xliff.specs.Rules.{bad_10_source}
+use Rattle.source_match.proofs.TestLaws.{ten_source_bad}
+use Rattle.halves.specs.Nearest.{earlier, marker_at}
+use Rattle.halves.proofs.TwoSequences.{blamed_step}
+use borrow.Author.Rules.{rules}
+use Rattle.source_match.proofs.ten_source.Goals as goal
+
+-- the loop's start
+pub loop-i-init : goal.loop-i-init
+unfolding earlier
+loop-i-init c = (search rules, toward_none 10 _)
+
+-- keys[i]
+pub bounds-keys-i : goal.bounds-keys-i
+unfolding earlier
+bounds-keys-i c =
+    let loop-test = c.loop-i-test in
+    omega (arith, keys_long c.args.t.now c.args.markers.now _ c.requires, loop-test.true)
+
+-- keys::view_at(t, at, keys[i])
+pub view_at-requires : goal.view_at-requires
+unfolding earlier
+view_at-requires c =
+    let args = c.args in
+    let i = c.loop-i.i in
+    let wide = c.wide-at in
+    key_there args.t.now args.markers.now _ c.requires i wide.result c.loop-i-test.true
+    wide.ensures.0
+
+-- the loop's step
+pub loop-i-preserved : goal.loop-i-preserved
+unfolding earlier
+loop-i-preserved c =
+    let args = c.args in
+    let t = args.t.now in
+    let markers = args.markers.now in
+    let loop = c.loop-i in
+    let i = loop.i in
+    let loop-test = c.loop-i-test in
+    let wide = c.wide-at in
+    let bad-copy-in-source = c.bad_copy_in_source in
+    let view-at = c.view_at in
+    let seen = view_there t markers i wide.result view-at.result wide.ensures.0 view-at.ensures in (
+      search rules,
+      loop.invariant.1
+          ∙ blamed_step 10 bad_10_source t markers i loop.best bad-copy-in-source.result wide.result
+          c.lower_if-best.result loop-test.true wide.ensures.0
+          (ten_source_bad t markers i view-at.result bad-copy-in-source.result seen bad-copy-in-source.ensures)
+          c.lower_if-best.ensures,
+    )
+
+-- best
+pub returns : goal.returns
+unfolding earlier
+returns c =
+    let args = c.args in
+    let t = args.t.now in
+    let markers = args.markers.now in
+    let loop = c.loop-i in
+    sym (loop.invariant.1
+    ∙ blamed_end bad_10_source t markers (earlier (marker_at t markers) loop.i) loop.i loop.best 10
+    c.loop-i-test.false)
+
+pub wide-at-requires : goal.wide-at-requires
+unfolding earlier
+wide-at-requires c = search rules
+
+pub bad_copy_in_source-requires : goal.bad_copy_in_source-requires
+unfolding earlier
+bad_copy_in_source-requires c = search rules
+
+pub lower_if-best-requires : goal.lower_if-best-requires
+unfolding earlier
+lower_if-best-requires c = search rules

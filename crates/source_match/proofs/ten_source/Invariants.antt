@@ -1,0 +1,19 @@
+use Prim.Native.Nat.{◌-◌, ◌≤◌}
+use mathlib.Core.List.{[]}
+use mathlib.Core.Path.{◌≡◌}
+use lib.ListN.{length, drop}
+use Rattle.answers.specs.Answers.{toward}
+use Rattle.xliff.specs.Sequences.{blamed, first_of}
+use Rattle.xliff.specs.Rules.{bad_10_source}
+use Rattle.places.specs.Markers.{placed_at}
+use Rattle.halves.specs.Nearest.{earlier, marker_at}
+use Rattle.source_match.proofs.ten_source.Given as goal
+
+abbrev pub invariant-loop-i : goal.invariant-loop-i
+invariant-loop-i l =
+    (l.i ≤ length l.markers)
+    × (first_of 10 (blamed bad_10_source [] (placed_at l.t l.markers))
+    ≡ toward 10 l.best (blamed bad_10_source (earlier (marker_at l.t l.markers) l.i) (placed_at l.t (drop l.i l.markers))))
+
+abbrev pub decreases-loop-i : goal.decreases-loop-i
+decreases-loop-i l = length l.markers - l.i

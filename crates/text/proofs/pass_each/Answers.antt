@@ -1,0 +1,72 @@
+use lib.ListN.{drop, length-drop}
+use native.Mathlib.Omega.{arith}
+use mathlib.Core.Path.{sym, ◌∙◌, refl}
+use borrow.Author.Tests.{not-true, not-false}
+use Rattle.xliff.proofs.lists.Slices.{tail_is}
+use Rattle.text.proofs.Utf8Laws.{width_at, text_on, text_off, text_bad}
+use Rattle.text.proofs.BlockLaws.{plain_on}
+use Rattle.text.proofs.pass_each.Goals as goal
+
+-- the loop's start
+pub loop-at-init : goal.loop-at-init
+loop-at-init c = (omega arith, omega arith, refl)
+
+-- the loop's step
+pub loop-at-preserved-then-b : goal.loop-at-preserved-then-b
+loop-at-preserved-then-b c =
+    let t = c.args.t.now in
+    let loop = c.loop-at in
+    (omega arith, omega arith, loop.invariant.2 ∙ plain_on t loop.at (omega arith) c.if-b.true)
+
+pub returns-then-not-xml_char : goal.returns-then-not-xml_char
+returns-then-not-xml_char c =
+    let t = c.args.t.now in
+    let loop = c.loop-at in
+    let Char-of = c.char_of in
+    loop.invariant.2
+    ∙ text_off t loop.at _ _ (sym (simp tail_is at Char-of.ensures) ∙ c.in-Point.is)
+    (sym c.xml_char.ensures ∙ not-true _ c.if-not-xml_char.true-raw)
+
+-- at += w
+pub overflow_add-at-in-Point : goal.overflow_add-at-in-Point
+overflow_add-at-in-Point c =
+    let t = c.args.t.now in
+    let loop = c.loop-at in
+    let Char-of = c.char_of in
+    omega (arith, width_at t loop.at _ _ (sym (simp tail_is at Char-of.ensures) ∙ c.in-Point.is))
+
+-- the loop ends
+pub loop-at-smaller : goal.loop-at-smaller
+loop-at-smaller c =
+    let t = c.args.t.now in
+    let loop = c.loop-at in
+    let Char-of = c.char_of in
+    omega (arith, width_at t loop.at _ _ (sym (simp tail_is at Char-of.ensures) ∙ c.in-Point.is))
+
+-- the loop's step
+pub loop-at-preserved : goal.loop-at-preserved
+loop-at-preserved c =
+    let t = c.args.t.now in
+    let loop = c.loop-at in
+    let Char-of = c.char_of in (
+      omega arith,
+      (width_at t loop.at _ _ (sym (simp tail_is at Char-of.ensures) ∙ c.in-Point.is)).1,
+      loop.invariant.2
+          ∙ text_on t loop.at _ _ (sym (simp tail_is at Char-of.ensures) ∙ c.in-Point.is)
+          (sym c.xml_char.ensures ∙ not-false _ c.if-not-xml_char.false-raw),
+    )
+
+-- return Passed::Not
+pub returns-in-Bad : goal.returns-in-Bad
+returns-in-Bad c =
+    let t = c.args.t.now in
+    let loop = c.loop-at in
+    loop.invariant.2
+    ∙ text_bad (drop loop.at t) (omega (arith, length-drop loop.at t))
+    (sym (simp tail_is at c.char_of.ensures) ∙ c.in-Bad.is)
+
+-- Passed::To(at)
+pub returns : goal.returns
+returns c =
+    let loop = c.loop-at in
+    (omega arith, loop.invariant.1, loop.invariant.2)

@@ -1,0 +1,35 @@
+use native.Mathlib.Omega.{arith}
+use mathlib.Core.Path.{sym, ◌∙◌, refl}
+use Rattle.text.proofs.Utf8Laws.{text_end}
+use Rattle.text.proofs.text_ok.Goals as goal
+
+-- the loop ends
+pub loop-at-smaller : goal.loop-at-smaller
+loop-at-smaller c =
+    let pass_some = c.pass_some in
+    let p = rw c.in-To.is at pass_some.ensures in
+    omega (arith, p.0, p.1)
+
+-- the loop's step
+pub loop-at-preserved : goal.loop-at-preserved
+loop-at-preserved c =
+    let loop = c.loop-at in
+    let pass_some = c.pass_some in
+    let p = rw c.in-To.is at pass_some.ensures in
+    (p.1, loop.invariant.1 ∙ p.2)
+
+-- return false
+pub returns-in-Not : goal.returns-in-Not
+returns-in-Not c =
+    let loop = c.loop-at in
+    sym (loop.invariant.1 ∙ (rw c.in-Not.is at c.pass_some.ensures))
+
+-- true
+pub returns : goal.returns
+returns c =
+    let t = c.args.t.now in
+    let loop = c.loop-at in
+    sym (loop.invariant.1 ∙ text_end t loop.at c.loop-at-test.false)
+
+pub loop-at-init : goal.loop-at-init
+loop-at-init c = (omega arith, refl)

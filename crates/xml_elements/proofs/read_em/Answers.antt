@@ -1,0 +1,27 @@
+use mathlib.Core.Path.{refl}
+use borrow.Author.Rules.{rules}
+use Rattle.xliff.specs.Bytes.{among}
+use Rattle.xml_elements.specs.Reading.{apart}
+use Rattle.xml_elements.proofs.ElementLaws.{em_none, em_some}
+use Rattle.xml_elements.proofs.read_em.Goals as goal
+
+-- has_only(slots, count, &[START_REF]): none of them twice
+pub has_only-requires : goal.has_only-requires
+unfolding apart among
+has_only-requires c = (c.requires, refl)
+
+-- return Inline::Bad
+pub returns-then-has_only-id : goal.returns-then-has_only-id
+returns-then-has_only-id c =
+    let has-only = c.has_only in
+    let id = c.required_number-id in
+    let args = c.args in
+    em_none args.slots.now args.count has-only.result has-only.ensures id.result id.ensures c.if-has_only-id.true
+
+-- Inline::Single(Item::AnnotationEnd(Form::S, id))
+pub returns : goal.returns
+returns c =
+    let has-only = c.has_only in
+    let id = c.required_number-id in
+    let args = c.args in
+    em_some args.slots.now args.count has-only.result has-only.ensures id.result id.ensures c.if-has_only-id.false

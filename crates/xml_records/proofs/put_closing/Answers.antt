@@ -1,0 +1,10 @@
+use Rattle.xliff.specs.Encode.{record_bytes}
+use Rattle.xliff.specs.Parse.{is_part}
+use Rattle.xml_records.proofs.CollectLaws.{whole_closing, collects_record}
+use mathlib.Core.Path.{refl}
+use Rattle.xml_records.proofs.put_closing.Goals as goal
+
+-- table_builder::put_record(table, built, b"UE", false)
+pub returns : goal.returns
+unfolding record_bytes is_part
+returns c = collects_record c.put_record.ensures whole_closing refl refl

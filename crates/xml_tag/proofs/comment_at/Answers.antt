@@ -1,0 +1,83 @@
+use mathlib.Core.Path.{sym, ap, ◌∙◌}
+use Rattle.xliff.proofs.lists.Slices.{tail_is}
+use native.Mathlib.Omega.{arith}
+use Prim.Native.Nat.{◌-◌}
+use lib.ListN.{length}
+use Rattle.xml_front.specs.Fronts.{told}
+use Rattle.xml.proofs.FitLaws.{character_within}
+use Rattle.xml_tag.proofs.CommentLaws.{CommentSoFar, comment_begins, comment_read, comment_goes_on, comment_cut, comment_wrong, comment_ends}
+use borrow.Author.Rules.{rules}
+use Rattle.xml_tag.proofs.comment_at.Goals as goal
+
+-- the loop's start
+pub loop-at-init : goal.loop-at-init
+loop-at-init c =
+    let args = c.args in
+    comment_begins args.text.now args.from (search rules)
+
+-- return hyphens_at(text, at)
+pub hyphens_at-requires : goal.hyphens_at-requires
+hyphens_at-requires c = (search rules, sym (simp tail_is at c.begins.ensures) ∙ c.if-begins.true)
+
+-- return hyphens_at(text, at)
+pub returns-then-begins : goal.returns-then-begins
+returns-then-begins c =
+    let args = c.args in
+    let loop = c.loop-at in
+    comment_read args.text.now args.from loop.at loop.invariant c.hyphens_at.result c.hyphens_at.ensures
+
+-- at = at + 1 + more
+pub overflow_add-at-in-Found : goal.overflow_add-at-in-Found
+overflow_add-at-in-Found c =
+    let text = c.args.text.now in
+    let loop = c.loop-at in
+    let front_character = c.front_character in
+    let front = sym (simp tail_is at front_character.ensures) ∙ ap told c.in-Found.is in
+    omega (arith, character_within text loop.at _ _ (search rules) front)
+
+-- the loop's measure
+pub loop-at-smaller : goal.loop-at-smaller
+loop-at-smaller c =
+    let text = c.args.text.now in
+    let loop = c.loop-at in
+    let loop-test = c.loop-at-test in
+    let front_character = c.front_character in
+    let front = sym (simp tail_is at front_character.ensures) ∙ ap told c.in-Found.is in
+    omega (arith, character_within text loop.at _ _ (search rules) front, loop-test.true)
+
+-- the loop's step
+pub loop-at-preserved : goal.loop-at-preserved
+loop-at-preserved c =
+    let args = c.args in
+    let loop = c.loop-at in
+    let no-hyphens = sym (simp tail_is at c.begins.ensures) ∙ c.if-begins.false in
+    let front_character = c.front_character in
+    let front = sym (simp tail_is at front_character.ensures) ∙ ap told c.in-Found.is in
+    comment_goes_on args.text.now args.from loop.at loop.invariant (search rules) no-hyphens _ _ front
+
+-- Front::Cut: return Markup::Fault(text.len())
+pub returns-in-Cut : goal.returns-in-Cut
+returns-in-Cut c =
+    let args = c.args in
+    let loop = c.loop-at in
+    let if1 = c.if-begins in
+    let no-hyphens = sym (simp tail_is at c.begins.ensures) ∙ if1.false in
+    let front = sym (simp tail_is at c.front_character.ensures) ∙ ap told c.in-Cut.is in
+    comment_cut args.text.now args.from loop.at loop.invariant (search rules) no-hyphens front
+
+-- Front::Wrong: return Markup::Fault(at)
+pub returns-in-Wrong : goal.returns-in-Wrong
+returns-in-Wrong c =
+    let args = c.args in
+    let loop = c.loop-at in
+    let if1 = c.if-begins in
+    let no-hyphens = sym (simp tail_is at c.begins.ensures) ∙ if1.false in
+    let front = sym (simp tail_is at c.front_character.ensures) ∙ ap told c.in-Wrong.is in
+    comment_wrong args.text.now args.from loop.at loop.invariant (search rules) no-hyphens front
+
+-- Markup::Fault(text.len()), where the text ends
+pub returns : goal.returns
+returns c =
+    let args = c.args in
+    let loop = c.loop-at in
+    comment_ends args.text.now args.from loop.at loop.invariant (search rules)

@@ -1,0 +1,16 @@
+use Rattle.draft.proofs.DraftLaws.{wrote_then, wrote_as}
+use Rattle.xml_tags.proofs.TagLaws.{one_attribute}
+use Rattle.xml_tags.proofs.put_attribute.Goals as goal
+
+-- the five pieces
+pub returns : goal.returns
+returns c =
+    let put5 = c.put in
+    let put4 = c.put-valued in
+    let put3 = c.put-quoted in
+    let put2 = c.put-named in
+    let put = c.put-blank in
+    let args = c.args in
+    wrote_as (one_attribute args.name.now args.value.now)
+    (wrote_then put.ensures
+    (wrote_then put2.ensures (wrote_then put3.ensures (wrote_then put4.ensures put5.ensures))))
