@@ -1,4 +1,5 @@
-//! Links the static library that `rt staticlib desk_library` writes to the repository's `target/`.
+//! Links the static library that `rt lib` in `crates/desk_library` writes to that crate's `out/`.
+//! It is looked for in the repository's `target/staticlib/`, where `./test` puts it.
 
 use std::path::Path;
 
@@ -10,7 +11,7 @@ fn main() {
     if !archive.is_file() {
         println!("cargo::error=the proved operations are not built: no {}", archive.display());
         println!(
-            "cargo::error=first run `rt staticlib desk_library` in the repository's top folder"
+            "cargo::error=first run `rt lib` in crates/desk_library, and copy its archive there"
         );
         return;
     }

@@ -5,7 +5,8 @@
 //!
 //! From the repository's top folder, with the settings that the tuned one is written for:
 //!
-//!     rt staticlib desk_library
+//!     (cd crates/desk_library && rt lib)
+//!     mkdir -p target/staticlib && cp crates/desk_library/out/libdesk_library.a target/staticlib/
 //!     cargo run --profile measured --manifest-path rust/Cargo.toml -p bench
 
 mod grants;
