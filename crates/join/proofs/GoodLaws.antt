@@ -7,7 +7,7 @@ use native.Mathlib.Omega.{arith}
 use lib.ListN.{length, get_or}
 use mir.Val.{Fits}
 use mir.Syntax.{w8}
-use Rattle.xliff.specs.Unit.{target, Part}
+use Rattle.xliff.specs.Unit.{Part}
 use Rattle.xliff.specs.Encode.{encode}
 use Rattle.xliff.specs.Parse.{unit}
 use Rattle.xliff.specs.Check.{Valid, table_refusal}

@@ -1,6 +1,6 @@
 -- A content read piece by piece and element by element.
 use Prim.Native.Nat.{ℕ, ◌-◌, ◌≤◌}
-use mathlib.Core.Path.{◌≡◌, refl, sym, subst, ◌∙◌}
+use mathlib.Core.Path.{◌≡◌, refl, sym, subst}
 use mathlib.Core.Bool.{false}
 use mathlib.Core.List.{List, [], ◌∷◌, ◌++◌}
 use native.Mathlib.Omega.{arith}
@@ -13,7 +13,7 @@ use Rattle.table_builder.specs.declared.Built.{Built}
 use Rattle.xml_piece.specs.Pieces.{rest_at, tag_at, Ahead}
 use Rattle.xml_passages.specs.Passages.{Passage, Blames}
 use Rattle.xml_passages.proofs.PassageLaws.{no_passage, passage_then, passage_as, passage_blames, blames_as}
-use Rattle.xml_records.specs.Collecting.{Collects, Collecting}
+use Rattle.xml_records.specs.Collecting.{Collects}
 use Rattle.xml_records.proofs.CollectLaws.{collects_none, collects_both}
 use Rattle.xml_element.specs.declared.EndTag.{EndTag}
 use Rattle.xml_element.specs.declared.NestedTag.{NestedTag}

@@ -1,5 +1,5 @@
 -- What is read of a start tag in a content, and of an empty element. Stepping stones.
-use Rattle.std.specs.Prelude.{ℕ, ◌≤◌, ◌≡◌, Bool, List, [], ◌∷◌, ◌++◌, length}
+use Rattle.std.specs.Prelude.{ℕ, ◌≤◌, ◌≡◌, Bool, List, ◌∷◌, ◌++◌, length}
 use Rattle.std.proofs.Math.Option.{some}
 use Rattle.xliff.specs.Encode.{Record}
 use Rattle.xliff.specs.Good.{part_heads}

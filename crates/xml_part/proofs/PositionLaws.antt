@@ -5,7 +5,7 @@ use mathlib.Core.Bool.{Bool, true, false}
 use mathlib.Core.List.{List, [], ◌∷◌}
 use native.Mathlib.Omega.{arith}
 use Rattle.xliff.specs.Item.{Item, text, character, standalone, isolated, pair, annotation_start, annotation_end}
-use Rattle.xliff.specs.Encode.{Record, opening, closing, part_head, target_head, text_run, inline, ill_text, broken, record_bytes, text_before, item_before}
+use Rattle.xliff.specs.Encode.{Record, opening, closing, part_head, target_head, text_run, inline, ill_text, broken, record_bytes, item_before}
 use Rattle.xliff.specs.Good.{part_heads}
 use Rattle.xliff.specs.Parse.{is_part, most_parts}
 use Rattle.xml.proofs.MergeLaws.{texts_before, put, merged}

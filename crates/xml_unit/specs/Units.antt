@@ -2,7 +2,7 @@
 use Rattle.std.specs.Prelude.{ℕ, ◌≡◌, List, []}
 use Rattle.xliff.specs.Encode.{Record}
 use Rattle.xml.specs.Tokens.{Token}
-use Rattle.xml.specs.Elements.{Due, part_due, nothing_due, outside, read, bad, behind, elements, xml_records}
+use Rattle.xml.specs.Elements.{Due, part_due, nothing_due, outside, read, bad, elements, xml_records}
 use Rattle.table_builder.specs.declared.Built.{Built}
 use Rattle.xml_piece.specs.Pieces.{rest_at}
 use Rattle.xml_records.specs.Collecting.{Collected, Collects}

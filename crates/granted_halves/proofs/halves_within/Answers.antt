@@ -1,11 +1,8 @@
-use Prim.Native.Nat.{◌-◌}
 use mathlib.Core.Path.{sym, ◌∙◌}
 use native.Mathlib.Omega.{arith}
-use lib.ListN.{length}
-use borrow.Author.Rules.{rules}
-use Rattle.orders.proofs.WalkLaws.{Walked, walked}
+use Rattle.orders.proofs.WalkLaws.{walked}
 use Rattle.granted_parts.specs.Roles.{grant_of}
-use Rattle.granted_halves.proofs.WalkLaws.{Going, going_start, going_few, going_end, going_found, going_on}
+use Rattle.granted_halves.proofs.WalkLaws.{going_start, going_few, going_end, going_found, going_on}
 use Rattle.granted_halves.proofs.halves_within.Goals as goal
 
 -- let mut at: usize = 0;

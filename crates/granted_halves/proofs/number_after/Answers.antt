@@ -1,5 +1,4 @@
 use native.Mathlib.Numerals.{add-one}
-use borrow.Author.Rules.{rules}
 use Rattle.granted_halves.proofs.number_after.Goals as goal
 
 -- if head { n + 1 }

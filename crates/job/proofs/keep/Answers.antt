@@ -2,7 +2,6 @@ use mathlib.Core.Path.{refl, sym}
 use native.Mathlib.Omega.{arith}
 use lib.Seq.{length-take-le}
 use Rattle.job.proofs.StepLaws.{put_keeps}
-use borrow.Author.Rules.{rules}
 use Rattle.job.proofs.keep.Goals as goal
 
 -- &result[..m]

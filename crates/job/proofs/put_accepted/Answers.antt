@@ -6,7 +6,6 @@ use lib.ListN.{length, take}
 use native.Mathlib.Omega.{arith}
 use lib.Seq.{length-take-le}
 use Rattle.job.proofs.StepLaws.{head_by, same_requests}
-use borrow.Author.Rules.{rules}
 use Rattle.job.proofs.put_accepted.Goals as goal
 
 -- &job[..n]

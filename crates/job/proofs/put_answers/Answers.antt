@@ -6,7 +6,6 @@ use lib.ListN.{length, take}
 use native.Mathlib.Omega.{arith}
 use lib.Seq.{length-take-le}
 use Rattle.job.proofs.RunLaws.{job_accepted, job_refused, accepted_small}
-use borrow.Author.Rules.{rules}
 use Rattle.job.proofs.put_answers.Goals as goal
 
 -- put_accepted(job, n, out)

@@ -5,12 +5,8 @@ use native.Mathlib.Omega.{arith}
 use Rattle.lines.proofs.LineLaws.{table_line_length}
 use Rattle.job.proofs.StepLaws.{back_length}
 use Rattle.xliff.proofs.lists.Slices.{tail_is}
-use Rattle.xliff.specs.Parse.{most_bytes}
-use Prim.Native.Nat.{◌-◌, ◌*◌, ◌≤◌}
-use mathlib.Core.Path.{◌≡◌}
 use lib.ListN.{length}
-use Rattle.job.proofs.StepLaws.{Printed, printed_start, printed_on, printed_stop, printed_end}
-use borrow.Author.Rules.{rules}
+use Rattle.job.proofs.StepLaws.{printed_start, printed_on, printed_stop, printed_end}
 use Rattle.job.proofs.put_requests.Goals as goal
 
 -- the loop's start

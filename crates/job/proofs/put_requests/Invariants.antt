@@ -1,16 +1,8 @@
-use mathlib.Core.Path.{refl, sym, ap, ◌∙◌}
-use lib.Seq.{length-take-le}
-use lib.ListN.{take, length-drop}
-use native.Mathlib.Omega.{arith}
-use Rattle.lines.proofs.LineLaws.{table_line_length}
-use Rattle.job.proofs.StepLaws.{back_length}
-use Rattle.xliff.proofs.lists.Slices.{tail_is}
 use Rattle.xliff.specs.Parse.{most_bytes}
 use Prim.Native.Nat.{◌-◌, ◌*◌, ◌≤◌}
 use mathlib.Core.Path.{◌≡◌}
 use lib.ListN.{length}
-use Rattle.job.proofs.StepLaws.{Printed, printed_start, printed_on, printed_stop, printed_end}
-use borrow.Author.Rules.{rules}
+use Rattle.job.proofs.StepLaws.{Printed}
 use Rattle.job.proofs.put_requests.Given as goal
 
 abbrev pub invariant-loop-at : goal.invariant-loop-at

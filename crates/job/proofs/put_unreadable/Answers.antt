@@ -4,7 +4,6 @@ use lib.ListN.{length-append}
 use native.Mathlib.Omega.{arith}
 use Rattle.writer.proofs.PieceLaws.{two_back}
 use Rattle.lines.proofs.LineLaws.{table_line_length}
-use borrow.Author.Rules.{rules}
 use Rattle.job.proofs.put_unreadable.Goals as goal
 
 -- k + lines::put_table(&mut out[k..], t)

@@ -1,9 +1,8 @@
-use Rattle.xliff.specs.Desk.{desk_job, desk}
-use lib.ListN.{take}
+use Rattle.xliff.specs.Desk.{desk}
 use native.Mathlib.Omega.{arith}
 use mathlib.Core.Path.{sym}
 use lib.Seq.{length-take-le}
-use Rattle.job.proofs.RunLaws.{within, whole_job}
+use Rattle.job.proofs.RunLaws.{whole_job}
 use borrow.Author.Rules.{rules}
 use Rattle.job.proofs.run.Goals as goal
 

@@ -1,4 +1,3 @@
-use borrow.Author.Rules.{rules}
 use Rattle.join.proofs.join.Goals as goal
 
 -- join_checked(table, table_check::check(table), wide(part), out)

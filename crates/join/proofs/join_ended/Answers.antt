@@ -2,7 +2,6 @@ use native.Mathlib.Omega.{arith}
 use Rattle.result_rules.proofs.WorkLaws.{work_long, work_passes}
 use Rattle.join.proofs.GoodLaws.{joined_good}
 use Rattle.join.proofs.WorkLaws.{joined_work, answers_17, answers_15, answers_joined}
-use borrow.Author.Rules.{rules}
 use Rattle.join.proofs.join_ended.Goals as goal
 
 -- join_result::put_join(&mut work, table, x, y)

@@ -1,7 +1,6 @@
 use lib.ListN.{length}
 use Rattle.outcomes.proofs.OutcomeLaws.{answers_refused}
 use Rattle.join.proofs.ChainLaws.{no_part}
-use borrow.Author.Rules.{rules}
 use Rattle.join.proofs.join_found.Goals as goal
 
 -- join_next(table, n, x, out)

@@ -3,7 +3,6 @@ use Rattle.part_at.proofs.CheckedLaws.{table_passes}
 use Rattle.outcomes.proofs.OutcomeLaws.{answers_refused}
 use Rattle.join.proofs.ChainLaws.{no_next}
 use Rattle.join.proofs.NextLaws.{next_part, last_part}
-use borrow.Author.Rules.{rules}
 use Rattle.join.proofs.join_next.Goals as goal
 
 -- part_at::part_at(table, n + 1)

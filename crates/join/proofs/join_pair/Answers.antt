@@ -5,7 +5,6 @@ use Rattle.xliff.specs.Answer.{Outcome}
 use Rattle.outcomes.specs.Outcomes.{Answers}
 use Rattle.outcomes.proofs.OutcomeLaws.{answers_refused}
 use Rattle.join.proofs.ChainLaws.{first_closed, second_closed, refused_16, ends}
-use borrow.Author.Rules.{rules}
 use Rattle.join.proofs.join_pair.Goals as goal
 
 -- return Answer::Refused(12, 0)

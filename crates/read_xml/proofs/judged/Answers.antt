@@ -1,10 +1,8 @@
 use Rattle.read_xml.proofs.ReadLaws.{refused_15, accepted_table, refused_table, table_fits}
 use Rattle.answers.specs.Answers.{answer_meaning}
-use lib.ListN.{length, take}
 use lib.Seq.{length-take-le}
 use mathlib.Core.Path.{sym, ap, ◌∙◌}
 use native.Mathlib.Omega.{arith}
-use borrow.Author.Rules.{rules}
 use Rattle.read_xml.specs.Judging.{Judges}
 use Rattle.read_xml.proofs.judged.Goals as goal
 

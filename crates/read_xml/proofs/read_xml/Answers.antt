@@ -6,7 +6,6 @@ use Rattle.outcomes.specs.Outcomes.{Answers}
 use Rattle.xml.specs.Elements.{unit_of_records}
 use lib.ListN.{length}
 use mathlib.Core.Path.{refl, sym, subst}
-use borrow.Author.Rules.{rules}
 use Rattle.read_xml.proofs.read_xml.Goals as goal
 
 -- read_unit(xml, &mut table)

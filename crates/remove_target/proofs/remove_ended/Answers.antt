@@ -6,7 +6,6 @@ use Rattle.xliff.proofs.unit.Result.{small_table}
 use Rattle.result_rules.proofs.WorkLaws.{work_long, work_passes, no_room, has_room}
 use Rattle.result_rules.proofs.EndLaws.{answers_15, answers_broken, answers_kept}
 use Rattle.remove_target.proofs.WorkLaws.{removed_work}
-use borrow.Author.Rules.{rules}
 use Rattle.remove_target.proofs.remove_ended.Goals as goal
 
 -- removed_target::put_removed(&mut work, table, place)

@@ -1,7 +1,6 @@
 use Rattle.remove_target.proofs.ChainLaws.{no_part}
 use Rattle.outcomes.proofs.OutcomeLaws.{answers_refused}
 use lib.ListN.{length}
-use borrow.Author.Rules.{rules}
 use Rattle.remove_target.proofs.remove_found.Goals as goal
 
 -- remove_there(table, n, place, out)

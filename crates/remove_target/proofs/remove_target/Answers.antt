@@ -1,4 +1,3 @@
-use borrow.Author.Rules.{rules}
 use Rattle.remove_target.proofs.remove_target.Goals as goal
 
 -- remove_checked(table, table_check::check(table), wide(part), out)

@@ -4,7 +4,6 @@ use Rattle.outcomes.specs.Outcomes.{Answers}
 use Rattle.xliff.specs.Answer.{Outcome}
 use lib.ListN.{length}
 use mathlib.Core.Path.{sym, ◌∙◌, subst}
-use borrow.Author.Rules.{rules}
 use Rattle.remove_target.proofs.remove_there.Goals as goal
 
 -- return Answer::Refused(20, 0)

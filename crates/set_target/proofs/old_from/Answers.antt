@@ -1,4 +1,3 @@
-use borrow.Author.Rules.{rules}
 use Rattle.set_target.proofs.old_from.Goals as goal
 
 -- place.target + marks::TARGET_WIDTH

@@ -9,7 +9,6 @@ use Rattle.outcomes.proofs.OutcomeLaws.{answers_refused}
 use Rattle.set_target.proofs.ChainLaws.{refused_18, refused_19, ends}
 use Rattle.set_target.proofs.GoodLaws.{content_holds}
 use Rattle.set_target.proofs.OldLaws.{target_small, old_there}
-use borrow.Author.Rules.{rules}
 use Rattle.set_target.proofs.set_content.Goals as goal
 
 -- old_from(place)

@@ -6,7 +6,6 @@ use Rattle.result_rules.proofs.WorkLaws.{work_long, work_passes}
 use Rattle.result_rules.proofs.EndLaws.{answers_15, answers_broken, answers_kept}
 use Rattle.set_target.proofs.GoodLaws.{content_holds}
 use Rattle.set_target.proofs.EndLaws.{size_is, scratch_room, set_work, output_room}
-use borrow.Author.Rules.{rules}
 use Rattle.set_target.proofs.set_ended.Goals as goal
 
 -- set_result::is_too_large(table, place, content, out.len())

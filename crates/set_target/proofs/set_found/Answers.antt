@@ -1,7 +1,6 @@
 use lib.ListN.{length}
 use Rattle.outcomes.proofs.OutcomeLaws.{answers_refused}
 use Rattle.set_target.proofs.ChainLaws.{no_part}
-use borrow.Author.Rules.{rules}
 use Rattle.set_target.proofs.set_found.Goals as goal
 
 -- set_there(table, n, place, state, content, out)

@@ -2,7 +2,6 @@ use lib.ListN.{length}
 use Rattle.xliff.specs.Parse.{content_fault}
 use Rattle.outcomes.proofs.OutcomeLaws.{answers_refused, accepted_without, refused_with}
 use Rattle.set_target.proofs.ChainLaws.{bad_content}
-use borrow.Author.Rules.{rules}
 use Rattle.set_target.proofs.set_judged.Goals as goal
 
 -- set_content(table, n, place, state, content, out)

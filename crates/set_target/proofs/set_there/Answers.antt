@@ -3,7 +3,6 @@ use mathlib.Core.Path.{sym, ◌∙◌}
 use borrow.Author.Tests.{not-true, not-false}
 use Rattle.outcomes.proofs.OutcomeLaws.{answers_refused}
 use Rattle.set_target.proofs.ChainLaws.{refused_2}
-use borrow.Author.Rules.{rules}
 use Rattle.set_target.proofs.set_there.Goals as goal
 
 -- return Answer::Refused(2, 0)

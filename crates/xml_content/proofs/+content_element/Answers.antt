@@ -1,6 +1,6 @@
 -- `step` is what a piece promises of its case, `tag_read` what a start tag does, `read` what an element or a content
 -- does.
-use Prim.Native.Nat.{ℕ, ◌-◌}
+use Prim.Native.Nat.{ℕ}
 use mathlib.Core.Path.{sym, subst}
 use mathlib.Core.List.{List, [], ◌∷◌}
 use native.Mathlib.Omega.{arith}

@@ -1,5 +1,4 @@
 use mathlib.Core.Path.{sym, refl, ◌∙◌}
-use borrow.Author.Rules.{rules}
 use Rattle.xml_content.proofs.close_element.Goals as goal
 
 -- return Went::On(end.next, put_item(table, built, last))

@@ -1,5 +1,4 @@
 use Rattle.xml_content.proofs.StepLaws.{start_step, close_step, comment_step, character_step, reference_step, character_bound, reference_bound, cut_step, fault_step, text_fault_step, end_step}
-use borrow.Author.Rules.{rules}
 use Rattle.xml_content.proofs.plain_piece.Goals as goal
 
 -- put_code_point(table, built, c), of a character

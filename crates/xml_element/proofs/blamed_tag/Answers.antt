@@ -2,7 +2,6 @@ use Rattle.xml_element.proofs.TagLaws.{whole_blamed, cut_blamed, fault_blamed}
 use Rattle.xml_attributes.specs.Tags.{TagRead}
 use Rattle.xml_attributes.proofs.SlotLaws.{all_absent}
 use mathlib.Core.Path.{subst}
-use borrow.Author.Rules.{rules}
 use Rattle.xml_element.proofs.blamed_tag.Goals as goal
 
 -- read_attributes(text, upto, &mut slots)

@@ -3,7 +3,6 @@ use Rattle.xml_names.specs.Names.{bytes_between}
 use Rattle.xml_attributes.specs.Tags.{TagRead}
 use Rattle.xml_attributes.proofs.SlotLaws.{all_absent}
 use mathlib.Core.Path.{subst}
-use borrow.Author.Rules.{rules}
 use Rattle.xml_element.proofs.open_element.Goals as goal
 
 -- read_attributes(text, upto, &mut slots)

@@ -1,6 +1,5 @@
 use Rattle.xml_element.proofs.EmptyLaws.{short_end, long_end}
 use Rattle.xml_names.specs.Names.{bytes_between}
-use borrow.Author.Rules.{rules}
 use Rattle.xml_element.proofs.single_end.Goals as goal
 
 -- return Emptied::On(next)

@@ -1,5 +1,4 @@
 use mathlib.Core.Path.{sym, ◌∙◌}
-use borrow.Author.Rules.{rules}
 use Rattle.xml.specs.Words.{Words·all}
 use Rattle.xml_elements.proofs.NameLaws.{is_mrk, is_sm, is_em, is_none}
 use Rattle.xml_elements.proofs.annotation_element.Goals as goal

@@ -1,5 +1,4 @@
 use native.Mathlib.Omega.{arith}
-use borrow.Author.Rules.{rules}
 use lib.Dec.{eqb}
 use Rattle.xml_elements.proofs.CodeLaws.{both_below, number_lacks, letter_lacks, all_there}
 use Rattle.xml_elements.proofs.code_fields.Goals as goal

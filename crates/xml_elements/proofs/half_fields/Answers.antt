@@ -1,4 +1,3 @@
-use borrow.Author.Rules.{rules}
 use Rattle.xml_elements.proofs.ElementLaws.{half_other, half_are}
 use Rattle.xml_elements.proofs.half_fields.Goals as goal
 

@@ -1,11 +1,8 @@
-use Prim.Native.Nat.{◌+◌, ◌-◌, ◌≤◌}
-use mathlib.Core.Path.{◌≡◌}
 use native.Mathlib.Omega.{arith}
-use borrow.Author.Rules.{rules}
-use lib.ListN.{length, drop, get_or}
+use lib.ListN.{get_or}
 use Rattle.xml_slots.specs.Slots.{ByAttributes}
 use Rattle.xml_elements.proofs.SlotLaws.{told_long}
-use Rattle.xml_elements.proofs.CountLaws.{apart_at, held_most, total, total_next, total_end, only_told}
+use Rattle.xml_elements.proofs.CountLaws.{apart_at, held_most, total_next, total_end, only_told}
 use Rattle.xml_elements.proofs.has_only.Goals as goal
 
 -- slots[slot]: the slot is one of 16

@@ -1,11 +1,7 @@
 use Prim.Native.Nat.{◌+◌, ◌-◌, ◌≤◌}
 use mathlib.Core.Path.{◌≡◌}
-use native.Mathlib.Omega.{arith}
-use borrow.Author.Rules.{rules}
-use lib.ListN.{length, drop, get_or}
-use Rattle.xml_slots.specs.Slots.{ByAttributes}
-use Rattle.xml_elements.proofs.SlotLaws.{told_long}
-use Rattle.xml_elements.proofs.CountLaws.{apart_at, held_most, total, total_next, total_end, only_told}
+use lib.ListN.{length, drop}
+use Rattle.xml_elements.proofs.CountLaws.{total}
 use Rattle.xml_elements.proofs.has_only.Given as goal
 
 -- those that are there so far, and the others

@@ -1,5 +1,4 @@
 use mathlib.Core.Path.{sym, ◌∙◌}
-use borrow.Author.Rules.{rules}
 use Rattle.xml.specs.Words.{Words·all}
 use Rattle.xml_elements.proofs.NameLaws.{is_cp, is_ph, is_pc, is_sc, is_ec, is_annotation}
 use Rattle.xml_elements.proofs.inline_element.Goals as goal

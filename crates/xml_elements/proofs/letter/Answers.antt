@@ -1,5 +1,4 @@
 use native.Mathlib.Omega.{arith}
-use borrow.Author.Rules.{rules}
 use Rattle.xml_elements.specs.Reading.{BySlots}
 use Rattle.xml_elements.proofs.SlotLaws.{told_long, letter_small, letter_absent, letter_bad, letter_good}
 use Rattle.xml_elements.proofs.letter.Goals as goal

@@ -1,6 +1,5 @@
 use mathlib.Core.Path.{sym, ap, ◌∙◌}
 use native.Mathlib.Omega.{arith}
-use borrow.Author.Rules.{rules}
 use Rattle.xml_slots.specs.Slots.{good}
 use Rattle.xml_elements.specs.Reading.{BySlots}
 use Rattle.xml_elements.proofs.SlotLaws.{told_long, optional_told}

@@ -1,6 +1,5 @@
 use mathlib.Core.Path.{refl}
 use native.Mathlib.Omega.{arith}
-use borrow.Author.Rules.{rules}
 use Rattle.xliff.specs.Bytes.{among}
 use Rattle.xml_elements.specs.Reading.{apart}
 use Rattle.xml_elements.proofs.SlotLaws.{told_long}

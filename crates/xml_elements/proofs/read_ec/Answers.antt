@@ -1,6 +1,5 @@
 use Prim.Native.Nat.{ℕ}
 use mathlib.Core.Path.{subst, sym}
-use borrow.Author.Rules.{rules}
 use Rattle.xml.specs.Attributes.{with}
 use Rattle.xml_elements.specs.Reading.{HalfId}
 use Rattle.xml_elements.proofs.ElementLaws.{ec_none, ec_is, half_id_good}

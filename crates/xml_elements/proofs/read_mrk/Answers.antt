@@ -1,5 +1,4 @@
 use mathlib.Core.Path.{refl}
-use borrow.Author.Rules.{rules}
 use Rattle.xliff.specs.Bytes.{among}
 use Rattle.xml_elements.specs.Reading.{apart}
 use Rattle.xml_elements.proofs.ElementLaws.{mrk_none, mrk_some}

@@ -1,7 +1,6 @@
 use mathlib.Core.Bool.{not}
 use mathlib.Core.Path.{refl}
 use native.Mathlib.Omega.{arith}
-use borrow.Author.Rules.{rules}
 use Rattle.xliff.specs.Bytes.{among}
 use Rattle.xml.specs.Attributes.{with}
 use Rattle.xml_elements.specs.Reading.{apart}

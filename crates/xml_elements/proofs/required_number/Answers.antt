@@ -1,5 +1,4 @@
 use native.Mathlib.Omega.{arith}
-use borrow.Author.Rules.{rules}
 use Rattle.xml_elements.specs.Reading.{BySlots}
 use Rattle.xml_elements.proofs.SlotLaws.{told_long, required_good, required_bad}
 use Rattle.xml_elements.proofs.required_number.Goals as goal

@@ -1,6 +1,5 @@
 use mathlib.Core.Path.{refl, sym, subst, ◌∙◌}
 use mathlib.Core.List.{[]}
-use borrow.Author.Rules.{rules}
 use Rattle.xliff.specs.Good.{part_heads}
 use Rattle.xml.specs.Elements.{part_due, target_due, part_end_due, closed, cut_short, finished}
 use Rattle.xml_names.specs.Names.{bytes_between}

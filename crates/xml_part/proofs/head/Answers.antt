@@ -1,5 +1,4 @@
 use mathlib.Core.Path.{refl}
-use borrow.Author.Rules.{rules}
 use Rattle.xml.specs.Elements.{part_due, cut_short}
 use Rattle.xml_names.specs.Names.{bytes_between}
 use Rattle.xml_attributes.proofs.SlotLaws.{all_absent}

@@ -2,7 +2,6 @@ use Prim.Native.Nat.{ℕ, suc}
 use native.Mathlib.Numerals.{add-one}
 use mathlib.Core.Path.{refl, subst}
 use native.Mathlib.Omega.{arith}
-use borrow.Author.Rules.{rules}
 use Rattle.xml.specs.Elements.{part_due, source_due, target_due}
 use Rattle.xml_names.specs.Names.{bytes_between}
 use Rattle.xml_piece.specs.Pieces.{rest_at, tag_at}

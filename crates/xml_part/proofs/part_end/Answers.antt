@@ -1,6 +1,5 @@
 use mathlib.Core.Path.{refl, sym, ◌∙◌}
 use mathlib.Core.List.{[]}
-use borrow.Author.Rules.{rules}
 use Rattle.xml.specs.Elements.{part_due, part_end_due, opened, closed, cut_short, finished, turn, outside}
 use Rattle.xml_names.specs.Names.{bytes_between}
 use Rattle.xml_passages.proofs.OuterLaws.{targeted_part_closes}

@@ -1,5 +1,4 @@
 use native.Mathlib.Omega.{arith}
-use borrow.Author.Rules.{rules}
 use Rattle.xml_part.proofs.PositionLaws.{position_small, beyond_collects}
 use Rattle.xml_part.proofs.StepLaws.{some_collected}
 use Rattle.xml_part.proofs.put_position.Goals as goal

@@ -1,6 +1,5 @@
 use mathlib.Core.Path.{sym, ◌∙◌}
 use native.Mathlib.Omega.{arith}
-use borrow.Author.Rules.{rules}
 use Rattle.xml_part.proofs.SideLaws.{short_side, content_end, side_ends, side_other, side_at_fault}
 use Rattle.xml_part.proofs.side.Goals as goal
 

@@ -1,7 +1,6 @@
 use mathlib.Core.Path.{refl, sym, ap, ◌∙◌}
 use mathlib.Core.Bool.{Bool, ◌&&◌}
 use lib.Dec.{eqb}
-use borrow.Author.Rules.{rules}
 use Rattle.xml.specs.Words.{codes, 'source'}
 use Rattle.xml.specs.Elements.{source_due, cut_short}
 use Rattle.xml_names.specs.Names.{bytes_between}

@@ -1,5 +1,4 @@
 use mathlib.Core.Path.{refl}
-use borrow.Author.Rules.{rules}
 use Rattle.xml.specs.Elements.{source_due, target_due, closed, cut_short, finished}
 use Rattle.xml_part.specs.Parts.{SourceSteps}
 use Rattle.xml_part.proofs.StepLaws.{start_ahead, start_name, start_alike, end_bad, cut_bad, fault_bad, over_bad, steps_from}

@@ -4,7 +4,6 @@ use Rattle.xliff.proofs.lists.Slices.{tail_is}
 use Rattle.xml_front.specs.Fronts.{told}
 use Rattle.xml.proofs.FitLaws.{character_within}
 use Rattle.xml_piece.proofs.PieceLaws.{character_read, character_cut, character_wrong}
-use borrow.Author.Rules.{rules}
 use Rattle.xml_piece.proofs.character_at.Goals as goal
 
 -- let next = behind + more

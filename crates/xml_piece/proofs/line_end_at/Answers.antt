@@ -1,7 +1,6 @@
 use mathlib.Core.Path.{sym, ◌∙◌}
 use Rattle.xliff.proofs.lists.Slices.{tail_is}
 use Rattle.xml_piece.proofs.PieceLaws.{two_read, one_read}
-use borrow.Author.Rules.{rules}
 use Rattle.xml_piece.proofs.line_end_at.Goals as goal
 
 -- return Piece::Character(10, next)

@@ -1,5 +1,4 @@
 use Rattle.xml_piece.proofs.PieceLaws.{markup_read}
-use borrow.Author.Rules.{rules}
 use Rattle.xml_piece.proofs.markup_at.Goals as goal
 
 -- Markup::Start(from, upto) => Piece::Start(from, upto)

@@ -1,7 +1,6 @@
 use mathlib.Core.Path.{sym, ◌∙◌}
 use Rattle.xliff.proofs.lists.Slices.{tail_is}
 use Rattle.xml_piece.proofs.PieceLaws.{text_over, close_read}
-use borrow.Author.Rules.{rules}
 use Rattle.xml_piece.proofs.piece_at.Goals as goal
 
 -- return Piece::End

@@ -1,7 +1,6 @@
 use mathlib.Core.Path.{sym, ◌∙◌}
 use Rattle.xliff.proofs.lists.Slices.{tail_is}
 use Rattle.xml_tag.proofs.CommentLaws.{comment_closed, hyphens_cut, hyphens_wrong}
-use borrow.Author.Rules.{rules}
 use Rattle.xml_tag.proofs.hyphens_at.Goals as goal
 
 -- return Markup::Comment(at + 3)

@@ -2,7 +2,6 @@ use Prim.Native.Nat.{◌+◌}
 use mathlib.Core.Path.{sym, ◌∙◌}
 use Rattle.xliff.proofs.lists.Slices.{tail_is}
 use Rattle.xml_tag.proofs.OpeningLaws.{comment_fits, something_left, opens_comment, opening_cut, opens_tag}
-use borrow.Author.Rules.{rules}
 use Rattle.xml_tag.proofs.tag_at.Goals as goal
 
 -- return comment_at(text, behind + 3)

@@ -1,6 +1,5 @@
 use mathlib.Core.Path.{refl}
 use lib.ListN.{length}
-use borrow.Author.Rules.{rules}
 use Rattle.xml.specs.Elements.{nothing_due, closed}
 use Rattle.xml_names.specs.Names.{bytes_between}
 use Rattle.xml_piece.specs.Pieces.{rest_at}

@@ -1,5 +1,4 @@
 use mathlib.Core.Path.{refl}
-use borrow.Author.Rules.{rules}
 use Rattle.xml.specs.Elements.{unit_due, closed, cut_short, finished}
 use Rattle.xml_piece.specs.Pieces.{rest_at}
 use Rattle.xml_part.proofs.StepLaws.{start_name, start_alike, end_bad, cut_bad, fault_bad, over_bad}

@@ -1,6 +1,5 @@
 use mathlib.Core.Path.{refl, sym, ◌∙◌}
 use borrow.Author.Tests.{not-true, not-false}
-use borrow.Author.Rules.{rules}
 use Rattle.xml.specs.Words.{codes, 'unit'}
 use Rattle.xml.specs.Elements.{unit_due, cut_short}
 use Rattle.xml_names.specs.Names.{bytes_between}

@@ -1,5 +1,4 @@
 use mathlib.Core.Path.{sym, ◌∙◌}
-use borrow.Author.Rules.{rules}
 use Rattle.xml.specs.Words.{codes, 'unit'}
 use Rattle.xml_unit.proofs.UnitLaws.{unit_ends, other_end}
 use Rattle.xml_unit.proofs.unit_end.Goals as goal
