@@ -1,5 +1,4 @@
 use Rattle.desk_library.proofs.TellLaws.{told_as}
-use borrow.Author.Rules.{rules}
 use Rattle.desk_library.proofs.xliff_desk_check.Goals as goal
 
 -- tell(table_check::check(table), number, value)

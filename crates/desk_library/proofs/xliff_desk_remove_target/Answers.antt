@@ -1,5 +1,4 @@
 use Rattle.desk_library.proofs.TellLaws.{tells}
-use borrow.Author.Rules.{rules}
 use Rattle.desk_library.proofs.xliff_desk_remove_target.Goals as goal
 
 -- tell(a, number, value)

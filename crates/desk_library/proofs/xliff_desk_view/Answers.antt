@@ -1,5 +1,4 @@
 use lib.ListN.{length}
-use borrow.Author.Rules.{rules}
 use Rattle.grants.specs.View.{view}
 use Rattle.desk_library.proofs.TellLaws.{tells_granted}
 use Rattle.desk_library.proofs.xliff_desk_view.Goals as goal
