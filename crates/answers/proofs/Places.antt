@@ -14,14 +14,13 @@ use Rattle.xliff.specs.Sequences.{blamed, items, first_of, least}
 use Rattle.xliff.proofs.lists.Tests.{none_some}
 use Rattle.places.specs.Markers.{item_at, placed_at}
 use Rattle.answers.specs.Answers.{refusal_at, lower, toward}
-use Rattle.answers.specs.declared.Place.{Place}
-use Rattle.answers.specs.declared.Place.TheVariants.{Nowhere, At}
+use Rattle.std.specs.Prelude.{Option, None, Some}
 
 -- one place further
-pub toward_if : (n : ℕ) (b : Bool) (best : Place) (at : ℕ) (rest : List ℕ) → toward n best (cond b (at ∷ rest) rest) ≡ toward n (cond b (lower best at) best) rest
+pub toward_if : (n : ℕ) (b : Bool) (best : Option ℕ) (at : ℕ) (rest : List ℕ) → toward n best (cond b (at ∷ rest) rest) ≡ toward n (cond b (lower best at) best) rest
 unfolding toward first_of least
-toward_if n true Nowhere at rest = refl
-toward_if n true (At a) at rest = refl
+toward_if n true None at rest = refl
+toward_if n true (Some a) at rest = refl
 toward_if n false best at rest = refl
 
 blamed_first : (bad : Content → spec.Item → Content → Bool) (t markers : List ℕ) (before : Content) (i : ℕ) → i < length markers
@@ -34,7 +33,7 @@ blamed_first bad t [] before i h = absurd (omega arith)
 blamed_first bad t (o ∷ markers) before zero h = refl
 blamed_first bad t (o ∷ markers) before (suc i) h = blamed_first bad t markers before i (omega arith)
 
-module _ (bad : Content → spec.Item → Content → Bool) (t markers : List ℕ) (before : Content) (i : ℕ) (best : Place) where
+module _ (bad : Content → spec.Item → Content → Bool) (t markers : List ℕ) (before : Content) (i : ℕ) (best : Option ℕ) where
   pub blamed_on : (n : ℕ) (b : Bool) → i < length markers → b ≡ bad before (item_at t (get_or markers i 0)) (items (placed_at t (drop (suc i) markers)))
       → toward n best (blamed bad before (placed_at t (drop i markers)))
       ≡ toward n (cond b (lower best (get_or markers i 0)) best) (blamed bad (item_at t (get_or markers i 0) ∷ before) (placed_at t (drop (i + 1) markers)))
@@ -50,11 +49,11 @@ module _ (bad : Content → spec.Item → Content → Bool) (t markers : List �
   unfolding toward blamed placed_at first_of least
   blamed_end n h = rw (drop_of_length-le markers h) (by best)
     where
-      by : (p : Place) → toward n p [] ≡ refusal_at n p
-      by Nowhere = refl
-      by (At a) = refl
+      by : (p : Option ℕ) → toward n p [] ≡ refusal_at n p
+      by None = refl
+      by (Some a) = refl
 
-pub toward_none : (n : ℕ) (bs : List ℕ) → first_of n bs ≡ toward n Nowhere bs
+pub toward_none : (n : ℕ) (bs : List ℕ) → first_of n bs ≡ toward n None bs
 unfolding toward
 toward_none n bs = refl
 
@@ -67,10 +66,10 @@ place_of : (r s : Refusal) → some r ≡ some s → r.place ≡ s.place
 place_of r s e = cc
 
 -- the least of two lists of places
-pub first_two : (n : ℕ) (p : Place) (xs ys : List ℕ) → refusal_at n p ≡ first_of n xs → first_of n (xs ++ ys) ≡ toward n p ys
+pub first_two : (n : ℕ) (p : Option ℕ) (xs ys : List ℕ) → refusal_at n p ≡ first_of n xs → first_of n (xs ++ ys) ≡ toward n p ys
 unfolding first_of toward
-first_two n Nowhere [] ys e = refl
-first_two n Nowhere (x ∷ xs) ys e = absurd (none_some e)
-first_two n (At a) [] ys e = absurd (none_some (sym e))
-first_two n (At a) (x ∷ xs) ys e =
+first_two n None [] ys e = refl
+first_two n None (x ∷ xs) ys e = absurd (none_some e)
+first_two n (Some a) [] ys e = absurd (none_some (sym e))
+first_two n (Some a) (x ∷ xs) ys e =
     ap (refusal n) (least_append x xs ys ∙ ap (λ (k : ℕ). least k ys) (sym (place_of _ _ e)))

@@ -24,12 +24,10 @@ fn same_fields(t: &[u8], u: &[u8]) -> bool
     requires { (12 ≤ length t.now) × (12 ≤ length u.now) }
     ensures { result ≡ equal (fields_at t.now) (fields_at u.now) }
 {
-    let mut i: usize = 2;
-    while i < 12 {
+    for i in 2..12 {
         if !(t[i] == u[i]) {
             return false;
         }
-        i += 1;
     }
     true
 }

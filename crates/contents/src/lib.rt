@@ -67,9 +67,7 @@ pub fn bar_keys(t: &[u8], markers: &[u16], out: &mut [u32])
     requires { length markers.now ≤ length out.old }
     ensures { (take (length markers.now) out.new ≡ bar_keys t.now markers.now) × (length out.new ≡ length out.old) }
 {
-    let mut i: usize = 0;
-    while i < markers.len() {
+    for i in 0..markers.len() {
         out[i] = bar_key(t, marks::wide(markers[i]));
-        i += 1;
     }
 }

@@ -13,8 +13,7 @@ use Rattle.xliff.specs.Desk as desk
 use Rattle.xliff.specs.Desk.{request}
 use Rattle.requests.specs.declared.Request.{Request}
 use Rattle.requests.specs.declared.Request.TheVariants.{Split, Join, SetTarget, RemoveTarget, Rewrite}
-use Rattle.requests.specs.declared.Asked.{Asked}
-use Rattle.requests.specs.declared.Asked.TheVariants.{Readable, Unreadable}
+use Rattle.std.specs.Prelude.{Option as RustOption, Some, None}
 use Rattle.requests.specs.Requests.{call_with, call_of, request_size, asked_meaning, SizeIn}
 use Rattle.grants.specs.Grant.{Grant, granted, unless_refused, GrantedCall, granted_outcome}
 use Rattle.grants.specs.Requests.{with_room, alone, read_outcome, granted_request}
@@ -44,7 +43,7 @@ module _ (g : Grant) (t s : List ℕ) (room : ℕ) where
       ap (λ (o : Option Refusal). unless_refused o (read_outcome g t room (alone s (request s)))) e
 
   -- it passes, and this was read
-  module _ (v : table_refusal t ≡ none) (a : Asked) (e : asked_meaning s a ≡ request s) where
+  module _ (v : table_refusal t ≡ none) (a : RustOption Request) (e : asked_meaning s a ≡ request s) where
     read_as : granted_request g t s room ≡ read_outcome g t room (alone s (asked_meaning s a))
     unfolding granted_request unless_refused
     read_as =
@@ -52,18 +51,18 @@ module _ (g : Grant) (t s : List ℕ) (room : ℕ) where
         v (sym e)
 
     -- no request
-    pub unreadable : a ≡ Unreadable → granted_request g t s room ≡ refuse (record { number = 2; place = 0 })
+    pub unreadable : a ≡ None → granted_request g t s room ≡ refuse (record { number = 2; place = 0 })
     unfolding alone read_outcome
-    unreadable u = read_as ∙ ap (λ (x : Asked). read_outcome g t room (alone s (asked_meaning s x))) u
+    unreadable u = read_as ∙ ap (λ (x : RustOption Request). read_outcome g t room (alone s (asked_meaning s x))) u
 
-    module _ (r : Request) (is : a ≡ Readable r) where
+    module _ (r : Request) (is : a ≡ Some r) where
       abbrev asked : desk.Request
       asked = record { call = call_of s r; size = request_size r }
 
       sized : granted_request g t s room
           ≡ read_outcome g t room (cond (eqb (request_size r) (length s)) (some asked) none)
       unfolding alone
-      sized = read_as ∙ ap (λ (x : Asked). read_outcome g t room (alone s (asked_meaning s x))) is
+      sized = read_as ∙ ap (λ (x : RustOption Request). read_outcome g t room (alone s (asked_meaning s x))) is
 
       -- bytes behind it
       pub not_alone : eqb (request_size r) (length s) ≡ false
@@ -81,5 +80,5 @@ module _ (g : Grant) (t s : List ℕ) (room : ℕ) where
           ∙ ap (λ (c : Call). granted_outcome t (record { grant = g; call = c })) (room_is room s r)
 
 -- the size of what was read
-pub read_size : (s : List ℕ) (a : Asked) (r : Request) → a ≡ Readable r → SizeIn s a → request_size r ≤ length s
+pub read_size : (s : List ℕ) (a : RustOption Request) (r : Request) → a ≡ Some r → SizeIn s a → request_size r ≤ length s
 read_size s a r is h = (subst (SizeIn s) is h).1

@@ -13,7 +13,7 @@ ghost use Rattle.granted_calls.specs.Called.{call_granted};
 
 use answers::Answer;
 use granted_parts::Role;
-use requests::{Asked, Request};
+use requests::Request;
 
 // 24, then the request `r` at the head of `s`.
 fn call_read(
@@ -38,7 +38,7 @@ fn call_passed(role: Role, positions: &[u8], table: &[u8], request: &[u8], out: 
     requires { table_refusal table.now ≡ none }
     ensures { Answers (granted_request (grant_of role positions.now) table.now request.now (length out.old)) result out.old out.new }
 {
-    let Asked::Readable(r) = requests::request_of(request) else {
+    let Some(r) = requests::request_of(request) else {
         return Answer::Refused(2, 0);
     };
     if requests::size_of(r) == request.len() {

@@ -40,13 +40,11 @@ fn wide(x: u8) -> usize
 fn is_listed(positions: &[u8], n: usize) -> bool
     ensures { result ≡ among n positions.now }
 {
-    let mut i: usize = 0;
-    while i < positions.len() {
+    for i in 0..positions.len() {
         let p = wide(positions[i]);
         if n == p {
             return true;
         }
-        i += 1;
     }
     false
 }

@@ -29,10 +29,8 @@ pub fn link_before(keys: &[u32], links: &mut [u16], heads: &mut [u16])
     ensures { Linked keys.now links.new × Headed keys.now heads.new
         × (length links.new ≡ most_records) × (length heads.new ≡ 256) }
 {
-    let mut i: usize = 0;
-    while i < keys.len() {
+    for i in 0..keys.len() {
         link(links, heads, i, keys[i]);
-        i += 1;
     }
 }
 

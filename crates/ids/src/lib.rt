@@ -11,7 +11,6 @@ ghost use Rattle.places.specs.Passes.{Passes};
 ghost use Rattle.ids.specs.Keys.{Keyed, PairKeyed, ItemKeyed, HeadKeyed, RecordKeyed, ReadKeyed, clash_test, name_by, owner_by, NameAt};
 ghost use Rattle.ids.specs.KeyLinks.{Links, LinkedIf};
 
-use answers::Place;
 use limits::MOST_RECORDS;
 use table::{Fields, Half, Item, Read, Record};
 
@@ -160,7 +159,7 @@ fn link_if(links: &mut [u16], heads: &mut [u16], n: usize, k: u32) -> usize
 
 // Rule 6. Linear: each id is compared with those before it whose last eight bits are the same; quadratic only if they
 // are of all.
-pub fn rule_6(t: &[u8]) -> Place
+pub fn rule_6(t: &[u8]) -> Option<usize>
     requires { Passes t.now }
     ensures { refusal_at 6 result ≡ fault_6 (unit t.now).parts }
 {
@@ -174,12 +173,12 @@ pub fn rule_6(t: &[u8]) -> Place
         let g = walker::glance_at(t, at);
         let k = name_at(t, at, g.head, o);
         if clash_if(&keys[..n], &links, &heads, k) {
-            return Place::At(at);
+            return Some(at);
         }
         keys[n] = k;
         n = link_if(&mut links, &mut heads, n, k);
         o = owner_by(g.head, o);
         at += g.width;
     }
-    Place::Nowhere
+    None
 }

@@ -13,7 +13,7 @@ ghost use Rattle.job.specs.Job.{FitsIn, kept_table, Performed};
 
 use answers::Answer;
 use limits::MOST_BYTES;
-use requests::{Asked, Request};
+use requests::Request;
 
 // What a request printed, and the length of the table that it left.
 #[derive(Clone, Copy)]
@@ -74,13 +74,13 @@ fn put_requests(job: &[u8], n: usize, table: &mut [u8], out: &mut [u8]) -> usize
     let mut k: usize = 0;
     while at < job.len() {
         match requests::request_of(&job[at..]) {
-            Asked::Readable(r) => {
+            Some(r) => {
                 let s = answer_request(r, &job[at..], table, m, &mut out[k..]);
                 k += s.printed;
                 m = s.length;
                 at += requests::size_of(r);
             }
-            Asked::Unreadable => {
+            None => {
                 return k + put_unreadable(&mut out[k..], at, &table[..m]);
             }
         }

@@ -14,7 +14,7 @@ ghost use Rattle.join.specs.Pair.{PairAt, Ended, PairAnswers};
 
 use answers::Answer;
 use limits::MOST_BYTES;
-use part_at::{FoundPart, PartPlace};
+use part_at::PartPlace;
 
 // 17, 15, then the bytes. Rule 7 is judged on the result, which stands in `work` until no refusal is left.
 fn join_ended(table: &[u8], x: PartPlace, y: PartPlace, out: &mut [u8]) -> Answer
@@ -55,18 +55,18 @@ fn join_next(table: &[u8], n: usize, x: PartPlace, out: &mut [u8]) -> Answer
     ensures { Answers (join table.now n (length out.old)) result out.old out.new }
 {
     match part_at::part_at(table, n + 1) {
-        FoundPart::At(y) => join_pair(table, x, y, out),
-        FoundPart::Missing => Answer::Refused(11, 0),
+        Some(y) => join_pair(table, x, y, out),
+        None => Answer::Refused(11, 0),
     }
 }
 
-fn join_found(table: &[u8], n: usize, found: FoundPart, out: &mut [u8]) -> Answer
+fn join_found(table: &[u8], n: usize, found: Option<PartPlace>, out: &mut [u8]) -> Answer
     requires { (table_refusal table.now ≡ none) × PartFound table.now (focus (unit table.now).parts n) found × (n < 65536) }
     ensures { Answers (join table.now n (length out.old)) result out.old out.new }
 {
     match found {
-        FoundPart::At(x) => join_next(table, n, x, out),
-        FoundPart::Missing => Answer::Refused(11, 0),
+        Some(x) => join_next(table, n, x, out),
+        None => Answer::Refused(11, 0),
     }
 }
 

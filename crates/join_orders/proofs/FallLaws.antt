@@ -18,8 +18,7 @@ use Rattle.places.proofs.Places.{content_inner}
 use Rattle.table.specs.Meaning.{body}
 use Rattle.table.specs.declared.Read.TheVariants.{Good}
 use Rattle.glance.specs.declared.Glance.{Glance}
-use Rattle.orders.specs.declared.Order.{Order}
-use Rattle.orders.specs.declared.Order.TheVariants.{Is, Not}
+use Rattle.std.specs.Prelude.{Option, Some, None}
 use Rattle.orders.proofs.OrderLaws.{order_walked}
 use Rattle.orders.proofs.WalkLaws.{Walked}
 use Rattle.part_at.specs.declared.PartPlace.{PartPlace}
@@ -27,15 +26,15 @@ use Rattle.part_at.specs.Stands.{TargetStands}
 use Rattle.part_at.proofs.SpanLaws.{order_at, order_same}
 use Rattle.join_orders.specs.Falls.{FallsAbove}
 
-abbrev sets_order : ℕ → Order → Bool
-sets_order q (Is k) = eqb q k
-sets_order q Not = false
+abbrev sets_order : ℕ → Option ℕ → Bool
+sets_order q (Some k) = eqb q k
+sets_order q None = false
 
 -- a record sets the order q
 abbrev pub Sets : ℕ → encode.Record → Bool
 Sets q r = sets_order q (order_at r)
 
-sets_by : (q k : ℕ) (b : Bool) → b && eqb q k ≡ sets_order q (cond b (Is k) Not)
+sets_by : (q k : ℕ) (b : Bool) → b && eqb q k ≡ sets_order q (cond b (Some k) None)
 sets_by q k true = refl
 sets_by q k false = refl
 

@@ -15,7 +15,6 @@ ghost use Rattle.xliff.specs.Parse.{unit};
 ghost use Rattle.sequences.specs.Markers.{Markers};
 ghost use Rattle.places.specs.Markers.{placed_at};
 
-use answers::Place;
 use views::View;
 
 // canReorder of the end whose start has `c`: "N for F and else equal".
@@ -74,20 +73,18 @@ fn ill_ended(t: &[u8], markers: &[u16], keys: &[u32], i: usize, x: View) -> bool
 
 // Rule 8 over the markers of a sequence, below `start`.
 // Quadratic in the markers: each end looks for its start among the keys before it.
-fn eight_in(t: &[u8], source: bool, markers: &[u16], keys: &[u32], start: Place) -> Place
+fn eight_in(t: &[u8], source: bool, markers: &[u16], keys: &[u32], start: Option<usize>) -> Option<usize>
     requires { keys.now ≡ keys_at t.now markers.now }
     ensures { refusal_at 8 result ≡ toward 8 start (blamed (bad_8 source) [] (placed_at t.now markers.now)) }
 {
     let mut best = start;
     let mut led = false;
-    let mut i = 0;
-    while i < markers.len() {
+    for i in 0..markers.len() {
         let at = marks::wide(markers[i]);
         let x = keys::view_at(t, at, keys[i]);
         let bad = ill_ended(t, markers, keys, i, x) | bad_alone(source, led, x);
         best = answers::lower_if(bad, best, at);
         led = is_leading(x) | led;
-        i += 1;
     }
     best
 }
@@ -99,10 +96,10 @@ pub fn rule_8(
     source_keys: &[u32],
     target_markers: &[u16],
     target_keys: &[u32],
-) -> Place
+) -> Option<usize>
     requires { Markers t.now source_markers.now source_keys.now target_markers.now target_keys.now }
     ensures { refusal_at 8 result ≡ fault_8 (unit t.now).parts }
 {
-    let source = eight_in(t, true, source_markers, source_keys, Place::Nowhere);
+    let source = eight_in(t, true, source_markers, source_keys, None);
     eight_in(t, false, target_markers, target_keys, source)
 }

@@ -82,13 +82,11 @@ fn put_hex(out: &mut [u8], t: &[u8]) -> usize
     requires { (length t.now ≤ 65535) × (2 * length t.now ≤ length out.old) }
     ensures { (result ≡ length (hex t.now)) × (out.new ≡ lead (hex t.now) out.old) × (result ≡ 2 * length t.now) }
 {
-    let mut i: usize = 0;
     let mut at: usize = 0;
-    while i < t.len() {
+    for i in 0..t.len() {
         let b = t[i];
         let k = writer::put_byte(out, at, hex_digit(b / 16));
         at = writer::put_byte(out, k, hex_digit(b % 16));
-        i += 1;
     }
     at
 }

@@ -19,8 +19,7 @@ use Rattle.views.specs.Views.{items_of_markers}
 use Rattle.keys.specs.Keys.{key}
 use Rattle.keys.proofs.KeyLaws.{class_key_lem}
 use Rattle.answers.specs.Answers.{refusal_at, lower, toward}
-use Rattle.answers.specs.declared.Place.{Place}
-use Rattle.answers.specs.declared.Place.TheVariants.{Nowhere}
+use Rattle.std.specs.Prelude.{Option, None}
 use Rattle.answers.proofs.Places.{blamed_on, blamed_end, toward_none}
 use Rattle.contents.specs.Contents.{bar_key, bar_keys, barred, is_bar, run}
 use Rattle.contents.specs.Nesting.{lone_p_Key}
@@ -124,7 +123,7 @@ module _ (t markers : List ℕ) (i : ℕ) where
 unfoldable pub lone_left : List ℕ → List ℕ → ℕ → List ℕ
 lone_left t markers i = blamed lone_bar (items_of_markers t (reverse (take i markers))) (placed_at t (drop i markers))
 
-module _ (t markers keys : List ℕ) (same : keys ≡ bar_keys t markers) (i : ℕ) (best : Place) where
+module _ (t markers keys : List ℕ) (same : keys ≡ bar_keys t markers) (i : ℕ) (best : Option ℕ) where
   pub lone_on : (b : Bool) (at : ℕ) → i < length markers → b ≡ lone_p_Key (run (reverse (take i keys))) (get_or keys i 0) (run (drop (i + 1) keys)) → at ≡ get_or markers i 0
       → toward 7 best (lone_left t markers i) ≡ toward 7 (cond b (lower best at) best) (lone_left t markers (i + 1))
   unfolding lone_left
@@ -139,7 +138,7 @@ module _ (t markers keys : List ℕ) (same : keys ≡ bar_keys t markers) (i : �
   lone_end h e = sym (e ∙ blamed_end lone_bar t markers (items_of_markers t (reverse (take i markers))) i best 7 h)
 
 pub lone_start : (t markers : List ℕ) → Passes t → markers ≡ barred true t → first_of 7 (gather (blamed lone_P []) (placed_contents (located (unit t).parts)))
-    ≡ toward 7 Nowhere (lone_left t markers 0)
+    ≡ toward 7 None (lone_left t markers 0)
 unfolding lone_left items_of_markers
 lone_start t markers p e =
     ap (first_of 7) (sym (contents_blamed t p) ∙ ap (λ (l : List ℕ). blamed lone_bar [] (placed_at t l)) (sym e)) ∙ toward_none 7 (blamed lone_bar [] (placed_at t markers))

@@ -13,7 +13,6 @@ ghost use Rattle.contents.specs.Contents.{barred, bar_keys, run};
 ghost use Rattle.contents.specs.Nesting.{meet_keys, all_met_keys, lone_p_Key};
 ghost use Rattle.nesting.specs.Scan.{steps_away, index_away, away, is_apart, depth_after_half, is_halfP};
 
-use answers::Place;
 use limits::MOST_RECORDS;
 
 // How many keys stand before the one at `i`, or after it, of `n`.
@@ -66,8 +65,7 @@ fn is_met(keys: &[u32], back: bool, i: usize, stack: &mut [u32]) -> bool
     stack[0] = keys[i];
     let n = steps_away(back, i, keys.len());
     let mut depth: usize = 1;
-    let mut j: usize = 0;
-    while j < n {
+    for j in 0..n {
         let k = key_away(keys, back, i, j);
         let x = stack[depth - 1];
         if is_apart(x, k) {
@@ -78,7 +76,6 @@ fn is_met(keys: &[u32], back: bool, i: usize, stack: &mut [u32]) -> bool
         if depth == 0 {
             return true;
         }
-        j += 1;
     }
     false
 }
@@ -106,17 +103,15 @@ pub fn is_lone(keys: &[u32], i: usize, stack: &mut [u32]) -> bool
 // The first half of pc or mrk without partner, over all contents.
 // Work: for each half the steps to its partner, or to the end of its content: at most the square of the number of
 // markers.
-pub fn first_lone(t: &[u8], markers: &[u16], keys: &[u32]) -> Place
+pub fn first_lone(t: &[u8], markers: &[u16], keys: &[u32]) -> Option<usize>
     requires { Passes t.now × (markers.now ≡ barred true t.now) × (keys.now ≡ bar_keys t.now markers.now) × (length markers.now ≤ most_records) }
     ensures { refusal_at 7 result ≡ first_of 7 (gather (blamed lone_P []) (placed_contents (located (unit t.now).parts))) }
 {
     let mut stack: [u32; MOST_RECORDS] = [0; MOST_RECORDS];
-    let mut best = Place::Nowhere;
-    let mut i: usize = 0;
-    while i < markers.len() {
+    let mut best = None;
+    for i in 0..markers.len() {
         let lone = is_lone(keys, i, &mut stack);
         best = answers::lower_if(lone, best, marks::wide(markers[i]));
-        i += 1;
     }
     best
 }

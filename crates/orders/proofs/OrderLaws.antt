@@ -29,16 +29,16 @@ use Rattle.table.specs.declared.Read.TheVariants.{Good, Ill, Broken}
 use Rattle.glance.specs.declared.Glance.{Glance}
 use Rattle.glance.specs.Glances.{head_kind_in, order_number}
 use Rattle.orders.specs.Heads.{order_in, order_of, order_by}
-use Rattle.orders.specs.declared.Order.TheVariants.{Is, Not}
+use Rattle.std.specs.Prelude.{Some, None}
 use Rattle.orders.proofs.WalkLaws.{Stepped, Walked}
 
-pub is_not : {A : Type 0} {q : ℕ} → Not ≡ Is q → A
+pub is_not : {A : Type 0} {q : ℕ} → None ≡ Some q → A
 is_not e = absurd (let z : ◌≡◌ {A = ℕ} 0 1 = cc in omega arith)
 
-pub is_is : {q k : ℕ} → Is k ≡ Is q → k ≡ q
+pub is_is : {q k : ℕ} → Some k ≡ Some q → k ≡ q
 is_is e = cc
 
-order_target : (cs : List ℕ) (r : Read) (q : ℕ) → order_of r ≡ Is q → meaning cs r ≡ target_head q
+order_target : (cs : List ℕ) (r : Read) (q : ℕ) → order_of r ≡ Some q → meaning cs r ≡ target_head q
 order_target cs (Good (UnitStart c) w) q e = is_not e
 order_target cs (Good UnitEnd w) q e = is_not e
 order_target cs (Good (Segment f) w) q e = is_not e
@@ -49,7 +49,7 @@ order_target cs (Good (Inline i) w) q e = is_not e
 order_target cs Ill q e = is_not e
 order_target cs (Broken b) q e = is_not e
 
-order_none : (cs : List ℕ) (r : Read) (at : ℕ) (qs : List encode.Record) → order_of r ≡ Not
+order_none : (cs : List ℕ) (r : Read) (at : ℕ) (qs : List encode.Record) → order_of r ≡ None
     → orders_found at (meaning cs r ∷ qs) ≡ orders_found (at + length (record_bytes (meaning cs r))) qs
 unfolding found found_at state_after
 order_none cs (Good (UnitStart c) w) at qs e = refl
@@ -62,7 +62,7 @@ order_none cs (Good (Inline i) w) at qs e = refl
 order_none cs Ill at qs e = refl
 order_none cs (Broken b) at qs e = refl
 
-order_in_lem : (x : Record) → order_in x ≡ cond (eqb (head_kind_in x) 1) (Is (order_number x)) Not
+order_in_lem : (x : Record) → order_in x ≡ cond (eqb (head_kind_in x) 1) (Some (order_number x)) None
 order_in_lem (UnitStart c) = refl
 order_in_lem UnitEnd = refl
 order_in_lem (Segment f) = refl
@@ -75,13 +75,13 @@ pub order_walked : (t : List ℕ) (at : ℕ) (rs : List encode.Record) (g : Glan
 order_walked t at rs g v = order_in_lem v.the ∙ ap (λ (h : Glance). order_by h) (sym v.is)
 
 module _ (t : List ℕ) (at : ℕ) (rs : List encode.Record) (r : Read) (s : Stepped t at rs r) (n : ℕ) (us : List ℕ) where
-  pub orders_skip : order_of r ≡ Not → first_bad_in n us (orders_found at rs) ≡ first_bad_in n us (orders_found (at + width r) s.others)
+  pub orders_skip : order_of r ≡ None → first_bad_in n us (orders_found at rs) ≡ first_bad_in n us (orders_found (at + width r) s.others)
   orders_skip e =
       ap (λ (l : List encode.Record). first_bad_in n us (orders_found at l)) (s.split ∙ ap (λ (x : encode.Record). x ∷ s.others) (sym s.means))
       ∙ ap (first_bad_in n us) (order_none (body (drop at t)) r at s.others e)
       ∙ ap (λ (k : ℕ). first_bad_in n us (orders_found (at + k) s.others)) (ap (λ (x : encode.Record). length (record_bytes x)) s.means ∙ sym s.wide)
 
-  pub orders_at : (q : ℕ) → order_of r ≡ Is q
+  pub orders_at : (q : ℕ) → order_of r ≡ Some q
       → first_bad_in n us (orders_found at rs) ≡ cond (bad_order n us q) (refusal 5 at) (first_bad_in n (q ∷ us) (orders_found (at + width r) s.others))
   unfolding first_bad_in found found_at state_after
   orders_at q e =
@@ -146,7 +146,7 @@ ordering_end {t} {n} {used} {at} o l = sym (o.rest ∙ orders_end t at o.records
 
 -- one record further
 module _ {t : List ℕ} {n : ℕ} {used : List ℕ} {at : ℕ} (o : Ordering t n used at) (g : Glance) (v : Walked t at o.records g) where
-  pub ordering_skips : order_by g ≡ Not → Ordering t n used (at + g.width)
+  pub ordering_skips : order_by g ≡ None → Ordering t n used (at + g.width)
   ordering_skips e =
       record {
         records = v.step.others;
@@ -159,7 +159,7 @@ module _ {t : List ℕ} {n : ℕ} {used : List ℕ} {at : ℕ} (o : Ordering t n
       }
 
   -- a target's order q: the code's test of it, and what follows of it
-  module _ (few : n ≤ most_parts) (q : ℕ) (e : order_by g ≡ Is q) where
+  module _ (few : n ≤ most_parts) (q : ℕ) (e : order_by g ≡ Some q) where
     abbrev is_bad : Bool
     is_bad = eqb q 0 || (ltb n q || eqb (get_or used q 0) 1)
 

@@ -8,7 +8,6 @@ ghost use Rattle.xliff.specs.Rules.{fault_5};
 ghost use Rattle.places.specs.Passes.{Passes};
 ghost use Rattle.orders.specs.Heads.{order_by};
 
-use answers::Place;
 use glance::Glance;
 
 fn plus_if(b: bool, n: usize) -> usize
@@ -33,20 +32,14 @@ pub fn count_parts(t: &[u8]) -> usize
     n
 }
 
-#[derive(Clone, Copy)]
-pub enum Order {
-    Is(u16),
-    Not,
-}
-
 // The order that a record sets.
-fn order_of(g: Glance) -> Order
+fn order_of(g: Glance) -> Option<u16>
     ensures { result ≡ order_by g }
 {
     if g.head == 1 {
-        return Order::Is(g.order);
+        return Some(g.order);
     }
-    Order::Not
+    None
 }
 
 fn bad_order(n: usize, used: &[u8; 65], k: usize) -> bool
@@ -60,7 +53,7 @@ fn bad_order(n: usize, used: &[u8; 65], k: usize) -> bool
 }
 
 // Rule 5 of a table with `n` parts.
-pub fn rule_5(t: &[u8], n: usize) -> Place
+pub fn rule_5(t: &[u8], n: usize) -> Option<usize>
     requires { Passes t.now × (n ≡ length (unit t.now).parts) }
     ensures { refusal_at 5 result ≡ fault_5 (unit t.now).parts }
 {
@@ -70,18 +63,18 @@ pub fn rule_5(t: &[u8], n: usize) -> Place
         let g = walker::glance_at(t, at);
         let w = g.width;
         match order_of(g) {
-            Order::Is(q) => {
+            Some(q) => {
                 let k = q as usize;
                 if bad_order(n, &used, k) {
-                    return Place::At(at);
+                    return Some(at);
                 }
                 used[k] = 1;
                 at += w;
             }
-            Order::Not => {
+            None => {
                 at += w;
             }
         }
     }
-    Place::Nowhere
+    None
 }

@@ -1,10 +1,9 @@
 -- Rule 9 on keys.
-use Rattle.std.specs.Prelude.{ℕ, suc, ◌<◌, ◌≡◌, Bool, true, false, not, ◌&&◌, ◌||◌, List, [], eqb, ltb, length, get_or, drop}
+use Rattle.std.specs.Prelude.{ℕ, suc, ◌<◌, ◌≡◌, Bool, true, false, not, ◌&&◌, ◌||◌, List, [], eqb, ltb, length, get_or, drop, Option}
 use Rattle.views.specs.declared.View.{View}
 use Rattle.keys.specs.Keys.{class_key, half_key}
 use Rattle.halves.specs.Nearest.{half_before, half_after, marker_at}
 use Rattle.answers.specs.Answers.{refusal_at, toward}
-use Rattle.answers.specs.declared.Place.{Place}
 use Rattle.xliff.specs.Item.{Content}
 use Rattle.xliff.specs.Sequences.{blamed, items}
 use Rattle.xliff.specs.Rules.{bad_9}
@@ -41,4 +40,4 @@ OpenAt t markers i r = (before : Content) → r ≡ false → false ≡ bad_9 be
 
 -- where it fails of all markers, rule 9 leaves any place as it is
 abbrev pub AllOpen : List ℕ → List ℕ → Bool → Type 0
-AllOpen t markers r = (p : Place) → r ≡ true → refusal_at 9 p ≡ toward 9 p (blamed bad_9 [] (placed_at t markers))
+AllOpen t markers r = (p : Option ℕ) → r ≡ true → refusal_at 9 p ≡ toward 9 p (blamed bad_9 [] (placed_at t markers))

@@ -16,7 +16,6 @@ ghost use Rattle.xliff.specs.Parse.{unit, most_records};
 ghost use Rattle.sequences.specs.Markers.{Markers};
 ghost use Rattle.places.specs.Markers.{placed_at};
 
-use answers::Place;
 use limits::MOST_RECORDS;
 use views::View;
 
@@ -26,10 +25,8 @@ fn fill_starts(keys: &[u32], links: &[u16], starts: &mut [u16])
     requires { (length keys.now ≤ most_records) × (length links.now ≡ most_records) × (length starts.old ≡ most_records) × Linked keys.now links.now }
     ensures { (length starts.new ≡ most_records) × Filled (half_before keys.now) (length keys.now) starts.new }
 {
-    let mut i = 0;
-    while i < keys.len() {
+    for i in 0..keys.len() {
         starts[i] = halves::linked_before(keys, links, i) as u16;
-        i += 1;
     }
 }
 
@@ -39,10 +36,8 @@ fn fill_ends(keys: &[u32], links: &[u16], ends: &mut [u16])
     requires { (length keys.now ≤ most_records) × (length links.now ≡ most_records) × (length ends.old ≡ most_records) × LinkedAfter keys.now links.now }
     ensures { (length ends.new ≡ most_records) × Filled (half_after keys.now) (length keys.now) ends.new }
 {
-    let mut i = 0;
-    while i < keys.len() {
+    for i in 0..keys.len() {
         ends[i] = halves::linked_after(keys, links, i) as u16;
-        i += 1;
     }
 }
 
@@ -142,18 +137,16 @@ fn overlapping(
     keys: &[u32],
     starts: &[u16],
     ends: &[u16],
-    start: Place,
-) -> Place
+    start: Option<usize>,
+) -> Option<usize>
     requires { (keys.now ≡ keys_at t.now markers.now) × (length markers.now ≤ most_records) × Halves keys.now starts.now ends.now
         × (length starts.now ≡ most_records) × (length ends.now ≡ most_records) }
     ensures { refusal_at 9 result ≡ toward 9 start (blamed bad_9 [] (placed_at t.now markers.now)) }
 {
     let mut best = start;
-    let mut i = 0;
-    while i < markers.len() {
+    for i in 0..markers.len() {
         let bad = encloses_stray(t, markers, keys, starts, ends, i);
         best = answers::lower_if(bad, best, marks::wide(markers[i]));
-        i += 1;
     }
     best
 }
@@ -174,19 +167,17 @@ fn all_open(t: &[u8], markers: &[u16], keys: &[u32]) -> bool
     requires { keys.now ≡ keys_at t.now markers.now }
     ensures { AllOpen t.now markers.now result }
 {
-    let mut i = 0;
-    while i < markers.len() {
+    for i in 0..markers.len() {
         if is_closed(t, markers, keys, i) {
             return false;
         }
-        i += 1;
     }
     true
 }
 
 // Rule 9 over the markers of a sequence, below `start`. Where no pair is closed, other halves are not looked for.
 // Quadratic in the markers: `overlapping`.
-fn nine_in(t: &[u8], markers: &[u16], keys: &[u32], start: Place) -> Place
+fn nine_in(t: &[u8], markers: &[u16], keys: &[u32], start: Option<usize>) -> Option<usize>
     requires { (keys.now ≡ keys_at t.now markers.now) × (length markers.now ≤ most_records) }
     ensures { refusal_at 9 result ≡ toward 9 start (blamed bad_9 [] (placed_at t.now markers.now)) }
 {
@@ -197,7 +188,7 @@ fn nine_in(t: &[u8], markers: &[u16], keys: &[u32], start: Place) -> Place
 }
 
 // The same with the nearest other halves of all markers.
-fn nine_by_halves(t: &[u8], markers: &[u16], keys: &[u32], start: Place) -> Place
+fn nine_by_halves(t: &[u8], markers: &[u16], keys: &[u32], start: Option<usize>) -> Option<usize>
     requires { (keys.now ≡ keys_at t.now markers.now) × (length markers.now ≤ most_records) }
     ensures { refusal_at 9 result ≡ toward 9 start (blamed bad_9 [] (placed_at t.now markers.now)) }
 {
@@ -214,7 +205,7 @@ pub fn rule_9(
     source_keys: &[u32],
     target_markers: &[u16],
     target_keys: &[u32],
-) -> Place
+) -> Option<usize>
     requires { Markers t.now source_markers.now source_keys.now target_markers.now target_keys.now }
     ensures { refusal_at 9 result ≡ fault_9 (unit t.now).parts }
 {
@@ -222,6 +213,6 @@ pub fn rule_9(
         t,
         target_markers,
         target_keys,
-        nine_in(t, source_markers, source_keys, Place::Nowhere),
+        nine_in(t, source_markers, source_keys, None),
     )
 }

@@ -18,7 +18,7 @@ use Rattle.xliff.proofs.operations.Sources.{focus_in}
 use Rattle.places.specs.Offsets.{At}
 use Rattle.places.proofs.Places.{at_start, at_next}
 use Rattle.part_at.specs.declared.PartPlace.{PartPlace}
-use Rattle.part_at.specs.declared.FoundPart.TheVariants.{At as FoundAt}
+use Rattle.std.specs.Prelude.{Some}
 use Rattle.part_at.specs.Stands.{PartOrEnd, part_next, end_next, PartFrom, TargetSpan, PartSpan, PartSpans, Slice, TargetStands, PartStands, PartFound}
 use Rattle.part_at.proofs.ContentLaws.{at_past}
 
@@ -308,7 +308,7 @@ module _ (t : List ℕ) (h : Passes t) (n at left : ℕ) (s : Reached t n at lef
             least = omega arith;
           }
 
-      pub reached_found : left ≤ 1 → PartFound t (focus (unit t).parts n) (FoundAt place)
+      pub reached_found : left ≤ 1 → PartFound t (focus (unit t).parts n) (Some place)
       reached_found l =
           let (p, a, q) = next_part t h at s.behind s.ahead s.walked e in
           let k : n ≡ suc (length s.behind) = omega (arith, s.count, s.least) in (

@@ -17,8 +17,7 @@ use Rattle.table.specs.declared.Record.TheVariants.{Unit as UnitStart, UnitEnd, 
 use Rattle.table.specs.declared.Read.{Read}
 use Rattle.table.specs.declared.Read.TheVariants.{Good, Ill, Broken}
 use Rattle.orders.specs.Heads.{order_of}
-use Rattle.orders.specs.declared.Order.{Order}
-use Rattle.orders.specs.declared.Order.TheVariants.{Is, Not}
+use Rattle.std.specs.Prelude.{Option, Some, None}
 use Rattle.orders.proofs.OrderLaws.{is_not, is_is}
 use Rattle.heads.specs.Heads.{SomeHead, SegmentIs}
 use Rattle.part_at.specs.declared.PartPlace.{PartPlace}
@@ -28,15 +27,15 @@ use Rattle.part_at.proofs.ContentLaws.{Means, First, first_read, at_past}
 use Rattle.part_at.proofs.PartLaws.{slice_at}
 
 -- the order that a record sets
-abbrev pub order_at : encode.Record → Order
-order_at (opening c) = Not
-order_at closing = Not
-order_at (part_head h) = Not
-order_at (target_head q) = Is q
-order_at (text_run cs) = Not
-order_at (inline x) = Not
-order_at ill_text = Not
-order_at (broken b) = Not
+abbrev pub order_at : encode.Record → Option ℕ
+order_at (opening c) = None
+order_at closing = None
+order_at (part_head h) = None
+order_at (target_head q) = Some q
+order_at (text_run cs) = None
+order_at (inline x) = None
+order_at ill_text = None
+order_at (broken b) = None
 
 pub order_same : (cs : List ℕ) (r : Read) → order_of r ≡ order_at (meaning cs r)
 order_same cs (Good (UnitStart c) w) = refl
@@ -71,7 +70,7 @@ module _ (t : List ℕ) (at : ℕ) (r : Read) (m : Means t at r) (w : ℕ) (wide
   order_first : (x : encode.Record) (rs : List encode.Record) → At t at (x ∷ rs) → order_of r ≡ order_at x
   order_first x rs a = order_same (body (drop at t)) r ∙ ap order_at (first_read t at x rs r a m).means
 
-  target_is : (q : ℕ) → order_of r ≡ Is q → (g : Target) (rest : List encode.Record) → At t at (target_records g ++ rest) → PartOrEnd rest
+  target_is : (q : ℕ) → order_of r ≡ Some q → (g : Target) (rest : List encode.Record) → At t at (target_records g ++ rest) → PartOrEnd rest
       → (xs : List _) × (g ≡ target q xs)
   unfolding target_records
   target_is q e no_target mathlib.Core.List.[] a b = elim b [ ]
@@ -85,7 +84,7 @@ module _ (t : List ℕ) (at : ℕ) (r : Read) (m : Means t at r) (w : ℕ) (wide
   target_is q e no_target (closing ∷ rs) a end_next = is_not (sym (order_first closing rs a) ∙ e)
   target_is q e (target k xs) rest a b = (xs, ap (λ (n : ℕ). target n xs) (is_is (sym (order_first (target_head k) (content_records xs ++ rest) a) ∙ e)))
 
-  none_is : order_of r ≡ Not → (g : Target) (rest : List encode.Record) → At t at (target_records g ++ rest) → PartOrEnd rest → g ≡ no_target
+  none_is : order_of r ≡ None → (g : Target) (rest : List encode.Record) → At t at (target_records g ++ rest) → PartOrEnd rest → g ≡ no_target
   unfolding target_records
   none_is e no_target rest a b = refl
   none_is e (target k xs) rest a b = is_not (sym e ∙ order_first (target_head k) (content_records xs ++ rest) a)
@@ -98,17 +97,17 @@ module _ (t : List ℕ) (at : ℕ) (r : Read) (m : Means t at r) (w : ℕ) (wide
   content_there : (q : ℕ) (xs : List _) (rest : List encode.Record) → At t at (target_records (target q xs) ++ rest) → At t (at + w) (content_records xs ++ rest)
   content_there q xs rest a = subst (λ (k : ℕ). At t (at + k) (content_records xs ++ rest)) (sym wide) (target_first q xs rest a).then
 
-  pub target_fits : (q : ℕ) → order_of r ≡ Is q → TargetAt t at → at + w ≤ length t
+  pub target_fits : (q : ℕ) → order_of r ≡ Some q → TargetAt t at → at + w ≤ length t
   target_fits q e (g, rest, a, b) =
       let i = target_is q e g rest a b in
       omega (arith, wide, (target_first q i.0 rest (subst (λ (h : Target). At t at (target_records h ++ rest)) i.1 a)).fits)
 
-  pub target_content : (q : ℕ) → order_of r ≡ Is q → TargetAt t at → ContentAt t (at + w)
+  pub target_content : (q : ℕ) → order_of r ≡ Some q → TargetAt t at → ContentAt t (at + w)
   target_content q e (g, rest, a, b) =
       let i = target_is q e g rest a b in
       (content_records i.0, rest, content_there q i.0 rest (subst (λ (h : Target). At t at (target_records h ++ rest)) i.1 a), content_inner i.0, outer_begins rest b)
 
-  pub with_target : (place : PartPlace) → order_of r ≡ Is place.order → place.has_target ≡ true → ContentEnds t (at + w) place.end → TargetSpans t at place
+  pub with_target : (place : PartPlace) → order_of r ≡ Some place.order → place.has_target ≡ true → ContentEnds t (at + w) place.end → TargetSpans t at place
   unfolding target_records spell gather has_target
   with_target place e h c g rest a b =
       let i = target_is place.order e g rest a b in
@@ -122,7 +121,7 @@ module _ (t : List ℕ) (at : ℕ) (r : Read) (m : Means t at r) (w : ℕ) (wide
         has = h;
       })
 
-  pub without_target : (place : PartPlace) → order_of r ≡ Not → place.order ≡ 0 → place.has_target ≡ false → place.end ≡ at → TargetSpans t at place
+  pub without_target : (place : PartPlace) → order_of r ≡ None → place.order ≡ 0 → place.has_target ≡ false → place.end ≡ at → TargetSpans t at place
   unfolding target_records spell gather has_target
   without_target place e o h n g rest a b =
       subst (λ (k : Target). TargetSpan at k place) (sym (none_is e g rest a b)) (record { ends = omega (arith, n); order = o; has = h })

@@ -1,6 +1,6 @@
 -- Where a part stands in a table.
 use Rattle.places.specs.Offsets.{At}
-use Rattle.std.specs.Prelude.{ℕ, ◌+◌, ◌-◌, ◌≤◌, ◌≡◌, true, false, List, [], ◌∷◌, ◌++◌, length, take, drop}
+use Rattle.std.specs.Prelude.{ℕ, ◌+◌, ◌-◌, ◌≤◌, ◌≡◌, true, false, List, [], ◌∷◌, ◌++◌, length, take, drop, Option, Some, None}
 use Rattle.std.proofs.Math.Option.{none}
 use Rattle.xliff.specs.Bytes.{gather}
 use Rattle.xliff.specs.Unit.{Head, Target, no_target, target, Part, has_target}
@@ -10,8 +10,6 @@ use Rattle.xliff.specs.Focus.{Focus, nowhere, here, focus}
 use Rattle.xliff.specs.Check.{table_refusal}
 use Rattle.heads.specs.Heads.{is_segment}
 use Rattle.part_at.specs.declared.PartPlace.{PartPlace}
-use Rattle.part_at.specs.declared.FoundPart.{FoundPart}
-use Rattle.part_at.specs.declared.FoundPart.TheVariants.{At as FoundAt, Missing}
 
 -- a part or the end of the unit comes first
 pub data PartOrEnd : List Record → Type 0 where
@@ -87,6 +85,6 @@ CheckedPart t n place =
     (table_refusal t ≡ none) × ((b : List Part) × (p : Part) × (a : List Part) × (focus (unit t).parts n ≡ here b p a) × PartStands t b p a place)
 
 -- a part is found exactly where there is one
-abbrev pub PartFound : List ℕ → Focus → FoundPart → Type 0
-PartFound t f (FoundAt place) = (b : List Part) × (p : Part) × (a : List Part) × (f ≡ here b p a) × PartStands t b p a place
-PartFound t f Missing = f ≡ nowhere
+abbrev pub PartFound : List ℕ → Focus → Option PartPlace → Type 0
+PartFound t f (Some place) = (b : List Part) × (p : Part) × (a : List Part) × (f ≡ here b p a) × PartStands t b p a place
+PartFound t f None = f ≡ nowhere

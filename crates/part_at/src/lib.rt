@@ -10,7 +10,6 @@ ghost use Rattle.part_at.specs.Content.{is_in_content, is_content_read, ContentA
 ghost use Rattle.part_at.specs.Stands.{TargetAt, TargetSpans, PartFrom, PartSpans, PartFound};
 ghost use Rattle.xliff.specs.Encode.{unit_records};
 
-use orders::Order;
 use table::{Read, Record};
 
 fn in_content(x: Record) -> bool
@@ -53,28 +52,28 @@ fn content_end(t: &[u8], start: usize) -> usize
     at
 }
 
-fn order_in(x: Record) -> Order
+fn order_in(x: Record) -> Option<u16>
     ensures { result ≡ order_in x }
 {
     match x {
-        Record::Unit(_) => Order::Not,
-        Record::UnitEnd => Order::Not,
-        Record::Segment(_) => Order::Not,
-        Record::Ignorable(_) => Order::Not,
-        Record::Target(q) => Order::Is(q),
-        Record::Text => Order::Not,
-        Record::Inline(_) => Order::Not,
+        Record::Unit(_) => None,
+        Record::UnitEnd => None,
+        Record::Segment(_) => None,
+        Record::Ignorable(_) => None,
+        Record::Target(q) => Some(q),
+        Record::Text => None,
+        Record::Inline(_) => None,
     }
 }
 
 // The order that a TG sets.
-fn order_of(r: Read) -> Order
+fn order_of(r: Read) -> Option<u16>
     ensures { result ≡ order_of r }
 {
     match r {
         Read::Good(x, _) => order_in(x),
-        Read::Ill => Order::Not,
-        Read::Broken(_) => Order::Not,
+        Read::Ill => None,
+        Read::Broken(_) => None,
     }
 }
 
@@ -101,7 +100,7 @@ fn target_place(t: &[u8], head: usize, source: usize, target: usize, segment: bo
     let r = walker::known_at(t, target);
     let w = syntax::width_of(r);
     match order_of(r) {
-        Order::Is(q) => {
+        Some(q) => {
             let end = content_end(t, target + w);
             PartPlace {
                 head: head,
@@ -113,7 +112,7 @@ fn target_place(t: &[u8], head: usize, source: usize, target: usize, segment: bo
                 has_target: true,
             }
         }
-        Order::Not => PartPlace {
+        None => PartPlace {
             head: head,
             source: source,
             target: target,
@@ -143,34 +142,28 @@ pub fn starts_part(t: &[u8], at: usize) -> bool
     syntax::is_part(walker::known_at(t, at))
 }
 
-#[derive(Clone, Copy)]
-pub enum FoundPart {
-    At(PartPlace),
-    Missing,
-}
-
 // The part `n`, counted from 1.
-pub fn part_at(t: &[u8], n: usize) -> FoundPart
+pub fn part_at(t: &[u8], n: usize) -> Option<PartPlace>
     requires { Passes t.now }
     ensures { PartFound t.now (focus (unit t.now).parts n) result }
 {
     if n == 0 {
-        return FoundPart::Missing;
+        return None;
     }
     let mut at = marks::UNIT_WIDTH;
     let mut left = n;
     while 1 < left {
         if !starts_part(t, at) {
-            return FoundPart::Missing;
+            return None;
         }
         let p = part_from(t, at);
         at = p.end;
         left -= 1;
     }
     if !starts_part(t, at) {
-        return FoundPart::Missing;
+        return None;
     }
-    FoundPart::At(part_from(t, at))
+    Some(part_from(t, at))
 }
 
 // The number of records of a table.

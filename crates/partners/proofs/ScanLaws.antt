@@ -11,8 +11,7 @@ use Rattle.xliff.specs.Bytes.{any}
 use Rattle.xliff.specs.Sequences.{first_of, least}
 use Rattle.xliff.proofs.lists.Tests.{any_append, or_none, or_left, or_right}
 use Rattle.answers.specs.Answers.{refusal_at, lower, toward}
-use Rattle.answers.specs.declared.Place.{Place}
-use Rattle.answers.specs.declared.Place.TheVariants.{Nowhere, At}
+use Rattle.std.specs.Prelude.{Option, None, Some}
 use Rattle.keys.specs.Keys.{half_key, form_key, alike_keys, is_other_key}
 use Rattle.contents.specs.Contents.{is_bar, targeted}
 use Rattle.partners.specs.Partners.{partner_s_Key, lone_s_Key, some_key, lone_among_keys, blamed_keys}
@@ -159,10 +158,10 @@ none_blamed bars before (o ∷ markers) (k ∷ keys) e =
     (none_blamed bars (k ∷ before) markers keys (or_right (lone_s_Key before k keys) (some_key lone_s_Key (k ∷ before) keys) e))
 
 -- nothing is lower than a place
-pub none_lower : (n : ℕ) (p : Place) → toward n p [] ≡ refusal_at n p
+pub none_lower : (n : ℕ) (p : Option ℕ) → toward n p [] ≡ refusal_at n p
 unfolding toward first_of least
-none_lower n Nowhere = refl
-none_lower n (At a) = refl
+none_lower n None = refl
+none_lower n (Some a) = refl
 
 -- what a test of keys blames, one key further
 blamed_first : (bad : List ℕ → ℕ → List ℕ → Bool) (before : List ℕ) (o : ℕ) (markers : List ℕ) (k : ℕ) (keys : List ℕ)
@@ -170,9 +169,9 @@ blamed_first : (bad : List ℕ → ℕ → List ℕ → Bool) (before : List ℕ
 unfolding blamed_keys
 blamed_first bad before o markers k keys = refl
 
-module _ (bad : List ℕ → ℕ → List ℕ → Bool) (markers keys : List ℕ) (same : length keys ≡ length markers) (n : ℕ) (best : Place) (i : ℕ) where
+module _ (bad : List ℕ → ℕ → List ℕ → Bool) (markers keys : List ℕ) (same : length keys ≡ length markers) (n : ℕ) (best : Option ℕ) (i : ℕ) where
   -- `b` is whether the key at i is at fault, `at` its offset, `next` the lower place
-  pub blamed_on : (b : Bool) (at : ℕ) (next : Place) → i < length markers → b ≡ bad (reverse (take i keys)) (get_or keys i 0) (drop (i + 1) keys) → at ≡ get_or markers i 0
+  pub blamed_on : (b : Bool) (at : ℕ) (next : Option ℕ) → i < length markers → b ≡ bad (reverse (take i keys)) (get_or keys i 0) (drop (i + 1) keys) → at ≡ get_or markers i 0
       → next ≡ cond b (lower best at) best
       → toward n best (blamed_keys bad (reverse (take i keys)) (drop i markers) (drop i keys))
       ≡ toward n next (blamed_keys bad (reverse (take (i + 1) keys)) (drop (i + 1) markers) (drop (i + 1) keys))
@@ -184,7 +183,7 @@ module _ (bad : List ℕ → ℕ → List ℕ → Bool) (markers keys : List ℕ
       ∙ blamed_first bad (reverse (take i keys)) (get_or markers i 0) (drop (i + 1) markers) (get_or keys i 0) (drop (i + 1) keys)
       ∙ ap₂ (λ (c : Bool) (k : ℕ). cond c (k ∷ B) B) (sym e) (sym f))
       ∙ toward_if n b best at B
-      ∙ ap₂ (λ (p : Place) (l : List ℕ). toward n p (blamed_keys bad l (drop (i + 1) markers) (drop (i + 1) keys))) (sym g) (sym (key_before keys i l))
+      ∙ ap₂ (λ (p : Option ℕ) (l : List ℕ). toward n p (blamed_keys bad l (drop (i + 1) markers) (drop (i + 1) keys))) (sym g) (sym (key_before keys i l))
 
   pub blamed_end : length markers ≤ i → toward n best (blamed_keys bad (reverse (take i keys)) (drop i markers) (drop i keys)) ≡ refusal_at n best
   unfolding blamed_keys

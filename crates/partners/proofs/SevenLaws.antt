@@ -12,7 +12,7 @@ use Rattle.xliff.specs.Parse.{unit, most_records}
 use Rattle.xliff.specs.Sequences.{located, blamed, first_of, placed_contents, placed_source_sequence, placed_target_sequence}
 use Rattle.xliff.specs.Rules.{lone_P, lone_S, lone_in_target, waiting, fault_7}
 use Rattle.answers.specs.Answers.{refusal_at, toward}
-use Rattle.answers.specs.declared.Place.{Place}
+use Rattle.std.specs.Prelude.{Option}
 use Rattle.answers.proofs.Places.{first_two}
 use Rattle.places.specs.Passes.{Passes}
 use Rattle.places.specs.Markers.{placed_at, target_offsets}
@@ -56,7 +56,7 @@ module _ (t : List ℕ) (p : Passes t) where
       ∙ ap (blamed_keys (lone_among_keys bars) [] target_markers) (sym f)
 
   -- the least of the three
-  pub rule_7_is : (source_markers source_keys target_markers target_keys : List ℕ) (a b c : Place) → source_markers ≡ offsets true 0 t → source_keys ≡ keys_at t source_markers
+  pub rule_7_is : (source_markers source_keys target_markers target_keys : List ℕ) (a b c : Option ℕ) → source_markers ≡ offsets true 0 t → source_keys ≡ keys_at t source_markers
       → target_markers ≡ target_offsets t 0 (length (unit t).parts) → target_keys ≡ keys_at t target_markers
       → refusal_at 7 a ≡ first_of 7 (gather (blamed lone_P []) (placed_contents (located (unit t).parts)))
       → refusal_at 7 b ≡ toward 7 a (blamed_keys lone_s_Key [] source_markers source_keys)

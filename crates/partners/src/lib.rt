@@ -14,20 +14,17 @@ ghost use Rattle.answers.specs.Answers.{refusal_at, toward};
 ghost use Rattle.contents.specs.Contents.{targeted, barred, bar_keys};
 ghost use Rattle.partners.specs.Partners.{partner_s_Key, lone_s_Key, is_half_of_id, only_half, some_key, waits_key, waits_for_key, lone_among_keys, blamed_keys};
 
-use answers::Place;
 use limits::MOST_RECORDS;
 
 // Of the marks of start and end alike to `k`, the first of `keys` is its other half.
 fn partner_after(keys: &[u32], k: u32) -> bool
     ensures { result ≡ partner_s_Key k keys.now }
 {
-    let mut i = 0;
-    while i < keys.len() {
+    for i in 0..keys.len() {
         let y = keys[i];
         if keys::alike(k, y) & !keys::is_form_p(y) {
             return keys::is_other(k, y);
         }
-        i += 1;
     }
     false
 }
@@ -67,13 +64,11 @@ fn lone_s(keys: &[u32], i: usize) -> bool
 fn any_half(keys: &[u32], id: u32) -> bool
     ensures { result ≡ any (is_half_of_id id) keys.now }
 {
-    let mut i = 0;
-    while i < keys.len() {
+    for i in 0..keys.len() {
         let k = keys[i];
         if !(keys::half_of(k) == 0) & (keys::id_of(k) == id) {
             return true;
         }
-        i += 1;
     }
     false
 }
@@ -91,28 +86,24 @@ fn only_half(keys: &[u32], i: usize) -> bool
 fn is_targeted(keys: &[u32]) -> bool
     ensures { result ≡ targeted keys.now }
 {
-    let mut i = 0;
-    while i < keys.len() {
+    for i in 0..keys.len() {
         let k = keys[i];
         if keys::class_of(k) == 0 {
             return k == 1;
         }
-        i += 1;
     }
     false
 }
 
 // The halves with the mark of a start or an end that have no partner in the source sequence. Quadratic: each looks at
 // the others.
-fn lone_in_source(markers: &[u16], keys: &[u32], start: Place) -> Place
+fn lone_in_source(markers: &[u16], keys: &[u32], start: Option<usize>) -> Option<usize>
     requires { length keys.now ≡ length markers.now }
     ensures { refusal_at 7 result ≡ toward 7 start (blamed_keys lone_s_Key [] markers.now keys.now) }
 {
     let mut best = start;
-    let mut i = 0;
-    while i < markers.len() {
+    for i in 0..markers.len() {
         best = answers::lower_if(lone_s(keys, i), best, marks::wide(markers[i]));
-        i += 1;
     }
     best
 }
@@ -137,12 +128,10 @@ fn waits_for(x: u32, bars: &[u32], stack: &mut [u32]) -> bool
     requires { (length bars.now ≤ most_records) × (length stack.old ≡ most_records) }
     ensures { (result ≡ waits_for_key x [] bars.now) × (length stack.new ≡ most_records) }
 {
-    let mut i = 0;
-    while i < bars.len() {
+    for i in 0..bars.len() {
         if waits(x, bars, i, stack) {
             return true;
         }
-        i += 1;
     }
     false
 }
@@ -166,27 +155,25 @@ fn stays_lone(keys: &[u32], i: usize, bars: &[u32], stack: &mut [u32]) -> bool
 // The halves at fault in the target sequence. Quadratic: each looks at the others and at the source keys; it looks
 // closer, once more linear, only at source keys of its id, and the ids of those that get so far differ, so that no
 // source key is looked at closer twice.
-fn lone_in_target(markers: &[u16], keys: &[u32], bars: &[u32], start: Place) -> Place
+fn lone_in_target(markers: &[u16], keys: &[u32], bars: &[u32], start: Option<usize>) -> Option<usize>
     requires { (length keys.now ≡ length markers.now) × (length bars.now ≤ most_records) }
     ensures { refusal_at 7 result ≡ toward 7 start (blamed_keys (lone_among_keys bars.now) [] markers.now keys.now) }
 {
     let mut stack = [0u32; MOST_RECORDS];
     let mut best = start;
-    let mut i = 0;
-    while i < markers.len() {
+    for i in 0..markers.len() {
         best = answers::lower_if(
             stays_lone(keys, i, bars, &mut stack),
             best,
             marks::wide(markers[i]),
         );
-        i += 1;
     }
     best
 }
 
 // The halves of pc and mrk without partner in their content, with the keys of all contents. Quadratic, as `first_lone`
 // is.
-fn lone_in_contents(t: &[u8]) -> Place
+fn lone_in_contents(t: &[u8]) -> Option<usize>
     requires { Passes t.now × (length t.now ≤ most_bytes) }
     ensures { refusal_at 7 result ≡ first_of 7 (gather (blamed lone_P []) (placed_contents (located (unit t.now).parts))) }
 {
@@ -201,18 +188,16 @@ fn lone_in_contents(t: &[u8]) -> Place
 fn any_lone(keys: &[u32]) -> bool
     ensures { result ≡ some_key lone_s_Key [] keys.now }
 {
-    let mut i = 0;
-    while i < keys.len() {
+    for i in 0..keys.len() {
         if lone_s(keys, i) {
             return true;
         }
-        i += 1;
     }
     false
 }
 
 // The halves at fault in the target sequence, with the keys of the source contents. Quadratic, as `lone_in_target` is.
-fn lone_by_source(t: &[u8], markers: &[u16], keys: &[u32], start: Place) -> Place
+fn lone_by_source(t: &[u8], markers: &[u16], keys: &[u32], start: Option<usize>) -> Option<usize>
     requires { Passes t.now × (length t.now ≤ most_bytes) × (length keys.now ≡ length markers.now) }
     ensures { refusal_at 7 result ≡ toward 7 start (blamed_keys (lone_among_keys (bar_keys t.now (barred false t.now))) [] markers.now keys.now) }
 {
@@ -224,7 +209,7 @@ fn lone_by_source(t: &[u8], markers: &[u16], keys: &[u32], start: Place) -> Plac
 }
 
 // The halves at fault in the target sequence. The source contents are read only where some half is lone.
-fn lone_in_targets(t: &[u8], markers: &[u16], keys: &[u32], start: Place) -> Place
+fn lone_in_targets(t: &[u8], markers: &[u16], keys: &[u32], start: Option<usize>) -> Option<usize>
     requires { Passes t.now × (length t.now ≤ most_bytes) × (length keys.now ≡ length markers.now) }
     ensures { refusal_at 7 result ≡ toward 7 start (blamed_keys (lone_among_keys (bar_keys t.now (barred false t.now))) [] markers.now keys.now) }
 {
@@ -241,7 +226,7 @@ pub fn rule_7(
     source_keys: &[u32],
     target_markers: &[u16],
     target_keys: &[u32],
-) -> Place
+) -> Option<usize>
     requires { Markers t.now source_markers.now source_keys.now target_markers.now target_keys.now }
     ensures { refusal_at 7 result ≡ fault_7 (unit t.now).parts }
 {

@@ -14,7 +14,7 @@ ghost use Rattle.remove_target.specs.Ending.{Ended};
 
 use answers::Answer;
 use limits::MOST_BYTES;
-use part_at::{FoundPart, PartPlace};
+use part_at::PartPlace;
 
 // 15, 7 and 9, then the bytes. The rules are judged on the result, which stands in `work` until no refusal is left.
 fn remove_ended(table: &[u8], place: PartPlace, out: &mut [u8]) -> Answer
@@ -44,13 +44,13 @@ fn remove_there(table: &[u8], n: usize, place: PartPlace, out: &mut [u8]) -> Ans
     remove_ended(table, place, out)
 }
 
-fn remove_found(table: &[u8], n: usize, found: FoundPart, out: &mut [u8]) -> Answer
+fn remove_found(table: &[u8], n: usize, found: Option<PartPlace>, out: &mut [u8]) -> Answer
     requires { (table_refusal table.now ≡ none) × PartFound table.now (focus (unit table.now).parts n) found }
     ensures { Answers (remove_target table.now n (length out.old)) result out.old out.new }
 {
     match found {
-        FoundPart::At(place) => remove_there(table, n, place, out),
-        FoundPart::Missing => Answer::Refused(11, 0),
+        Some(place) => remove_there(table, n, place, out),
+        None => Answer::Refused(11, 0),
     }
 }
 

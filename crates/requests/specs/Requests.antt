@@ -1,13 +1,11 @@
 -- What the requests of the code mean.
-use Rattle.std.specs.Prelude.{ℕ, ◌+◌, ◌≤◌, ◌≡◌, List, length, take, drop}
+use Rattle.std.specs.Prelude.{ℕ, ◌+◌, ◌≤◌, ◌≡◌, List, length, take, drop, Option as RustOption, Some, None}
 use Rattle.std.proofs.Math.Option.{Option, none, some}
 use Rattle.xliff.specs.Calls.{Call, SP, JN, ST, RT, RW}
 use Rattle.xliff.specs.Desk as desk
 use Rattle.xliff.specs.Desk.{lent}
 use Rattle.requests.specs.declared.Request.{Request}
 use Rattle.requests.specs.declared.Request.TheVariants.{Split, Join, SetTarget, RemoveTarget, Rewrite}
-use Rattle.requests.specs.declared.Asked.{Asked}
-use Rattle.requests.specs.declared.Asked.TheVariants.{Readable, Unreadable}
 
 -- the call that a request at the head of s asks for, on an output of so many bytes; the content of set target stands
 -- behind its first seven bytes
@@ -29,15 +27,15 @@ request_size (SetTarget n st k) = 7 + k
 request_size (RemoveTarget n) = 4
 request_size (Rewrite side i w) = 6
 
-abbrev pub asked_meaning : List ℕ → Asked → Option desk.Request
-asked_meaning s (Readable r) = some (record { call = call_of s r; size = request_size r })
-asked_meaning s Unreadable = none
+abbrev pub asked_meaning : List ℕ → RustOption Request → Option desk.Request
+asked_meaning s (Some r) = some (record { call = call_of s r; size = request_size r })
+asked_meaning s None = none
 
 -- no request is shorter than 4 bytes, none longer than what is there
-abbrev pub SizeIn : List ℕ → Asked → Type 0
-SizeIn s (Readable r) = (4 ≤ request_size r) × (request_size r ≤ length s)
-SizeIn s Unreadable = Unit {0}
+abbrev pub SizeIn : List ℕ → RustOption Request → Type 0
+SizeIn s (Some r) = (4 ≤ request_size r) × (request_size r ≤ length s)
+SizeIn s None = Unit {0}
 
 -- what was read at the head of s is the specification's request
-abbrev pub Asks : List ℕ → Asked → Option desk.Request → Type 0
+abbrev pub Asks : List ℕ → RustOption Request → Option desk.Request → Type 0
 Asks s a q = (asked_meaning s a ≡ q) × SizeIn s a

@@ -19,13 +19,6 @@ pub enum Request {
     Rewrite(u8, u16, u8),
 }
 
-// A mark that is unknown, or a request that is cut short, is unreadable.
-#[derive(Clone, Copy)]
-pub enum Asked {
-    Readable(Request),
-    Unreadable,
-}
-
 // The number of bytes of a request.
 pub fn size_of(r: Request) -> usize
     ensures { result ≡ request_size r }
@@ -40,73 +33,73 @@ pub fn size_of(r: Request) -> usize
 }
 
 // SP part, cut, cut, id
-fn split_of(s: &[u8]) -> Asked
+fn split_of(s: &[u8]) -> Option<Request>
     ensures { Asks s.now result (asked s.now 10
         (SP (two_at s.now 2) (two_at s.now 4) (two_at s.now 6) (two_at s.now 8) lent)) }
 {
     if s.len() < 10 {
-        return Asked::Unreadable;
+        return None;
     }
     let part = marks::number_at(s, 2);
     let source = marks::number_at(s, 4);
     let target = marks::number_at(s, 6);
     let id = marks::number_at(s, 8);
-    Asked::Readable(Request::Split(part, source, target, id))
+    Some(Request::Split(part, source, target, id))
 }
 
 // JN part
-fn join_of(s: &[u8]) -> Asked
+fn join_of(s: &[u8]) -> Option<Request>
     ensures { Asks s.now result (asked s.now 4 (JN (two_at s.now 2) lent)) }
 {
     if s.len() < 4 {
-        return Asked::Unreadable;
+        return None;
     }
-    Asked::Readable(Request::Join(marks::number_at(s, 2)))
+    Some(Request::Join(marks::number_at(s, 2)))
 }
 
 // ST part, state, length, content
-fn set_of(s: &[u8]) -> Asked
+fn set_of(s: &[u8]) -> Option<Request>
     ensures { Asks s.now result (cond (enough 7 s.now)
         (asked s.now (7 + two_at s.now 5) (ST (two_at s.now 2) (get_or s.now 4 0)
         (take (two_at s.now 5) (drop 7 s.now)) lent)) none) }
 {
     if s.len() < 7 {
-        return Asked::Unreadable;
+        return None;
     }
     let n = marks::number_at(s, 5);
     if s.len() < 7 + marks::wide(n) {
-        return Asked::Unreadable;
+        return None;
     }
-    Asked::Readable(Request::SetTarget(marks::number_at(s, 2), s[4], n))
+    Some(Request::SetTarget(marks::number_at(s, 2), s[4], n))
 }
 
 // RT part
-fn remove_of(s: &[u8]) -> Asked
+fn remove_of(s: &[u8]) -> Option<Request>
     ensures { Asks s.now result (asked s.now 4 (RT (two_at s.now 2) lent)) }
 {
     if s.len() < 4 {
-        return Asked::Unreadable;
+        return None;
     }
-    Asked::Readable(Request::RemoveTarget(marks::number_at(s, 2)))
+    Some(Request::RemoveTarget(marks::number_at(s, 2)))
 }
 
 // RW side, id, form
-fn rewrite_of(s: &[u8]) -> Asked
+fn rewrite_of(s: &[u8]) -> Option<Request>
     ensures { Asks s.now result (asked s.now 6
         (RW (get_or s.now 2 0) (two_at s.now 3) (get_or s.now 5 0) lent)) }
 {
     if s.len() < 6 {
-        return Asked::Unreadable;
+        return None;
     }
-    Asked::Readable(Request::Rewrite(s[2], marks::number_at(s, 3), s[5]))
+    Some(Request::Rewrite(s[2], marks::number_at(s, 3), s[5]))
 }
 
 // The request at the head of `s`.
-pub fn request_of(s: &[u8]) -> Asked
+pub fn request_of(s: &[u8]) -> Option<Request>
     ensures { Asks s.now result (request s.now) }
 {
     if s.len() < 2 {
-        return Asked::Unreadable;
+        return None;
     }
     if marks::marked_by(s, b"SP") {
         return split_of(s);
@@ -123,5 +116,5 @@ pub fn request_of(s: &[u8]) -> Asked
     if marks::marked_by(s, b"RW") {
         return rewrite_of(s);
     }
-    Asked::Unreadable
+    None
 }

@@ -8,27 +8,26 @@ use lib.Dec.{eqb}
 use Rattle.xliff.specs.Answer.{Refusal, refusal, ◌then◌, is_fault, of_result}
 use Rattle.xliff.proofs.lists.Tests.{none_some}
 use Rattle.answers.specs.Answers.{refusal_at}
-use Rattle.answers.specs.declared.Place.{Place}
-use Rattle.answers.specs.declared.Place.TheVariants.{Nowhere, At}
+use Rattle.std.specs.Prelude.{Option as RustOption, None, Some}
 use Rattle.result_rules.specs.Broken.{is_place, broken}
 
 -- a rule that is broken is the first, one that is met leaves it to the rest
-first_is : (n : ℕ) (p : Place) (f g : Option Refusal) → refusal_at n p ≡ f → is_place p ≡ true → refusal n 0 ≡ of_result (f then g)
+first_is : (n : ℕ) (p : RustOption ℕ) (f g : Option Refusal) → refusal_at n p ≡ f → is_place p ≡ true → refusal n 0 ≡ of_result (f then g)
 unfolding ◌then◌ of_result
-first_is n Nowhere f g e h = absurd (true≢false (sym h))
-first_is n (At at) f g e h = ap (λ (o : Option Refusal). of_result (o then g)) e
+first_is n None f g e h = absurd (true≢false (sym h))
+first_is n (Some at) f g e h = ap (λ (o : Option Refusal). of_result (o then g)) e
 
-met : (n : ℕ) (p : Place) (f g : Option Refusal) → refusal_at n p ≡ f → is_place p ≡ false → of_result g ≡ of_result (f then g)
+met : (n : ℕ) (p : RustOption ℕ) (f g : Option Refusal) → refusal_at n p ≡ f → is_place p ≡ false → of_result g ≡ of_result (f then g)
 unfolding ◌then◌
-met n Nowhere f g e h = ap (λ (o : Option Refusal). of_result (o then g)) e
-met n (At at) f g e h = absurd (true≢false h)
+met n None f g e h = ap (λ (o : Option Refusal). of_result (o then g)) e
+met n (Some at) f g e h = absurd (true≢false h)
 
 no_more : (f : Option Refusal) → of_result (f then none) ≡ of_result f
 unfolding ◌then◌
 no_more none = refl
 no_more (some r) = refl
 
-module _ (p : Place) (f g : Option Refusal) (e : refusal_at 7 p ≡ f) where
+module _ (p : RustOption ℕ) (f g : Option Refusal) (e : refusal_at 7 p ≡ f) where
   pub seven_broken : is_place p ≡ true → broken 7 ≡ of_result (f then g)
   unfolding broken
   seven_broken h = first_is 7 p f g e h
@@ -41,7 +40,7 @@ module _ (p : Place) (f g : Option Refusal) (e : refusal_at 7 p ≡ f) where
     asked : not also ≡ false → of_result g ≡ of_result (f then cond also g none)
     asked k = ap (λ (b : Bool). of_result (cond b g none)) (sym (not-false also k)) ∙ met 7 p f (cond also g none) e h
 
-    module _ (k : not also ≡ false) (q : Place) (d : refusal_at 9 q ≡ g) where
+    module _ (k : not also ≡ false) (q : RustOption ℕ) (d : refusal_at 9 q ≡ g) where
       pub nine_broken : is_place q ≡ true → broken 9 ≡ of_result (f then cond also g none)
       unfolding broken
       nine_broken z = first_is 9 q g none d z ∙ no_more g ∙ asked k

@@ -1,5 +1,5 @@
 -- A rule that a result breaks.
-use Rattle.std.specs.Prelude.{ℕ, Bool, true, false, cond, eqb}
+use Rattle.std.specs.Prelude.{ℕ, Bool, true, false, cond, eqb, Option as RustOption, None, Some}
 use Rattle.std.proofs.Math.Option.{Option, none}
 use Rattle.xliff.specs.Answer.{Refusal, refusal, applies, ◌then◌, of_result, Outcome, unless}
 use Rattle.xliff.specs.Unit.{XliffUnit}
@@ -7,13 +7,11 @@ use Rattle.xliff.specs.Encode.{encode}
 use Rattle.xliff.specs.Check.{too_large}
 use Rattle.answers.specs.declared.Answer.{Answer}
 use Rattle.answers.specs.declared.Answer.TheVariants.{Accepted, Refused}
-use Rattle.answers.specs.declared.Place.{Place}
-use Rattle.answers.specs.declared.Place.TheVariants.{Nowhere, At}
 
 -- whether there is a record at fault
-abbrev pub is_place : Place → Bool
-is_place Nowhere = false
-is_place (At at) = true
+abbrev pub is_place : RustOption ℕ → Bool
+is_place None = false
+is_place (Some at) = true
 
 -- the refusal with the number of a broken rule, and place 0; none if the number is 0
 unfoldable pub broken : ℕ → Option Refusal

@@ -10,15 +10,15 @@ ghost use Rattle.places.specs.Passes.{Passes};
 ghost use Rattle.sequences.specs.Markers.{Markers};
 ghost use Rattle.result_rules.specs.Broken.{is_place, broken, number_of};
 
-use answers::{Answer, Place};
+use answers::Answer;
 use limits::MOST_RECORDS;
 
-fn is_at(p: Place) -> bool
+fn is_at(p: Option<usize>) -> bool
     ensures { result ≡ is_place p }
 {
     match p {
-        Place::Nowhere => false,
-        Place::At(_) => true,
+        None => false,
+        Some(_) => true,
     }
 }
 

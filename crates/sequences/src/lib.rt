@@ -92,11 +92,9 @@ fn head_orders(t: &[u8], heads: &[u16], out: &mut [u16])
     requires { Passes t.now × (heads.now ≡ head_offsets t.now) × (length heads.now ≤ length out.old) }
     ensures { (length out.new ≡ length out.old) × Ordered t.now (length heads.now) out.new }
 {
-    let mut i: usize = 0;
-    while i < heads.len() {
+    for i in 0..heads.len() {
         let g = walker::glance_at(t, marks::wide(heads[i]));
         out[i] = g.order;
-        i += 1;
     }
 }
 
@@ -130,10 +128,8 @@ fn collect(t: &[u8], heads: &[u16], orders: &[u16], q: u16, out: &mut [u16], n: 
     ensures { Appended (offsets false q t.now) out.old n out.new result }
 {
     let mut m = n;
-    let mut i: usize = 0;
-    while i < heads.len() {
+    for i in 0..heads.len() {
         m = markers_of(t, heads, orders, i, q, out, m);
-        i += 1;
     }
     m
 }
@@ -147,11 +143,9 @@ pub fn targets(t: &[u8], parts: u16, out: &mut [u16]) -> usize
     let mut orders = [0u16; MOST_PARTS];
     let k = target_heads(t, &mut heads);
     head_orders(t, &heads[..k], &mut orders);
-    let mut q: u16 = 0;
     let mut n: usize = 0;
-    while q < parts {
+    for q in 0..parts {
         n = collect(t, &heads[..k], &orders, q + 1, out, n);
-        q += 1;
     }
     n
 }

@@ -16,7 +16,7 @@ ghost use Rattle.set_target.specs.Stages.{old_from, old_to, StateFits, Fitting};
 
 use answers::Answer;
 use limits::MOST_BYTES;
-use part_at::{FoundPart, PartPlace};
+use part_at::PartPlace;
 
 // 15, 6 to 10, then the bytes. The rules are judged on the result, which stands in `work` until no refusal is left.
 fn set_ended(
@@ -146,7 +146,7 @@ fn set_there(
 fn set_found(
     table: &[u8],
     n: u16,
-    found: FoundPart,
+    found: Option<PartPlace>,
     state: u8,
     content: &[u8],
     out: &mut [u8],
@@ -155,8 +155,8 @@ fn set_found(
     ensures { Answers (set_target table.now n state content.now (length out.old)) result out.old out.new }
 {
     match found {
-        FoundPart::At(place) => set_there(table, n, place, state, content, out),
-        FoundPart::Missing => Answer::Refused(11, 0),
+        Some(place) => set_there(table, n, place, state, content, out),
+        None => Answer::Refused(11, 0),
     }
 }
 

@@ -14,12 +14,12 @@ use Rattle.places.specs.Passes.{Passes}
 use Rattle.places.specs.Markers.{placed_at, target_offsets}
 use Rattle.places.proofs.Tests.{length_located}
 use Rattle.places.proofs.Ten.{rule_10_marks}
-use Rattle.answers.specs.declared.Place.{Place}
+use Rattle.std.specs.Prelude.{Option}
 use Rattle.sequences.specs.Marks.{offsets}
 use Rattle.views.specs.Views.{items_of_markers}
 use Rattle.views.proofs.ViewLaws.{items_at}
 
-pub rule_10_is : (t source_markers target_markers : List ℕ) (p q : Place) → Passes t → source_markers ≡ offsets true 0 t → target_markers ≡ target_offsets t 0 (length (unit t).parts)
+pub rule_10_is : (t source_markers target_markers : List ℕ) (p q : Option ℕ) → Passes t → source_markers ≡ offsets true 0 t → target_markers ≡ target_offsets t 0 (length (unit t).parts)
     → refusal_at 10 p ≡ first_of 10 (blamed bad_10_source [] (placed_at t source_markers)) → refusal_at 10 q
     ≡ toward 10 p (blamed (bad_10_target (items_of_markers t source_markers)) [] (placed_at t target_markers))
     → refusal_at 10 q ≡ fault_10 (unit t).parts

@@ -15,7 +15,6 @@ ghost use Rattle.xliff.specs.Parse.{unit};
 ghost use Rattle.sequences.specs.Markers.{Markers};
 ghost use Rattle.places.specs.Markers.{item_at, placed_at};
 
-use answers::Place;
 use limits::MOST_RECORDS;
 use views::View;
 
@@ -149,16 +148,14 @@ fn bad_in_target(
 }
 
 // Rule 10 over the markers of the source sequence.
-fn ten_source(t: &[u8], markers: &[u16], keys: &[u32]) -> Place
+fn ten_source(t: &[u8], markers: &[u16], keys: &[u32]) -> Option<usize>
     requires { keys.now ≡ keys_at t.now markers.now }
     ensures { refusal_at 10 result ≡ first_of 10 (blamed bad_10_source [] (placed_at t.now markers.now)) }
 {
-    let mut best = Place::Nowhere;
-    let mut i = 0;
-    while i < markers.len() {
+    let mut best = None;
+    for i in 0..markers.len() {
         let at = marks::wide(markers[i]);
         best = answers::lower_if(bad_copy_in_source(keys::view_at(t, at, keys[i])), best, at);
-        i += 1;
     }
     best
 }
@@ -174,14 +171,13 @@ fn ten_target(
     heads: &[u16],
     markers: &[u16],
     keys: &[u32],
-    start: Place,
-) -> Place
+    start: Option<usize>,
+) -> Option<usize>
     requires { LinkedItems t.now source_markers.now source_keys.now links.now heads.now × (keys.now ≡ keys_at t.now markers.now) }
     ensures { refusal_at 10 result ≡ toward 10 start (blamed (bad_10_target (items_of_markers t.now source_markers.now)) [] (placed_at t.now markers.now)) }
 {
     let mut best = start;
-    let mut i = 0;
-    while i < markers.len() {
+    for i in 0..markers.len() {
         let at = marks::wide(markers[i]);
         best = answers::lower_if(
             bad_in_target(
@@ -195,7 +191,6 @@ fn ten_target(
             best,
             at,
         );
-        i += 1;
     }
     best
 }
@@ -207,7 +202,7 @@ pub fn rule_10(
     source_keys: &[u32],
     target_markers: &[u16],
     target_keys: &[u32],
-) -> Place
+) -> Option<usize>
     requires { Markers t.now source_markers.now source_keys.now target_markers.now target_keys.now }
     ensures { refusal_at 10 result ≡ fault_10 (unit t.now).parts }
 {

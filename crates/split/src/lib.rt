@@ -12,7 +12,7 @@ ghost use Rattle.part_at.specs.Stands.{PartFound, CheckedPart};
 ghost use Rattle.outcomes.specs.Outcomes.{Answers};
 
 use answers::Answer;
-use part_at::{FoundPart, PartPlace};
+use part_at::PartPlace;
 
 // 12, 13, 23, 14, 15, then the bytes: every refusal is decided before the first store.
 fn split_there(
@@ -51,7 +51,7 @@ fn split_there(
 fn split_found(
     table: &[u8],
     n: usize,
-    found: FoundPart,
+    found: Option<PartPlace>,
     source_cut: usize,
     target_cut: usize,
     id: u16,
@@ -61,8 +61,8 @@ fn split_found(
     ensures { Answers (split table.now n source_cut target_cut id (length out.old)) result out.old out.new }
 {
     match found {
-        FoundPart::At(place) => split_there(table, n, place, source_cut, target_cut, id, out),
-        FoundPart::Missing => Answer::Refused(11, 0),
+        Some(place) => split_there(table, n, place, source_cut, target_cut, id, out),
+        None => Answer::Refused(11, 0),
     }
 }
 

@@ -17,23 +17,22 @@ use Rattle.xliff.proofs.unit.Result.{then_left, then_right, applies_none}
 use Rattle.places.specs.Passes.{Passes}
 use Rattle.places.proofs.Places.{passes}
 use Rattle.answers.specs.Answers.{answer_meaning, refusal_at, refused_by}
-use Rattle.answers.specs.declared.Place.{Place}
-use Rattle.answers.specs.declared.Place.TheVariants.{Nowhere, At}
+use Rattle.std.specs.Prelude.{Option as RustOption, None, Some}
 use Rattle.answers.specs.declared.Answer.TheVariants.{Accepted}
 
 -- a rule that is broken ends the chain; one that is met leaves it to the rest
-pub stops : (t : List ℕ) (n at : ℕ) (f g : Option Refusal) → refusal_at n (At at) ≡ f → spec.refused n at ≡ answer (unless (f then g) t)
+pub stops : (t : List ℕ) (n at : ℕ) (f g : Option Refusal) → refusal_at n (Some at) ≡ f → spec.refused n at ≡ answer (unless (f then g) t)
 unfolding ◌then◌ unless answer
 stops t n at f g e = ap (λ (o : Option Refusal). answer (unless (o then g) t)) e
 
-pub goes_on : (t : List ℕ) (n : ℕ) (f g : Option Refusal) (a : spec.Answer) → refusal_at n Nowhere ≡ f → a ≡ answer (unless g t) → a ≡ answer (unless (f then g) t)
+pub goes_on : (t : List ℕ) (n : ℕ) (f g : Option Refusal) (a : spec.Answer) → refusal_at n None ≡ f → a ≡ answer (unless g t) → a ≡ answer (unless (f then g) t)
 unfolding ◌then◌
 goes_on t n f g a e h = h ∙ ap (λ (o : Option Refusal). answer (unless (o then g) t)) e
 
-pub last : (t : List ℕ) (n len : ℕ) (p : Place) (f : Option Refusal) → len ≡ length t → refusal_at n p ≡ f → answer_meaning (refused_by n p (Accepted len)) ≡ answer (unless f t)
+pub last : (t : List ℕ) (n len : ℕ) (p : RustOption ℕ) (f : Option Refusal) → len ≡ length t → refusal_at n p ≡ f → answer_meaning (refused_by n p (Accepted len)) ≡ answer (unless f t)
 unfolding unless answer
-last t n len Nowhere f l e = ap spec.accepted l ∙ ap (λ (o : Option Refusal). answer (unless o t)) e
-last t n len (At at) f l e = ap (λ (o : Option Refusal). answer (unless o t)) e
+last t n len None f l e = ap spec.accepted l ∙ ap (λ (o : Option Refusal). answer (unless o t)) e
+last t n len (Some at) f l e = ap (λ (o : Option Refusal). answer (unless o t)) e
 
 clash : {A : Type 0} {n m k : ℕ} → spec.accepted n ≡ spec.refused m k → A
 clash e = absurd (let z : ◌≡◌ {A = ℕ} 0 1 = cc in omega arith)

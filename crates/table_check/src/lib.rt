@@ -12,7 +12,7 @@ ghost use Rattle.places.specs.Passes.{Passes};
 ghost use Rattle.answers.specs.Answers.{answer_meaning, refusal_at};
 ghost use Rattle.sequences.specs.Markers.{Markers};
 
-use answers::{Answer, Place};
+use answers::Answer;
 use limits::MOST_RECORDS;
 
 fn from_9(
@@ -22,15 +22,15 @@ fn from_9(
     source_keys: &[u32],
     target_markers: &[u16],
     target_keys: &[u32],
-    nine: Place,
+    nine: Option<usize>,
 ) -> Answer
     requires { Markers t.now source_markers.now source_keys.now target_markers.now target_keys.now × (len ≡ length t.now)
         × (refusal_at 9 nine ≡ fault_9 (unit t.now).parts) }
     ensures { answer_meaning result ≡ answer (unless (fault_9 (unit t.now).parts then fault_10 (unit t.now).parts) t.now) }
 {
     match nine {
-        Place::At(at) => Answer::Refused(9, at),
-        Place::Nowhere => answers::refused_by(
+        Some(at) => Answer::Refused(9, at),
+        None => answers::refused_by(
             10,
             source_match::rule_10(t, source_markers, source_keys, target_markers, target_keys),
             Answer::Accepted(len),
@@ -45,7 +45,7 @@ fn from_8(
     source_keys: &[u32],
     target_markers: &[u16],
     target_keys: &[u32],
-    eight: Place,
+    eight: Option<usize>,
 ) -> Answer
     requires { Markers t.now source_markers.now source_keys.now target_markers.now target_keys.now × (len ≡ length t.now)
         × (refusal_at 8 eight ≡ fault_8 (unit t.now).parts) }
@@ -53,8 +53,8 @@ fn from_8(
         then fault_9 (unit t.now).parts then fault_10 (unit t.now).parts) t.now) }
 {
     match eight {
-        Place::At(at) => Answer::Refused(8, at),
-        Place::Nowhere => from_9(
+        Some(at) => Answer::Refused(8, at),
+        None => from_9(
             t,
             len,
             source_markers,
@@ -73,7 +73,7 @@ fn from_7(
     source_keys: &[u32],
     target_markers: &[u16],
     target_keys: &[u32],
-    seven: Place,
+    seven: Option<usize>,
 ) -> Answer
     requires { Markers t.now source_markers.now source_keys.now target_markers.now target_keys.now × (len ≡ length t.now)
         × (refusal_at 7 seven ≡ fault_7 (unit t.now).parts) }
@@ -81,8 +81,8 @@ fn from_7(
         then fault_9 (unit t.now).parts then fault_10 (unit t.now).parts) t.now) }
 {
     match seven {
-        Place::At(at) => Answer::Refused(7, at),
-        Place::Nowhere => from_8(
+        Some(at) => Answer::Refused(7, at),
+        None => from_8(
             t,
             len,
             source_markers,
@@ -147,14 +147,14 @@ fn by_sequences(t: &[u8], parts: usize, len: usize) -> Answer
     )
 }
 
-fn from_6(t: &[u8], parts: usize, len: usize, six: Place) -> Answer
+fn from_6(t: &[u8], parts: usize, len: usize, six: Option<usize>) -> Answer
     requires { Passes t.now × (length t.now ≤ most_bytes) × (parts ≡ length (unit t.now).parts) × (len ≡ length t.now)
         × (refusal_at 6 six ≡ fault_6 (unit t.now).parts) }
     ensures { answer_meaning result ≡ answer (unless (fault_6_to_10 (unit t.now).parts) t.now) }
 {
     match six {
-        Place::At(at) => Answer::Refused(6, at),
-        Place::Nowhere => by_sequences(t, parts, len),
+        Some(at) => Answer::Refused(6, at),
+        None => by_sequences(t, parts, len),
     }
 }
 
@@ -166,14 +166,14 @@ pub fn rules_6_to_10(t: &[u8]) -> Answer
     from_6(t, orders::count_parts(t), t.len(), ids::rule_6(t))
 }
 
-fn from_5(t: &[u8], parts: usize, len: usize, five: Place) -> Answer
+fn from_5(t: &[u8], parts: usize, len: usize, five: Option<usize>) -> Answer
     requires { Passes t.now × (length t.now ≤ most_bytes) × (parts ≡ length (unit t.now).parts) × (len ≡ length t.now)
         × (refusal_at 5 five ≡ fault_5 (unit t.now).parts) }
     ensures { answer_meaning result ≡ answer (unless (fault_5 (unit t.now).parts then fault_6_to_10 (unit t.now).parts) t.now) }
 {
     match five {
-        Place::At(at) => Answer::Refused(5, at),
-        Place::Nowhere => from_6(t, parts, len, ids::rule_6(t)),
+        Some(at) => Answer::Refused(5, at),
+        None => from_6(t, parts, len, ids::rule_6(t)),
     }
 }
 

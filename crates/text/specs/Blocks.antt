@@ -1,8 +1,6 @@
 -- Texts passed in blocks. The tests of neighbouring bytes are stepping stones: what a text is, `Utf8` says.
-use Rattle.std.specs.Prelude.{ℕ, zero, suc, ◌≤◌, ◌<◌, ◌≡◌, Bool, true, false, ◌&&◌, ◌||◌, not, List, get_or, length, drop, eqb, leb, ltb}
+use Rattle.std.specs.Prelude.{ℕ, zero, suc, ◌≤◌, ◌<◌, ◌≡◌, Bool, true, false, ◌&&◌, ◌||◌, not, List, get_or, length, drop, eqb, leb, ltb, Option, Some, None}
 use Rattle.text.specs.Utf8.{within, trail, text_ok}
-use Rattle.text.specs.declared.Passed.{Passed}
-use Rattle.text.specs.declared.Passed.TheVariants.{To, Not}
 
 -- both or neither
 abbrev pub alike : Bool → Bool → Bool
@@ -42,6 +40,6 @@ all_fit f zero l = true
 all_fit f (suc k) l = f l && all_fit f k (drop 1 l)
 
 -- from an offset on, characters up to another; or a fault
-abbrev pub PassedText : List ℕ → ℕ → Passed → Type 0
-PassedText t at (To e) = (at < e) × (e ≤ length t) × (text_ok (drop at t) ≡ text_ok (drop e t))
-PassedText t at Not = text_ok (drop at t) ≡ false
+abbrev pub PassedText : List ℕ → ℕ → Option ℕ → Type 0
+PassedText t at (Some e) = (at < e) × (e ≤ length t) × (text_ok (drop at t) ≡ text_ok (drop e t))
+PassedText t at None = text_ok (drop at t) ≡ false

@@ -131,10 +131,8 @@ fn block_fits(t: &[u8], at: usize) -> bool
     ensures { result ≡ all_fit pair_at 16 (drop at t.now) }
 {
     let mut ok = true;
-    let mut i: usize = 0;
-    while i < 16 {
+    for i in 0..16 {
         ok = ok & pair_fits(t[at + i], t[at + i + 1]);
-        i += 1;
     }
     ok
 }
@@ -160,10 +158,8 @@ fn wide_block_fits(t: &[u8], at: usize) -> bool
     ensures { result ≡ all_fit triple_at 16 (drop at t.now) }
 {
     let mut ok = true;
-    let mut i: usize = 0;
-    while i < 16 {
+    for i in 0..16 {
         ok = ok & triple_fits(t[at + i], t[at + i + 1], t[at + i + 2]);
-        i += 1;
     }
     ok
 }
@@ -178,15 +174,8 @@ fn opens_block(b: u8, c: u8) -> bool
     !((128 <= b) & (b <= 191)) & ((first & behind) | (!first & !behind))
 }
 
-// How far characters that XML allows were passed; or not one of them.
-#[derive(Clone, Copy)]
-pub enum Passed {
-    To(usize),
-    Not,
-}
-
 // The characters from `from` on that begin before `until`, one by one.
-fn pass_each(t: &[u8], from: usize, until: usize) -> Passed
+fn pass_each(t: &[u8], from: usize, until: usize) -> Option<usize>
     requires { (from < until) × (until ≤ length t.now) }
     ensures { PassedText t.now from result }
 {
@@ -199,21 +188,21 @@ fn pass_each(t: &[u8], from: usize, until: usize) -> Passed
             match char_of(&t[at..]) {
                 Char::Point(c, w, _) => {
                     if !xml_char(c) {
-                        return Passed::Not;
+                        return None;
                     }
                     at += w;
                 }
                 Char::Bad => {
-                    return Passed::Not;
+                    return None;
                 }
             }
         }
     }
-    Passed::To(at)
+    Some(at)
 }
 
 // Some sixteen bytes of characters from `at` on: at once, where they are of one to three bytes each, else one by one.
-fn pass_wide(t: &[u8], at: usize) -> Passed
+fn pass_wide(t: &[u8], at: usize) -> Option<usize>
     requires { at + 18 ≤ length t.now }
     ensures { PassedText t.now at result }
 {
@@ -222,17 +211,17 @@ fn pass_wide(t: &[u8], at: usize) -> Passed
         let e = t[at + 17];
         if (128 <= d) & (d <= 191) {
             if (128 <= e) & (e <= 191) {
-                return Passed::To(at + 18);
+                return Some(at + 18);
             }
-            return Passed::To(at + 17);
+            return Some(at + 17);
         }
-        return Passed::To(at + 16);
+        return Some(at + 16);
     }
     pass_each(t, at, at + 16)
 }
 
 // As `pass_wide`, up to the end of the text. A shorter test comes first, for characters of one or two bytes.
-fn pass_some(t: &[u8], at: usize) -> Passed
+fn pass_some(t: &[u8], at: usize) -> Option<usize>
     requires { at < length t.now }
     ensures { PassedText t.now at result }
 {
@@ -243,9 +232,9 @@ fn pass_some(t: &[u8], at: usize) -> Passed
     if ((b < 128) | (191 < b)) & block_fits(t, at) {
         let d = t[at + 16];
         if (128 <= d) & (d <= 191) {
-            return Passed::To(at + 17);
+            return Some(at + 17);
         }
-        return Passed::To(at + 16);
+        return Some(at + 16);
     }
     pass_wide(t, at)
 }
@@ -257,10 +246,10 @@ pub fn text_ok(t: &[u8]) -> bool
     let mut at = 0;
     while at < t.len() {
         match pass_some(t, at) {
-            Passed::To(e) => {
+            Some(e) => {
                 at = e;
             }
-            Passed::Not => {
+            None => {
                 return false;
             }
         }

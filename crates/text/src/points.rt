@@ -17,10 +17,8 @@ fn leads_in(t: &[u8], at: usize) -> usize
     ensures { result ≡ leads 64 (drop at t.now) }
 {
     let mut n: u8 = 0;
-    let mut i: usize = 0;
-    while i < 64 {
+    for i in 0..64 {
         n += lead(t[at + i]);
-        i += 1;
     }
     n as usize
 }

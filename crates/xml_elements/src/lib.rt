@@ -37,11 +37,9 @@ pub fn has_only(slots: &[u32], count: usize, those: &[usize]) -> bool
     ensures { ByAttributes slots.now count (only (names_of those.now)) result }
 {
     let mut there = 0;
-    let mut i = 0;
-    while i < those.len() {
+    for i in 0..those.len() {
         let slot = those[i];
         there += present(slots[slot]);
-        i += 1;
     }
     there == count
 }

@@ -21,15 +21,13 @@ pub enum Front {
 pub fn begins(word: &[u8], text: &[u8]) -> bool
     ensures { result ≡ begins word.now text.now }
 {
-    let mut at: usize = 0;
-    while at < word.len() {
+    for at in 0..word.len() {
         if text.len() <= at {
             return false;
         }
         if word[at] != text[at] {
             return false;
         }
-        at += 1;
     }
     true
 }

@@ -14,12 +14,10 @@ use xml_names::{name_goes_on, name_starts};
 fn goes_to_end(text: &[u8]) -> bool
     ensures { result ≡ all_name text.now }
 {
-    let mut at: usize = 0;
-    while at < text.len() {
+    for at in 0..text.len() {
         if !name_goes_on(text[at]) {
             return false;
         }
-        at += 1;
     }
     true
 }
@@ -119,10 +117,9 @@ fn numeric_at(text: &[u8], from: usize, hex: bool) -> Front
     requires { from ≤ length text.now }
     ensures { told result ≡ numeric (base_of hex) false 0 (from + 1) (drop from text.now) }
 {
-    let mut at = from;
     let mut any = false;
     let mut value: u32 = 0;
-    while at < text.len() {
+    for at in from..text.len() {
         let b = text[at];
         let digit = digit_of(hex, b);
         if 16 <= digit {
@@ -130,7 +127,6 @@ fn numeric_at(text: &[u8], from: usize, hex: bool) -> Front
         }
         value = grown(hex, value, digit);
         any = true;
-        at += 1;
     }
     Front::Cut
 }

@@ -33,10 +33,8 @@ pub fn put_text(out: &mut [u8], draft: Draft, text: &[u8]) -> Draft
     ensures { Wrote (escaped_bytes text.now) out.old draft out.new result }
 {
     let mut behind = draft;
-    let mut i: usize = 0;
-    while i < text.len() {
+    for i in 0..text.len() {
         behind = put_escaped(out, behind, text[i]);
-        i += 1;
     }
     behind
 }

@@ -1,4 +1,4 @@
 use Rattle.answers.proofs.refused_by.Goals as goal
 
-pub returns-in-At : goal.returns-in-At
-returns-in-At c = simp c.in-At.is
+pub returns-in-Some : goal.returns-in-Some
+returns-in-Some c = simp c.in-Some.is

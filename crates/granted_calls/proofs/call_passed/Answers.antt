@@ -6,7 +6,7 @@ use Rattle.granted_parts.specs.Roles.{grant_of}
 use Rattle.granted_calls.proofs.CallLaws.{unreadable, not_alone, one_request, read_size}
 use Rattle.granted_calls.proofs.call_passed.Goals as goal
 
--- let Asked::Readable(r) = requests::request_of(request) else { return Answer::Refused(2, 0); }
+-- let Some(r) = requests::request_of(request) else { return Answer::Refused(2, 0); }
 pub returns-in_default : goal.returns-in_default
 returns-in_default c =
     let read = c.request_of in
@@ -22,7 +22,7 @@ returns-in_default c =
 pub call_read-requires : goal.call_read-requires
 call_read-requires c =
     let read = c.request_of in
-    (c.requires, read_size c.args.request.now read.result _ c.in-Readable.is read.ensures.1)
+    (c.requires, read_size c.args.request.now read.result _ c.in-Some.is read.ensures.1)
 
 pub returns-then-size_of-request : goal.returns-then-size_of-request
 returns-then-size_of-request c =
@@ -35,7 +35,7 @@ returns-then-size_of-request c =
     let grant = grant_of args.role args.positions.now in
     let whole = eq-eqb _ _ (sym size_of.ensures ∙ c.if-size_of-request.true) in
     rw (one_request grant args.table.now request room c.requires read.result read.ensures.0 _
-    c.in-Readable.is whole)
+    c.in-Some.is whole)
     call-read.ensures
 
 -- Answer::Refused(2, 0)
@@ -50,4 +50,4 @@ returns c =
     let longer = ne_eqb _ _ (λ e. c.if-size_of-request.false (size_of.ensures ∙ e)) in
     answers_refused _ 2 0 out
     (not_alone grant args.table.now request (length out) c.requires read.result read.ensures.0 _
-    c.in-Readable.is longer)
+    c.in-Some.is longer)

@@ -30,7 +30,7 @@ clash_if-requires c =
     let loop = c.loop-at in
     (loop.invariant.linked, omega (arith, length-take loop.n loop.keys, loop.invariant.room))
 
--- return Place::At(at)
+-- return Some(at)
 pub returns-then-clash_if : goal.returns-then-clash_if
 returns-then-clash_if c =
     let loop = c.loop-at in
@@ -92,6 +92,6 @@ loop-at-preserved c =
     link-if.result c.owner_by-o.result link-if.ensures.0 link-if.ensures.1
     c.owner_by-o.ensures
 
--- Place::Nowhere
+-- None
 pub returns : goal.returns
 returns c = meeting_end c.loop-at.invariant c.loop-at-test.false

@@ -29,7 +29,7 @@ answer_request-s-requires c =
     let loop = c.loop-at in
     let inv = loop.invariant in
     let request-of = c.request_of in
-    let z = rw c.in-Readable.is at request-of.ensures in (
+    let z = rw c.in-Some.is at request-of.ensures in (
       inv.1,
       inv.3,
       omega (
@@ -50,7 +50,7 @@ overflow_add-at c =
     let loop = c.loop-at in
     let request-of = c.request_of in
     let e = simp tail_is at request-of.ensures in
-    let z = rw c.in-Readable.is at e in
+    let z = rw c.in-Some.is at e in
     omega (arith, z.1.1, c.size_of-at.ensures, length-drop loop.at c.args.job.now, c.requires.2)
 
 -- the loop ends
@@ -60,7 +60,7 @@ loop-at-smaller c =
     let loop = c.loop-at in
     let request-of = c.request_of in
     let e = simp tail_is at request-of.ensures in
-    let z = rw c.in-Readable.is at e in
+    let z = rw c.in-Some.is at e in
     omega (arith, z.1.0, z.1.1, c.size_of-at.ensures, length-drop loop.at job)
 
 -- the loop's step
@@ -76,7 +76,7 @@ loop-at-preserved c =
     let answer-request = c.answer_request-s in
     let size_of = c.size_of-at in
     let e = simp tail_is at request-of.ensures in
-    let z = rw c.in-Readable.is at e in
+    let z = rw c.in-Some.is at e in
     let w = rw (tail_is at-now job) at answer-request.ensures in (
       omega (arith, z.1.1, size_of.ensures, length-drop at-now job, inv.0),
       w.fits,
@@ -92,8 +92,8 @@ loop-at-preserved c =
     )
 
 -- &table[..m]
-pub slice_bounds-put_unreadable-end-in-Unreadable-2 : goal.slice_bounds-put_unreadable-end-in-Unreadable-2
-slice_bounds-put_unreadable-end-in-Unreadable-2 c =
+pub slice_bounds-put_unreadable-end-in-None-2 : goal.slice_bounds-put_unreadable-end-in-None-2
+slice_bounds-put_unreadable-end-in-None-2 c =
     let loop = c.loop-at in
     sym (length-take-le loop.m loop.table (omega (arith, loop.invariant.1, loop.invariant.3)))
 
@@ -116,15 +116,15 @@ put_unreadable-requires c =
     )
 
 -- return k + put_unreadable(&mut out[k..], at, &table[..m])
-pub returns-in-Unreadable : goal.returns-in-Unreadable
-returns-in-Unreadable c =
+pub returns-in-None : goal.returns-in-None
+returns-in-None c =
     let args = c.args in
     let loop = c.loop-at in
     let loop-test = c.loop-at-test in
     let request-of = c.request_of in
     let put-unreadable = c.put_unreadable in
     let e = simp tail_is at request-of.ensures in
-    let z = rw c.in-Unreadable.is at e in
+    let z = rw c.in-None.is at e in
     printed_stop args.job.now args.table.now args.n args.out.now loop.out loop.table loop.at
     loop.m loop.k loop.invariant.5 put-unreadable.new.out put-unreadable.result _
     put-unreadable.ensures.0 put-unreadable.ensures.1 loop-test.true z.0 refl

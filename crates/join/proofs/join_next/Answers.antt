@@ -20,24 +20,24 @@ join_pair-requires c =
     let (pl, small) = c.requires in
     let (v, st) = pl in
     let (b, p, a, f, s) = st in
-    let (c2, q, d, g, u) = rw c.in-At.is at part_at.ensures in
-    let k = next_part args.table.now args.n args.x c.in-At.y b p a f s c2 q d g u in
+    let (c2, q, d, g, u) = rw c.in-Some.is at part_at.ensures in
+    let k = next_part args.table.now args.n args.x c.in-Some.y b p a f s c2 q d g u in
     (v, k.before, k.first, k.second, k.after, k.beside)
 
-pub returns-in-At : goal.returns-in-At
-returns-in-At c =
+pub returns-in-Some : goal.returns-in-Some
+returns-in-Some c =
     let args = c.args in
     let n = args.n in
     let part_at = c.part_at in
     let (pl, small) = c.requires in
     let (v, st) = pl in
     let (b, p, a, f, s) = st in
-    let (c2, q, d, g, u) = rw c.in-At.is at part_at.ensures in
-    let k = next_part args.table.now n args.x c.in-At.y b p a f s c2 q d g u in
+    let (c2, q, d, g, u) = rw c.in-Some.is at part_at.ensures in
+    let k = next_part args.table.now n args.x c.in-Some.y b p a f s c2 q d g u in
     c.join_pair.ensures n k.before k.first k.second k.after k.is k.beside
 
-pub returns-in-Missing : goal.returns-in-Missing
-returns-in-Missing c =
+pub returns-in-None : goal.returns-in-None
+returns-in-None c =
     let args = c.args in
     let out = args.out.now in
     let n = args.n in
@@ -46,4 +46,4 @@ returns-in-Missing c =
     let (b, p, a, f, s) = st in
     answers_refused _ 11 0 out
     (no_next args.table.now n (length out) v b p
-    (last_part _ n b p a f (rw c.in-Missing.is at c.part_at.ensures)))
+    (last_part _ n b p a f (rw c.in-None.is at c.part_at.ensures)))

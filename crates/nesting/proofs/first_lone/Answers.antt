@@ -1,5 +1,5 @@
 use Rattle.nesting.proofs.BarLaws.{lone_left, lone_start, lone_on, lone_end, as_many}
-use Rattle.answers.specs.declared.Place.{Place}
+use Rattle.std.specs.Prelude.{ℕ, Option}
 use Rattle.answers.specs.Answers.{toward}
 use mathlib.Core.Path.{refl, sym, ◌∙◌, ap}
 use Prim.Native.Nat.{◌+◌}
@@ -44,7 +44,7 @@ loop-i-preserved c =
       loop.invariant.2
           ∙ lone_on t markers args.keys.now c.requires.2 loop.i loop.best is-lone.result wide.result
           loop-test.true is-lone.ensures.0 wide.ensures.0
-          ∙ ap (λ (p : Place). toward 7 p (lone_left t markers (loop.i + 1))) (sym c.lower_if-best.ensures),
+          ∙ ap (λ (p : Option ℕ). toward 7 p (lone_left t markers (loop.i + 1))) (sym c.lower_if-best.ensures),
     )
 
 -- best

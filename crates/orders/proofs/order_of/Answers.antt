@@ -1,10 +1,10 @@
 use borrow.Author.Tests.{eq-eqb, ne_eqb}
 use Rattle.orders.proofs.order_of.Goals as goal
 
--- return Order::Is(g.order)
+-- return Some(g.order)
 pub returns-then-g-eq1 : goal.returns-then-g-eq1
 returns-then-g-eq1 c = simp (eq-eqb _ _ c.if-g-eq1.true)
 
--- Order::Not
+-- None
 pub returns : goal.returns
 returns c = simp (ne_eqb _ _ c.if-g-eq1.false)

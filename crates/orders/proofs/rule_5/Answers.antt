@@ -15,7 +15,7 @@ pub bad_order-requires : goal.bad_order-requires
 bad_order-requires c =
     omega (arith, few_parts c.args.t.now c.requires.0, c.requires.1)
 
--- return Place::At(at)
+-- return Some(at)
 pub returns-then-bad_order : goal.returns-then-bad_order
 returns-then-bad_order c =
     let t = c.args.t.now in
@@ -24,7 +24,7 @@ returns-then-bad_order c =
     let v = walked t loop.at loop.invariant.records glance_at.result loop.invariant.here
     c.loop-at-test.true glance_at.ensures in
     ordering_refuses loop.invariant glance_at.result v (omega (arith, few_parts t c.requires.0, c.requires.1))
-    c.in-Is.q (sym c.order_of.ensures ∙ c.in-Is.is) (sym c.bad_order.ensures ∙ c.if-bad_order.true)
+    c.in-Some.q (sym c.order_of.ensures ∙ c.in-Some.is) (sym c.bad_order.ensures ∙ c.if-bad_order.true)
 
 -- used[k] = 1
 pub bounds-used-k : goal.bounds-used-k
@@ -35,7 +35,7 @@ bounds-used-k c =
     let v = walked t loop.at loop.invariant.records glance_at.result loop.invariant.here
     c.loop-at-test.true glance_at.ensures in
     order_within loop.invariant glance_at.result v (omega (arith, few_parts t c.requires.0, c.requires.1))
-    c.in-Is.q (sym c.order_of.ensures ∙ c.in-Is.is) (sym c.bad_order.ensures ∙ c.if-bad_order.false)
+    c.in-Some.q (sym c.order_of.ensures ∙ c.in-Some.is) (sym c.bad_order.ensures ∙ c.if-bad_order.false)
 
 -- at += w, behind an order
 pub overflow_add-at : goal.overflow_add-at
@@ -46,8 +46,8 @@ overflow_add-at c =
     glance_at.result loop.invariant.here c.loop-at-test.true glance_at.ensures in
     omega (arith, v.fits)
 
-pub loop-at-smaller-in-Is : goal.loop-at-smaller-in-Is
-loop-at-smaller-in-Is c =
+pub loop-at-smaller-in-Some : goal.loop-at-smaller-in-Some
+loop-at-smaller-in-Some c =
     let loop = c.loop-at in
     let glance_at = c.glance_at-g in
     let v = walked c.args.t.now loop.at loop.invariant.records
@@ -55,19 +55,19 @@ loop-at-smaller-in-Is c =
     omega (arith, v.fits, v.moves)
 
 -- the loop's step, behind an order
-pub loop-at-preserved-in-Is : goal.loop-at-preserved-in-Is
-loop-at-preserved-in-Is c =
+pub loop-at-preserved-in-Some : goal.loop-at-preserved-in-Some
+loop-at-preserved-in-Some c =
     let t = c.args.t.now in
     let loop = c.loop-at in
     let glance_at = c.glance_at-g in
     let v = walked t loop.at loop.invariant.records glance_at.result loop.invariant.here
     c.loop-at-test.true glance_at.ensures in
     ordering_uses loop.invariant glance_at.result v (omega (arith, few_parts t c.requires.0, c.requires.1))
-    c.in-Is.q (sym c.order_of.ensures ∙ c.in-Is.is) (sym c.bad_order.ensures ∙ c.if-bad_order.false)
+    c.in-Some.q (sym c.order_of.ensures ∙ c.in-Some.is) (sym c.bad_order.ensures ∙ c.if-bad_order.false)
 
 -- at += w, behind any other record
-pub overflow_add-at-in-Not : goal.overflow_add-at-in-Not
-overflow_add-at-in-Not c =
+pub overflow_add-at-in-None : goal.overflow_add-at-in-None
+overflow_add-at-in-None c =
     let loop = c.loop-at in
     let glance_at = c.glance_at-g in
     let v = walked c.args.t.now loop.at
@@ -93,8 +93,8 @@ loop-at-preserved c =
     loop.invariant.records glance_at.result loop.invariant.here c.loop-at-test.true
     glance_at.ensures in
     ordering_skips loop.invariant glance_at.result v
-    (sym c.order_of.ensures ∙ c.in-Not.is)
+    (sym c.order_of.ensures ∙ c.in-None.is)
 
--- Place::Nowhere
+-- None
 pub returns : goal.returns
 returns c = ordering_end c.loop-at.invariant c.loop-at-test.false

@@ -2,7 +2,7 @@ use Prim.Native.Nat.{◌-◌, ◌≤◌}
 use mathlib.Core.List.{[]}
 use mathlib.Core.Path.{◌≡◌}
 use lib.ListN.{length, drop}
-use Rattle.answers.specs.declared.Place.{Place}
+use Rattle.std.specs.Prelude.{ℕ, Option}
 use Rattle.answers.specs.Answers.{toward}
 use Rattle.xliff.specs.Sequences.{blamed}
 use Rattle.xliff.specs.Rules.{bad_9}
@@ -13,7 +13,7 @@ use Rattle.overlap.proofs.all_open.Given as goal
 abbrev pub invariant-loop-i : goal.invariant-loop-i
 invariant-loop-i l =
     (l.i ≤ length l.markers)
-    × ((p : Place)
+    × ((p : Option ℕ)
     → toward 9 p (blamed bad_9 [] (placed_at l.t l.markers))
     ≡ toward 9 p (blamed bad_9 (earlier (marker_at l.t l.markers) l.i) (placed_at l.t (drop l.i l.markers))))
 

@@ -5,7 +5,7 @@ use Rattle.xliff.specs.Rules.{fault_9, bad_9}
 use borrow.Author.Rules.{rules}
 use Rattle.overlap.proofs.rule_9.Goals as goal
 
--- nine_in(t, target_markers, target_keys, nine_in(t, source_markers, source_keys, Place::Nowhere))
+-- nine_in(t, target_markers, target_keys, nine_in(t, source_markers, source_keys, None))
 pub returns : goal.returns
 unfolding fault_9 offsets
 returns c =

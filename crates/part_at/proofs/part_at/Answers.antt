@@ -40,7 +40,7 @@ loop-left-preserved c =
     (sym c.starts_part.ensures ∙ not-false _ c.if-not-starts_part.false-raw) c.part_from-p.result
     c.part_from-p.ensures loop-test.true
 
--- return FoundPart::Missing
+-- return None
 pub returns-then-not-starts_part-2 : goal.returns-then-not-starts_part-2
 returns-then-not-starts_part-2 c =
     let loop = c.loop-left in
@@ -54,7 +54,7 @@ part_from-requires c =
     reached_part c.args.t.now c.requires c.args.n loop.at loop.left loop.invariant
     (sym c.starts_part-2.ensures ∙ not-false _ c.if-not-starts_part-2.false-raw)
 
--- FoundPart::At(part_from(t, at))
+-- Some(part_from(t, at))
 pub returns : goal.returns
 returns c =
     let loop = c.loop-left in

@@ -12,7 +12,7 @@ overflow_add-target c =
     omega (
       arith,
       target_fits c.args.t.now c.args.target known_at_lem.result known_at_lem.ensures
-          width_of_lem.result width_of_lem.ensures _ (sym order-of.ensures ∙ c.in-Is.is) c.requires,
+          width_of_lem.result width_of_lem.ensures _ (sym order-of.ensures ∙ c.in-Some.is) c.requires,
     )
 
 -- content_end(t, target + w)
@@ -22,10 +22,10 @@ content_end-end-requires c =
     let width_of_lem = c.width_of-w in
     let order-of = c.order_of in
     target_content c.args.t.now c.args.target known_at_lem.result known_at_lem.ensures
-    width_of_lem.result width_of_lem.ensures _ (sym order-of.ensures ∙ c.in-Is.is) c.requires
+    width_of_lem.result width_of_lem.ensures _ (sym order-of.ensures ∙ c.in-Some.is) c.requires
 
-pub returns-in-Is : goal.returns-in-Is
-returns-in-Is c =
+pub returns-in-Some : goal.returns-in-Some
+returns-in-Some c =
     let args = c.args in
     let known_at_lem = c.known_at-r in
     let width_of_lem = c.width_of-w in
@@ -35,12 +35,12 @@ returns-in-Is c =
       refl,
       refl,
       with_target args.t.now args.target known_at_lem.result known_at_lem.ensures width_of_lem.result
-          width_of_lem.ensures _ (sym order-of.ensures ∙ c.in-Is.is) refl
+          width_of_lem.ensures _ (sym order-of.ensures ∙ c.in-Some.is) refl
           c.content_end-end.ensures,
     )
 
-pub returns-in-Not : goal.returns-in-Not
-returns-in-Not c =
+pub returns-in-None : goal.returns-in-None
+returns-in-None c =
     let args = c.args in
     let known_at_lem = c.known_at-r in
     let width_of_lem = c.width_of-w in (
@@ -49,5 +49,5 @@ returns-in-Not c =
       refl,
       refl,
       without_target args.t.now args.target known_at_lem.result known_at_lem.ensures width_of_lem.result
-          width_of_lem.ensures _ (sym c.order_of.ensures ∙ c.in-Not.is) refl refl refl,
+          width_of_lem.ensures _ (sym c.order_of.ensures ∙ c.in-None.is) refl refl refl,
     )

@@ -4,12 +4,12 @@ use Rattle.requests.proofs.RequestLaws.{cut_short, is_whole}
 use borrow.Author.Rules.{rules}
 use Rattle.requests.proofs.remove_of.Goals as goal
 
--- return Asked::Unreadable
+-- return None
 pub returns-then-s-lt4 : goal.returns-then-s-lt4
 unfolding two_at
 returns-then-s-lt4 c = (cut_short c.args.s.now 4 _ c.if-s-lt4.true, tt)
 
--- Asked::Readable(Request::RemoveTarget(table::number_at(s, 2)))
+-- Some(Request::RemoveTarget(table::number_at(s, 2)))
 pub returns : goal.returns
 unfolding two_at
 returns c =

@@ -2,7 +2,7 @@ use mathlib.Core.Path.{sym, ◌∙◌}
 use Rattle.requests.proofs.RequestLaws.{request_short, request_split, request_join, request_set, request_remove, request_rewrite, request_other}
 use Rattle.requests.proofs.request_of.Goals as goal
 
--- return Asked::Unreadable
+-- return None
 pub returns-then-s-lt2 : goal.returns-then-s-lt2
 returns-then-s-lt2 c = (request_short c.args.s.now c.if-s-lt2.true, tt)
 
@@ -83,7 +83,7 @@ returns-then-marked_by-5 c =
       c.rewrite_of.ensures.1,
     )
 
--- Asked::Unreadable
+-- None
 pub returns : goal.returns
 returns c =
     let s = c.args.s.now in

@@ -4,12 +4,12 @@ use Rattle.requests.proofs.RequestLaws.{cut_short, is_whole}
 use borrow.Author.Rules.{rules}
 use Rattle.requests.proofs.rewrite_of.Goals as goal
 
--- return Asked::Unreadable
+-- return None
 pub returns-then-s-lt6 : goal.returns-then-s-lt6
 unfolding two_at
 returns-then-s-lt6 c = (cut_short c.args.s.now 6 _ c.if-s-lt6.true, tt)
 
--- Asked::Readable(Request::Rewrite(s[2], table::number_at(s, 3), s[5]))
+-- Some(Request::Rewrite(s[2], table::number_at(s, 3), s[5]))
 pub returns : goal.returns
 unfolding two_at
 returns c =

@@ -10,7 +10,7 @@ pub returns-then-s-lt7 : goal.returns-then-s-lt7
 unfolding two_at
 returns-then-s-lt7 c = (set_short c.args.s.now _ c.if-s-lt7.true, tt)
 
--- return Asked::Unreadable
+-- return None
 pub returns-then-s-wide : goal.returns-then-s-wide
 unfolding two_at
 returns-then-s-wide c =
@@ -22,7 +22,7 @@ returns-then-s-wide c =
       tt,
     )
 
--- Asked::Readable(Request::SetTarget(table::number_at(s, 2), s[4], n))
+-- Some(Request::SetTarget(table::number_at(s, 2), s[4], n))
 pub returns : goal.returns
 unfolding two_at
 returns c =

@@ -4,12 +4,12 @@ use Rattle.requests.proofs.RequestLaws.{cut_short, is_whole}
 use borrow.Author.Rules.{rules}
 use Rattle.requests.proofs.split_of.Goals as goal
 
--- return Asked::Unreadable
+-- return None
 pub returns-then-s-lt10 : goal.returns-then-s-lt10
 unfolding two_at
 returns-then-s-lt10 c = (cut_short c.args.s.now 10 _ c.if-s-lt10.true, tt)
 
--- Asked::Readable(Request::Split(part, source, target, id))
+-- Some(Request::Split(part, source, target, id))
 pub returns : goal.returns
 unfolding two_at
 returns c =

@@ -7,13 +7,13 @@ use Rattle.split.proofs.split_found.Goals as goal
 pub split_there-requires : goal.split_there-requires
 split_there-requires c =
     let pre = c.requires in
-    (pre.0, rw c.in-At.is at pre.1)
+    (pre.0, rw c.in-Some.is at pre.1)
 
-pub returns-in-Missing : goal.returns-in-Missing
-returns-in-Missing c =
+pub returns-in-None : goal.returns-in-None
+returns-in-None c =
     let args = c.args in
     let out = args.out.now in
     let pre = c.requires in
     answers_refused _ 11 0 out
     (no_part args.table.now args.n args.source_cut args.target_cut args.id (length out) pre.0
-    (rw c.in-Missing.is at pre.1))
+    (rw c.in-None.is at pre.1))

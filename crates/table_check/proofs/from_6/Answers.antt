@@ -3,15 +3,15 @@ use Rattle.table_check.proofs.ChainLaws.{stops, goes_on}
 use borrow.Author.Rules.{rules}
 use Rattle.table_check.proofs.from_6.Goals as goal
 
-pub returns-in-At : goal.returns-in-At
+pub returns-in-Some : goal.returns-in-Some
 unfolding fault_6_to_10
-returns-in-At c =
-    stops c.args.t.now 6 _ _ _ (rw c.in-At.is at c.requires.4)
+returns-in-Some c =
+    stops c.args.t.now 6 _ _ _ (rw c.in-Some.is at c.requires.4)
 
-pub returns-in-Nowhere : goal.returns-in-Nowhere
+pub returns-in-None : goal.returns-in-None
 unfolding fault_6_to_10
-returns-in-Nowhere c =
-    goes_on c.args.t.now 6 _ _ _ (rw c.in-Nowhere.is at c.requires.4)
+returns-in-None c =
+    goes_on c.args.t.now 6 _ _ _ (rw c.in-None.is at c.requires.4)
     c.by_sequences.ensures
 
 pub by_sequences-requires : goal.by_sequences-requires

@@ -56,7 +56,7 @@ loop-at-preserved c =
           (sym c.xml_char.ensures ∙ not-false _ c.if-not-xml_char.false-raw),
     )
 
--- return Passed::Not
+-- return None
 pub returns-in-Bad : goal.returns-in-Bad
 returns-in-Bad c =
     let t = c.args.t.now in
@@ -65,7 +65,7 @@ returns-in-Bad c =
     ∙ text_bad (drop loop.at t) (omega (arith, length-drop loop.at t))
     (sym (simp tail_is at c.char_of.ensures) ∙ c.in-Bad.is)
 
--- Passed::To(at)
+-- Some(at)
 pub returns : goal.returns
 returns c =
     let loop = c.loop-at in

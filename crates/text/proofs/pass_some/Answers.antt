@@ -2,7 +2,7 @@ use Rattle.text.proofs.PairLaws.{pair_past}
 use native.Mathlib.Omega.{arith}
 use Rattle.text.proofs.pass_some.Goals as goal
 
--- return Passed::To(at + 17)
+-- return Some(at + 17)
 pub returns-then-d : goal.returns-then-d
 returns-then-d c =
     let args = c.args in
@@ -13,7 +13,7 @@ returns-then-d c =
           c.if-b-block_fits.true c.if-d.true,
     )
 
--- return Passed::To(at + 16)
+-- return Some(at + 16)
 pub returns-then-b-block_fits : goal.returns-then-b-block_fits
 returns-then-b-block_fits c =
     let args = c.args in

@@ -3,7 +3,7 @@ use native.Mathlib.Omega.{arith}
 use mathlib.Core.Path.{refl}
 use Rattle.text.proofs.pass_wide.Goals as goal
 
--- return Passed::To(at + 18)
+-- return Some(at + 18)
 pub returns-then-e : goal.returns-then-e
 returns-then-e c =
     let args = c.args in
@@ -16,7 +16,7 @@ returns-then-e c =
           opens-block.ensures wide-block-fits.ensures if1.true c.if-d.true c.if-e.true,
     )
 
--- return Passed::To(at + 17)
+-- return Some(at + 17)
 pub returns-then-d : goal.returns-then-d
 returns-then-d c =
     let args = c.args in
@@ -29,7 +29,7 @@ returns-then-d c =
           opens-block.ensures wide-block-fits.ensures if1.true c.if-d.true c.if-e.false,
     )
 
--- return Passed::To(at + 16)
+-- return Some(at + 16)
 pub returns-then-opens_block-wide_block_fits : goal.returns-then-opens_block-wide_block_fits
 returns-then-opens_block-wide_block_fits c =
     let args = c.args in

@@ -7,7 +7,7 @@ use Rattle.text.proofs.text_ok.Goals as goal
 pub loop-at-smaller : goal.loop-at-smaller
 loop-at-smaller c =
     let pass_some = c.pass_some in
-    let p = rw c.in-To.is at pass_some.ensures in
+    let p = rw c.in-Some.is at pass_some.ensures in
     omega (arith, p.0, p.1)
 
 -- the loop's step
@@ -15,14 +15,14 @@ pub loop-at-preserved : goal.loop-at-preserved
 loop-at-preserved c =
     let loop = c.loop-at in
     let pass_some = c.pass_some in
-    let p = rw c.in-To.is at pass_some.ensures in
+    let p = rw c.in-Some.is at pass_some.ensures in
     (p.1, loop.invariant.1 ∙ p.2)
 
 -- return false
-pub returns-in-Not : goal.returns-in-Not
-returns-in-Not c =
+pub returns-in-None : goal.returns-in-None
+returns-in-None c =
     let loop = c.loop-at in
-    sym (loop.invariant.1 ∙ (rw c.in-Not.is at c.pass_some.ensures))
+    sym (loop.invariant.1 ∙ (rw c.in-None.is at c.pass_some.ensures))
 
 -- true
 pub returns : goal.returns
