@@ -1,5 +1,5 @@
 -- A glance at a record, and what it says of the record that the specification reads there.
-use Rattle.std.specs.Prelude.{ℕ, ◌≡◌, Bool, true, false, cond, List, [], ◌∷◌, length, leb, Option as RustOption, Some, None}
+use Rattle.std.specs.Prelude.{ℕ, ◌≡◌, Bool, true, false, cond, List, [], ◌∷◌, length, eqb, leb, Option as RustOption, Some, None}
 use Rattle.xliff.specs.Encode.{record_bytes}
 use Rattle.xliff.specs.Bytes.{two_at}
 use Rattle.xliff.specs.Parse.{Mark, UN, UE, SG, IG, TG, TX, CP, MO, SM, MC, EM, code_size, annotation_start_size, annotation_end_size, size_of, read}
@@ -56,13 +56,10 @@ order_set Part = None
 order_set (TargetHead q) = Some q
 order_set Other = None
 
-abbrev pub order_of_head : Head → ℕ
-order_of_head Part = 0
-order_of_head (TargetHead q) = q
-order_of_head Other = 0
-
-abbrev pub order_number : Record → ℕ
-order_number x = order_of_head (head_in x)
+abbrev pub sets_order : ℕ → Head → Bool
+sets_order q Part = false
+sets_order q (TargetHead k) = eqb q k
+sets_order q Other = false
 
 abbrev pub glance_in : Record → ℕ → Glance
 glance_in x w = record { head = head_in x; marker = marker_in x; width = w }

@@ -3,7 +3,7 @@
 
 ghost use Rattle.std.specs.Prelude.{◌≡◌, ◌≤◌, length, drop, eqb};
 ghost use Rattle.xliff.specs.Parse.{mark_at};
-ghost use Rattle.glance.specs.Glances.{kind_of, order_set, part_glance, item_glance, text_glance, target_glance, rest_glance, Glanced};
+ghost use Rattle.glance.specs.Glances.{kind_of, order_set, sets_order, part_glance, item_glance, text_glance, target_glance, rest_glance, Glanced};
 
 // What a record heads: a part (SG and IG), a target, with the order that it sets (TG), or neither.
 #[derive(Clone, Copy, PartialEq, Eq)]
@@ -32,7 +32,16 @@ impl Head {
         matches!(self, Head::Other)
     }
 
-    // The order that it sets.
+    pub fn sets(self, q: u16) -> bool
+        ensures { result ≡ sets_order q self }
+    {
+        match self {
+            Head::Target(k) => q == k,
+            _ => false,
+        }
+    }
+
+    // The order that it sets. Above, whether it is of a TG that sets the order `q`.
     pub fn order(self) -> Option<u16>
         ensures { result ≡ order_set self }
     {
