@@ -4,21 +4,24 @@
 ghost use Rattle.std.specs.Prelude.{◌≡◌, ◌<◌, ◌≤◌, length, take, drop, eqb};
 ghost use Rattle.xliff.specs.Parse.{read, most_bytes, most_records};
 ghost use Rattle.places.specs.Passes.{Passes};
+ghost use Rattle.glance.specs.Glances.{kind_of};
 ghost use Rattle.contents.specs.Heads.{head_kind, inside_after_head, is_found};
 ghost use Rattle.contents.specs.Contents.{barred, bar_key, bar_keys};
 
+use glance::Head;
+
 // Whether what follows a record is of a content that is asked for.
-fn inside_after(targets: bool, head: u8, inside: bool) -> bool
-    ensures { result ≡ inside_after_head targets head inside }
+fn inside_after(targets: bool, head: Head, inside: bool) -> bool
+    ensures { result ≡ inside_after_head targets (kind_of head) inside }
 {
-    (head == 0) | (((head == 1) & targets) | ((head == 2) & inside))
+    head.is_part() | ((head.is_target() & targets) | (head.is_other() & inside))
 }
 
 // Whether a record is a head, or a marker of a content that is asked for.
-fn is_found(head: u8, inside: bool, marker: bool) -> bool
-    ensures { result ≡ is_found head inside marker }
+fn is_found(head: Head, inside: bool, marker: bool) -> bool
+    ensures { result ≡ is_found (kind_of head) inside marker }
 {
-    !(head == 2) | (inside & marker)
+    !head.is_other() | (inside & marker)
 }
 
 // The offsets of the heads (SG, IG, TG) and of the markers of source contents and, where `targets`, of target contents,

@@ -5,10 +5,12 @@ ghost use Rattle.std.specs.Prelude.{◌≡◌, true, false, cond, [], ◌∷◌,
 ghost use Rattle.xliff.specs.Parse.{unit, most_bytes, most_parts, most_records};
 ghost use Rattle.places.specs.Passes.{Passes};
 ghost use Rattle.places.specs.Markers.{target_offsets};
+ghost use Rattle.glance.specs.Glances.{kind_of};
 ghost use Rattle.sequences.specs.Marks.{inside_source, offsets, Appended};
 ghost use Rattle.sequences.specs.Markers.{Markers};
 ghost use Rattle.sequences.specs.Targets.{head_offsets, head_number, of_order, Ordered};
 
+use glance::Head;
 use limits::MOST_PARTS;
 
 // `at` behind the first `m` of `out`, if asked for; how many there are then.
@@ -24,10 +26,10 @@ pub fn put_if(b: bool, out: &mut [u16], m: usize, at: u16) -> usize
 }
 
 // Whether what follows a record is of a source content.
-fn inside_source(head: u8, inside: bool) -> bool
-    ensures { result ≡ inside_source head inside }
+fn inside_source(head: Head, inside: bool) -> bool
+    ensures { result ≡ inside_source (kind_of head) inside }
 {
-    (head == 0) | ((head == 2) & inside)
+    head.is_part() | (head.is_other() & inside)
 }
 
 // The markers of the source sequence.
@@ -56,7 +58,7 @@ fn target_heads(t: &[u8], heads: &mut [u16]) -> usize
     let mut m: usize = 0;
     while at < t.len() {
         let g = walker::glance_at(t, at);
-        m = put_if(g.head == 1, heads, m, at as u16);
+        m = put_if(g.head.is_target(), heads, m, at as u16);
         at += g.width;
     }
     m
@@ -71,14 +73,14 @@ fn target_markers(t: &[u8], heads: &[u16], i: usize, q: u16, out: &mut [u16], n:
 {
     let head = marks::wide(heads[i]);
     let first = walker::glance_at(t, head);
-    if q != first.order {
+    if !first.head.sets(q) {
         return n;
     }
     let mut at = head + first.width;
     let mut m = n;
     while at < t.len() {
         let g = walker::glance_at(t, at);
-        if g.head != 2 {
+        if !g.head.is_other() {
             return m;
         }
         m = put_if(g.marker, out, m, at as u16);
@@ -94,7 +96,9 @@ fn head_orders(t: &[u8], heads: &[u16], out: &mut [u16])
 {
     for i in 0..heads.len() {
         let g = walker::glance_at(t, marks::wide(heads[i]));
-        out[i] = g.order;
+        if let Head::Target(order) = g.head {
+            out[i] = order;
+        }
     }
 }
 
