@@ -10,6 +10,14 @@ ghost use Rattle.keys.specs.Keys.{key, keys_at, alike_keys, is_other_key, id_key
 
 use views::View;
 
+// Markers of a table in sequence: their offsets, and their keys.
+#[derive(Clone, Copy)]
+pub struct Sequence<'a> {
+    pub markers: &'a [u16],
+    pub keys: &'a [u32],
+    pub ghost paired: { length keys.now ≡ length markers.now },
+}
+
 // What the mark of `t` says of the key: 8 times the class, twice the half, 1 for PO PC MO MC; 0 where it is no
 // marker's. First of annotations alone, then of all markers.
 fn annotation_low(t: &[u8]) -> u32
