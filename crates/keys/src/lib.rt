@@ -156,16 +156,13 @@ pub fn view_at(t: &[u8], at: usize, k: u32) -> View
 }
 
 // The keys of the items at some offsets, at the front of `out`.
-pub fn keys_at(t: &[u8], markers: &[u16], out: &mut [u32]) -> usize
+pub fn keys_at(t: &[u8], markers: &[u16], out: &mut [u32])
     requires { length markers.now ≤ length out.old }
-    ensures { (result ≡ length markers.now) × (take result out.new ≡ keys_at t.now markers.now) × (length out.new ≡ length out.old) }
+    ensures { (take (length markers.now) out.new ≡ keys_at t.now markers.now) × (length out.new ≡ length out.old) }
 {
-    let mut i: usize = 0;
-    while i < markers.len() {
+    for i in 0..markers.len() {
         out[i] = key_at(t, marks::wide(markers[i]));
-        i += 1;
     }
-    i
 }
 
 // The parts of a key: id, half, class and form.
