@@ -12,38 +12,37 @@ ghost use Rattle.places.specs.Passes.{Passes};
 ghost use Rattle.sequences.specs.Markers.{Sequences};
 ghost use Rattle.answers.specs.Answers.{refusal_at, toward};
 ghost use Rattle.contents.specs.Contents.{targeted, barred, bar_keys};
-ghost use Rattle.partners.specs.Partners.{partner_s_Key, lone_s_Key, is_half_of_id, only_half, some_key, waits_key, waits_for_key, lone_among_keys, blamed_keys};
+ghost use Rattle.partners.specs.Partners.{is_mark_alike, partner_s_Key, lone_s_Key, is_half_of_id, only_half, some_key, waits_key, waits_for_key, lone_among_keys, blamed_keys};
 
 use keys::Sequence;
 use limits::MOST_RECORDS;
 use sequences::MarkerRoom;
 
+// A mark of a start or an end alike to `k`: the same pair or annotation.
+fn is_mark_alike(k: u32, y: u32) -> bool
+    ensures { result ≡ is_mark_alike k y }
+{
+    keys::alike(k, y) & !keys::is_form_p(y)
+}
+
 // Of the marks of start and end alike to `k`, the first of `keys` is its other half.
 fn partner_after(keys: &[u32], k: u32) -> bool
     ensures { result ≡ partner_s_Key k keys.now }
 {
-    for i in 0..keys.len() {
-        let y = keys[i];
-        if keys::alike(k, y) & !keys::is_form_p(y) {
-            return keys::is_other(k, y);
-        }
+    match keys.iter().find(|y| is_mark_alike(k, **y)) {
+        Some(y) => keys::is_other(k, *y),
+        None => false,
     }
-    false
 }
 
 // The same, of the last of `keys`.
 fn partner_before(keys: &[u32], k: u32) -> bool
     ensures { result ≡ partner_s_Key k (reverse keys.now) }
 {
-    let mut i = keys.len();
-    while i > 0 {
-        i -= 1;
-        let y = keys[i];
-        if keys::alike(k, y) & !keys::is_form_p(y) {
-            return keys::is_other(k, y);
-        }
+    match keys.iter().rev().find(|y| is_mark_alike(k, **y)) {
+        Some(y) => keys::is_other(k, *y),
+        None => false,
     }
-    false
 }
 
 // The key at `i` is a half with the mark of a start or an end, and has no partner: a start looks at what is after it,
@@ -66,13 +65,8 @@ fn lone_s(keys: &[u32], i: usize) -> bool
 fn any_half(keys: &[u32], id: u32) -> bool
     ensures { result ≡ any (is_half_of_id id) keys.now }
 {
-    for i in 0..keys.len() {
-        let k = keys[i];
-        if !(keys::half_of(k) == 0) & (keys::id_of(k) == id) {
-            return true;
-        }
-    }
-    false
+    keys.iter()
+        .any(|k| !(keys::half_of(*k) == 0) & (keys::id_of(*k) == id))
 }
 
 // The key at `i` is the only half of its id.
@@ -88,13 +82,10 @@ fn only_half(keys: &[u32], i: usize) -> bool
 fn is_targeted(keys: &[u32]) -> bool
     ensures { result ≡ targeted keys.now }
 {
-    for i in 0..keys.len() {
-        let k = keys[i];
-        if keys::class_of(k) == 0 {
-            return k == 1;
-        }
+    match keys.iter().find(|k| keys::class_of(**k) == 0) {
+        Some(k) => *k == 1,
+        None => false,
     }
-    false
 }
 
 // The halves with the mark of a start or an end that have no partner in the source sequence. Quadratic: each looks at
