@@ -34,21 +34,6 @@ bad_in_target-requires c =
     let pre = c.requires in
     pre.0
 
--- i += 1
-pub overflow_add-i : goal.overflow_add-i
-unfolding earlier
-overflow_add-i c =
-    let good = c.well_formed in
-    let loop-test = c.loop-i-test in
-    omega (arith, loop-test.true, good)
-
--- the loop ends
-pub loop-i-smaller : goal.loop-i-smaller
-unfolding earlier
-loop-i-smaller c =
-    let loop-test = c.loop-i-test in
-    omega (arith, loop-test.true)
-
 -- the loop's step
 pub loop-i-preserved : goal.loop-i-preserved
 unfolding earlier
