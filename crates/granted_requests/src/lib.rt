@@ -7,11 +7,10 @@ ghost use Rattle.xliff.specs.Check.{table_refusal};
 ghost use Rattle.xliff.specs.Parse.{unit};
 ghost use Rattle.grants.specs.Grant.{is_engineer, whole_granted, rewrite_granted};
 ghost use Rattle.granted_parts.specs.Roles.{role_meaning, grant_of};
-ghost use Rattle.granted_requests.specs.Granted.{is_complete, GrantedIs};
+ghost use Rattle.granted_requests.specs.Granted.{GrantedIs};
 
 use granted_parts::Role;
 use requests::Request;
-use whole_pair::FoundPair;
 
 fn is_engineer(role: Role) -> bool
     ensures { result ≡ is_engineer (role_meaning role) }
@@ -24,15 +23,6 @@ fn is_engineer(role: Role) -> bool
     }
 }
 
-fn is_complete(found: FoundPair) -> bool
-    ensures { result ≡ is_complete found }
-{
-    match found {
-        FoundPair::Complete(_, _) => true,
-        FoundPair::Missing => false,
-    }
-}
-
 // Whether the side has a complete pair or annotation of the id, both halves in granted parts.
 fn whole_granted(role: Role, positions: &[u8], table: &[u8], side: u8, id: u16) -> bool
     requires { table_refusal table.now ≡ none }
@@ -42,7 +32,7 @@ fn whole_granted(role: Role, positions: &[u8], table: &[u8], side: u8, id: u16) 
     if !((side == b'S') | (side == b'T')) {
         return false;
     }
-    if !is_complete(whole_pair::find(table, side, id)) {
+    if whole_pair::find(table, side, id).is_none() {
         return false;
     }
     granted_halves::halves_within(table, role, positions, side, id)

@@ -21,10 +21,9 @@ find-requires c =
     let table = c.args.table.now in
     (table_passes table c.shared_slice_known-2-1.given c.requires, small_table table c.requires)
 
--- if !is_complete(..) { return false; }
-pub returns-then-not-is_complete : goal.returns-then-not-is_complete
-returns-then-not-is_complete c =
-    let is_complete = c.is_complete in
+-- if whole_pair::find(table, side, id).is_none() { return false; }
+pub returns-then-is_none : goal.returns-then-is_none
+returns-then-is_none c =
     let find = c.find in
     let sided = not-false _ c.if-not-side.false-raw in
     let args = c.args in
@@ -32,7 +31,7 @@ returns-then-not-is_complete c =
     let parts = (unit args.table.now).parts in
     sym
     (by_missing grant parts args.side args.id sided find.result find.ensures
-    (sym is_complete.ensures ∙ not-true _ c.if-not-is_complete.true-raw))
+    c.if-is_none.ensures)
 
 -- granted_halves::halves_within(table, role, positions, side, id)
 pub halves_within-requires : goal.halves_within-requires
@@ -42,7 +41,6 @@ halves_within-requires c =
 
 pub returns : goal.returns
 returns c =
-    let is_complete = c.is_complete in
     let find = c.find in
     let sided = not-false _ c.if-not-side.false-raw in
     let args = c.args in
@@ -51,4 +49,4 @@ returns c =
     c.halves_within.ensures
     ∙ sym
     (by_halves grant parts args.side args.id sided find.result find.ensures
-    (sym is_complete.ensures ∙ not-false _ c.if-not-is_complete.false-raw))
+    c.if-is_none.ensures)

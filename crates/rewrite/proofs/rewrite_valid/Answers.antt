@@ -1,7 +1,7 @@
-use Rattle.rewrite.proofs.PairLaws.{letters_are}
+use Rattle.rewrite.proofs.PairLaws.{letters_are, pair_missing, pair_complete}
 use Rattle.places.proofs.Places.{checked_passes}
 use Rattle.xliff.proofs.unit.Result.{small_table}
-use Rattle.rewrite_refusals.proofs.ChainLaws.{refused_2}
+use Rattle.rewrite_refusals.proofs.ChainLaws.{refused_2, no_pair}
 use Rattle.outcomes.proofs.OutcomeLaws.{answers_refused}
 use Rattle.table.proofs.WidthLaws.{bytes_known}
 use mathlib.Core.Path.{sym, ◌∙◌}
@@ -28,9 +28,22 @@ find-requires c =
       small_table table pre,
     )
 
--- rewrite_found(table, whole_pair::find(table, side, id), side, id, form, out)
-pub rewrite_found-requires : goal.rewrite_found-requires
-rewrite_found-requires c = (
-  (c.requires, sym (letters_are c.args.side c.args.form) ∙ c.if-side-form.false),
-  c.find.ensures,
-)
+-- let Some(pair) = .. else { return Answer::Refused(20, 0); }
+pub returns-in_default : goal.returns-in_default
+returns-in_default c =
+    let args = c.args in
+    let table = args.table.now in
+    let side = args.side in
+    let form = args.form in
+    let letters = sym (letters_are side form) ∙ c.if-side-form.false in
+    answers_refused _ 20 0 args.out.now
+    (no_pair table side args.id form (length args.out.now) c.requires letters
+    (pair_missing table side args.id form (c.requires, letters) c.find.result c.find.ensures c.in_default.is))
+
+-- rewrite_pair(table, pair, side, id, form, out)
+pub rewrite_pair-requires : goal.rewrite_pair-requires
+rewrite_pair-requires c =
+    let args = c.args in
+    let letters = sym (letters_are args.side args.form) ∙ c.if-side-form.false in
+    pair_complete args.table.now args.side args.id args.form (c.requires, letters) c.find.result c.find.ensures
+    c.in-Some.pair c.in-Some.is
