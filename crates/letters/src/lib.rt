@@ -61,12 +61,11 @@ fn ill_ended(t: &[u8], s: Sequence, i: usize, x: View) -> bool
     if !((x.class == 2) & (x.half == 2)) {
         return false;
     }
-    let start = halves::half_before(s.keys, i);
-    if start == 0 {
+    let Some(start) = halves::half_before(s.keys, i) else {
         return false;
-    }
+    };
     ill_matched(
-        keys::view_at(t, marks::wide(s.markers[start - 1]), s.keys[start - 1]),
+        keys::view_at(t, marks::wide(s.markers[start]), s.keys[start]),
         x,
     )
 }

@@ -12,7 +12,6 @@ use Rattle.xliff.specs.Sequences.{items}
 use Rattle.xliff.specs.Rules.{enclosed, stray, any_stray, bad_9}
 use Rattle.xliff.proofs.lists.Tests.{any_append, and_false}
 use Rattle.places.specs.Markers.{placed_at}
-use Rattle.views.specs.declared.View.{View}
 use Rattle.views.specs.Views.{view_of}
 use Rattle.keys.specs.Keys.{key, keys_at, class_key}
 use Rattle.keys.proofs.KeyLaws.{class_key_lem, half_key_lem}

@@ -1,11 +1,10 @@
 -- Rule 9 on keys.
-use Rattle.std.specs.Prelude.{ℕ, suc, ◌<◌, ◌≡◌, Bool, true, false, not, ◌&&◌, ◌||◌, List, [], eqb, ltb, length, get_or, drop, Option}
+use Rattle.std.specs.Prelude.{ℕ, ◌<◌, ◌≡◌, Bool, true, not, ◌&&◌, ◌||◌, List, [], eqb, ltb, length, get_or, Option}
 use Rattle.views.specs.declared.View.{View}
 use Rattle.keys.specs.Keys.{class_key, half_key}
-use Rattle.halves.specs.Nearest.{half_before, half_after, marker_at}
+use Rattle.halves.specs.Nearest.{half_before, half_after}
 use Rattle.answers.specs.Answers.{refusal_at, toward}
-use Rattle.xliff.specs.Item.{Content}
-use Rattle.xliff.specs.Sequences.{blamed, items}
+use Rattle.xliff.specs.Sequences.{blamed}
 use Rattle.xliff.specs.Rules.{bad_9}
 use Rattle.places.specs.Markers.{placed_at}
 

@@ -31,6 +31,28 @@ struct Halved<'a> {
     ghost halves: { Halves sequence.keys.now starts.now ends.now },
 }
 
+// The nearest other halves of the marker at `i`, as arrays of two-byte numbers hold them: that before as its index plus
+// one, or 0; that after as its index, or the number of markers.
+fn number_before(keys: &[u32], links: &[u16], i: usize) -> u16
+    requires { Linked keys.now links.now × (length keys.now ≤ most_records) × (length links.now ≡ most_records) × (i < length keys.now) }
+    ensures { result ≡ half_before keys.now i }
+{
+    match halves::linked_before(keys, links, i) {
+        Some(j) => (j + 1) as u16,
+        None => 0,
+    }
+}
+
+fn number_after(keys: &[u32], links: &[u16], i: usize) -> u16
+    requires { LinkedAfter keys.now links.now × (length keys.now ≤ most_records) × (length links.now ≡ most_records) × (i < length keys.now) }
+    ensures { result ≡ half_after keys.now i }
+{
+    match halves::linked_after(keys, links, i) {
+        Some(j) => j as u16,
+        None => keys.len() as u16,
+    }
+}
+
 // The nearest other half before each marker, of keys that are linked to those before them.
 // Linear in the markers where few of them are of one group, quadratic where all are.
 fn fill_starts(keys: &[u32], links: &[u16], starts: &mut [u16])
@@ -38,7 +60,7 @@ fn fill_starts(keys: &[u32], links: &[u16], starts: &mut [u16])
     ensures { (length starts.new ≡ most_records) × Filled (half_before keys.now) (length keys.now) starts.new }
 {
     for i in 0..keys.len() {
-        starts[i] = halves::linked_before(keys, links, i) as u16;
+        starts[i] = number_before(keys, links, i);
     }
 }
 
@@ -49,7 +71,7 @@ fn fill_ends(keys: &[u32], links: &[u16], ends: &mut [u16])
     ensures { (length ends.new ≡ most_records) × Filled (half_after keys.now) (length keys.now) ends.new }
 {
     for i in 0..keys.len() {
-        ends[i] = halves::linked_after(keys, links, i) as u16;
+        ends[i] = number_after(keys, links, i);
     }
 }
 

@@ -1,17 +1,20 @@
 -- Keys that a search finds: the first that passes a test, and whether there is one.
-use Prim.Native.Nat.{ℕ}
+use Prim.Native.Nat.{ℕ, zero, suc, ◌+◌}
 use mathlib.Core.Path.{◌≡◌, refl, sym, ap, ◌∙◌}
 use mathlib.Core.Bool.{Bool, true, false, ◌||◌, cond}
-use mathlib.Core.List.{List, [], ◌∷◌}
+use mathlib.Core.List.{List, [], ◌∷◌, reverse}
+use native.Mathlib.Omega.{arith}
+use lib.ListN.{length, take, drop, get_or}
 use lib.Dec.{eqb}
 use Rattle.std.specs.Prelude.{Option, None, Some}
 use Rattle.std.specs.Option.{option_map}
 use denote.Bor.{Bor}
-use Rattle.std.specs.List.{list_any, find}
+use Rattle.std.specs.List.{list_any, find, range_with_len}
 use Rattle.xliff.specs.Bytes.{any}
 use Rattle.keys.specs.Keys.{is_other_key}
 use Rattle.contents.specs.Contents.{is_bar, targeted}
-use Rattle.partners.specs.Partners.{is_mark_alike, partner_s_Key}
+use Rattle.partners.specs.Partners.{is_mark_alike, partner_s_Key, some_key}
+use Rattle.partners.proofs.ScanLaws.{some_first, some_end}
 
 -- the two words for: some key passes a test
 pub any_is : (p : ℕ → Bool) (keys : List ℕ) → list_any p keys ≡ any p keys
@@ -55,3 +58,18 @@ pub bar_found : (keys : List ℕ) → found_by is_target_bar (find is_bar keys) 
 unfolding targeted
 bar_found [] = refl
 bar_found (k ∷ keys) = bar_by k keys (is_bar k) (bar_found keys)
+
+-- some key passes a test of it and of what stands before it and after it
+abbrev pub passes_at : (List ℕ → ℕ → List ℕ → Bool) → List ℕ → ℕ → Bool
+passes_at p keys i = p (reverse (take i keys)) (get_or keys i 0) (drop (i + 1) keys)
+
+some_from : (p : List ℕ → ℕ → List ℕ → Bool) (keys : List ℕ) (i n : ℕ) → i + n ≡ length keys
+    → list_any (passes_at p keys) (range_with_len i n) ≡ some_key p (reverse (take i keys)) (drop i keys)
+some_from p keys i zero e = sym (some_end p keys i (omega arith))
+some_from p keys i (suc n) e =
+    ap (λ (b : Bool). passes_at p keys i || b) (some_from p keys (i + 1) n (omega arith))
+    ∙ sym (some_first p keys i (omega arith))
+
+pub some_is : (p : List ℕ → ℕ → List ℕ → Bool) (keys : List ℕ)
+    → list_any (passes_at p keys) (range_with_len 0 (length keys)) ≡ some_key p [] keys
+some_is p keys = some_from p keys 0 (length keys) (omega arith)

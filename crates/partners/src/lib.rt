@@ -120,6 +120,7 @@ fn waits_for(x: u32, bars: &[u32], stack: &mut [u32]) -> bool
     requires { (length bars.now ≤ most_records) × (length stack.old ≡ most_records) }
     ensures { (result ≡ waits_for_key x [] bars.now) × (length stack.new ≡ most_records) }
 {
+    // no `any`: its closure would write the stack
     for i in 0..bars.len() {
         if waits(x, bars, i, stack) {
             return true;
@@ -179,12 +180,7 @@ fn lone_in_contents(t: &[u8]) -> Option<usize>
 fn any_lone(keys: &[u32]) -> bool
     ensures { result ≡ some_key lone_s_Key [] keys.now }
 {
-    for i in 0..keys.len() {
-        if lone_s(keys, i) {
-            return true;
-        }
-    }
-    false
+    (0..keys.len()).any(|i| lone_s(keys, i))
 }
 
 // The halves at fault in the target sequence, with the keys of the source contents. Quadratic, as `lone_in_target` is.

@@ -16,7 +16,7 @@ use Rattle.xliff.specs.Rewrite.{ended_by, find_whole, unfit_letter}
 use Rattle.views.specs.Views.{items_of_markers, view_of}
 use Rattle.views.specs.declared.View.{View}
 use Rattle.views.proofs.ViewLaws.{items_at}
-use Rattle.keys.specs.Keys.{keys_at, half_key, id_key}
+use Rattle.keys.specs.Keys.{keys_at}
 use Rattle.keys.proofs.KeyLaws.{half_key_lem, id_key_lem}
 use Rattle.halves.specs.Nearest.{half_after, run, marker_at}
 use Rattle.id_links.specs.Nearest.{next}

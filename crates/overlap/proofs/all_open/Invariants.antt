@@ -16,4 +16,3 @@ invariant-loop-i l =
     × ((p : Option ℕ)
     → toward 9 p (blamed bad_9 [] (placed_at l.t l.s.markers.now))
     ≡ toward 9 p (blamed bad_9 (earlier (marker_at l.t l.s.markers.now) l.i) (placed_at l.t (drop l.i l.s.markers.now))))
-

@@ -21,7 +21,7 @@ returns-then-h-end c =
     let h = args.h in
     let markers = h.sequence.markers.now in
     let there = end_there t markers h.sequence.keys.now h.starts.now h.ends.now c.requires.0 h.halves args.i c.wide-end.result
-        c.requires.1 c.wide-end.ensures.0 in
+    c.requires.1 c.wide-end.ensures.0 in
     no_end t markers args.i c.requires.1 (earlier (marker_at t markers) args.i) (omega (arith, c.if-h-end.true, there))
 
 -- h.has_stray(i + 1, end)

@@ -8,4 +8,3 @@ use Rattle.overlap.proofs.fill_ends.Given as goal
 
 abbrev pub invariant-loop-i : goal.invariant-loop-i
 invariant-loop-i l = (l.i ≤ length l.keys) × (length l.ends ≡ most_records) × Filled (half_after l.keys) l.i l.ends
-

@@ -9,4 +9,3 @@ use Rattle.overlap.proofs.fill_starts.Given as goal
 abbrev pub invariant-loop-i : goal.invariant-loop-i
 invariant-loop-i l =
     (l.i ≤ length l.keys) × (length l.starts ≡ most_records) × Filled (half_before l.keys) l.i l.starts
-

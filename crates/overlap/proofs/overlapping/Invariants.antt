@@ -14,4 +14,3 @@ invariant-loop-i l =
     (l.i ≤ length l.h.sequence.markers.now)
     × (toward 9 l.initial.best (blamed bad_9 [] (placed_at l.t l.h.sequence.markers.now))
     ≡ toward 9 l.best (blamed bad_9 (earlier (marker_at l.t l.h.sequence.markers.now) l.i) (placed_at l.t (drop l.i l.h.sequence.markers.now))))
-

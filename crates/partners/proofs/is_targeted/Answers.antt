@@ -13,7 +13,7 @@ pub returns-in-Some : goal.returns-in-Some
 returns-in-Some c =
     let keys = c.args.keys.now in
     let found : values c.find.result ≡ find (is_bar) (keys) =
-        find_from_yields_List (is_bar) _ _ _ c.find.ensures.ran (YieldsList-from_slice keys cc) (λ y b q is. search (rules, tests)) in
+    find_from_yields_List (is_bar) _ _ _ c.find.ensures.ran (YieldsList-from_slice keys cc) (λ y b q is. search (rules, tests)) in
     asked (is_target_bar) _ _ _ found c.in-Some.is ∙ bar_found (keys)
 
 -- false
@@ -21,5 +21,5 @@ pub returns-in-None : goal.returns-in-None
 returns-in-None c =
     let keys = c.args.keys.now in
     let found : values c.find.result ≡ find (is_bar) (keys) =
-        find_from_yields_List (is_bar) _ _ _ c.find.ensures.ran (YieldsList-from_slice keys cc) (λ y b q is. search (rules, tests)) in
+    find_from_yields_List (is_bar) _ _ _ c.find.ensures.ran (YieldsList-from_slice keys cc) (λ y b q is. search (rules, tests)) in
     asked (is_target_bar) _ _ _ found c.in-None.is ∙ bar_found (keys)

@@ -16,7 +16,7 @@ returns-in-Some c =
     let keys = c.args.keys.now in
     let k = c.args.k in
     let found : values c.find.result ≡ find (is_mark_alike k) (reverse keys) =
-        find_from_yields_List (is_mark_alike k) _ _ _ c.find.ensures.ran (YieldsList-from_rev_slice keys cc) (λ y b q is. search (rules, tests)) in
+    find_from_yields_List (is_mark_alike k) _ _ _ c.find.ensures.ran (YieldsList-from_rev_slice keys cc) (λ y b q is. search (rules, tests)) in
     c.is_other.ensures ∙ asked (is_other_key k) _ _ _ found c.in-Some.is ∙ partner_found k (reverse keys)
 
 -- false
@@ -25,5 +25,5 @@ returns-in-None c =
     let keys = c.args.keys.now in
     let k = c.args.k in
     let found : values c.find.result ≡ find (is_mark_alike k) (reverse keys) =
-        find_from_yields_List (is_mark_alike k) _ _ _ c.find.ensures.ran (YieldsList-from_rev_slice keys cc) (λ y b q is. search (rules, tests)) in
+    find_from_yields_List (is_mark_alike k) _ _ _ c.find.ensures.ran (YieldsList-from_rev_slice keys cc) (λ y b q is. search (rules, tests)) in
     asked (is_other_key k) _ _ _ found c.in-None.is ∙ partner_found k (reverse keys)

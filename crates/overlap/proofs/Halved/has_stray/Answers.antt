@@ -1,5 +1,4 @@
-use mathlib.Core.Bool.{Bool}
-use mathlib.Core.Path.{◌≡◌, ◌∙◌, refl, sym, ap}
+use mathlib.Core.Path.{◌∙◌, refl, sym, ap}
 use native.Mathlib.Omega.{arith}
 use lib.Dec.{ltb}
 use borrow.Author.Tests.{lt-ltb, le-ltb}
@@ -20,8 +19,8 @@ returns-then-is_stray c =
     let j = c.loop-j.j in
     let within = c.loop-j-test.true in
     let here = stray_there h.sequence.keys.now h.starts.now h.ends.now args.first args.end j h.halves
-        (omega (arith, within, c.requires)) c.wide-before.result c.wide-after.result c.is_stray.result
-        c.wide-before.ensures.0 c.wide-after.ensures.0 c.is_stray.ensures in
+    (omega (arith, within, c.requires)) c.wide-before.result c.wide-after.result c.is_stray.result
+    c.wide-before.ensures.0 c.wide-after.ensures.0 c.is_stray.ensures in
     sym
     (ap (λ n. ltb n args.end) (c.loop-j.invariant ∙ next_hit stray args.end j within (sym here ∙ c.if-is_stray.true))
     ∙ lt-ltb j args.end within)
@@ -35,8 +34,8 @@ loop-j-preserved c =
     let j = c.loop-j.j in
     let within = c.loop-j-test.true in
     let here = stray_there h.sequence.keys.now h.starts.now h.ends.now args.first args.end j h.halves
-        (omega (arith, within, c.requires)) c.wide-before.result c.wide-after.result c.is_stray.result
-        c.wide-before.ensures.0 c.wide-after.ensures.0 c.is_stray.ensures in
+    (omega (arith, within, c.requires)) c.wide-before.result c.wide-after.result c.is_stray.result
+    c.wide-before.ensures.0 c.wide-after.ensures.0 c.is_stray.ensures in
     c.loop-j.invariant ∙ next_miss stray args.end j within (sym here ∙ c.if-is_stray.false)
 
 -- false
