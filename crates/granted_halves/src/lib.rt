@@ -54,7 +54,7 @@ pub fn halves_within(t: &[u8], role: Role, positions: &[u8], side: u8, id: u16) 
         if stands_outside(t, at, role, positions, n, inside, id) {
             return false;
         }
-        n = number_after(g.head == 0, n);
+        n = number_after(g.head.is_part(), n);
         inside = rewrite_marks::inside_of(source, inside, g.head);
         at += g.width;
     }

@@ -17,6 +17,7 @@ use Rattle.places.specs.Offsets.{At}
 use Rattle.places.specs.Found.{names_found}
 use Rattle.places.proofs.Places.{at_start}
 use Rattle.glance.specs.declared.Glance.{Glance}
+use Rattle.glance.specs.Glances.{kind_of}
 use Rattle.orders.proofs.WalkLaws.{Walked}
 use Rattle.ids.specs.Keys.{owner, named, clash_test, owner_by, NameAt}
 use Rattle.ids.specs.KeyLinks.{Links, LinkedIf}
@@ -57,9 +58,9 @@ module _ {t keys links heads : List ℕ} {n o at : ℕ} (m : Meeting t keys link
     pub meeting_room : n < most_records
     meeting_room = omega (arith, m.room, ap length v.step.split)
 
-    module _ (l : at < length t) (k : ℕ) (name : NameAt t at g.head o k) where
+    module _ (l : at < length t) (k : ℕ) (name : NameAt t at (kind_of g.head) o k) where
       abbrev later : List Named
-      later = names_found (owner (owner_by g.head o)) (at + g.width) v.step.others
+      later = names_found (owner (owner_by (kind_of g.head) o)) (at + g.width) v.step.others
 
       on : fault_6 (unit t).parts ≡ first_clash m.met (named k at ++ later)
       on = m.rest ∙ ap (first_clash m.met) (names_step t at m.records g m.here l v o k name)
@@ -68,7 +69,7 @@ module _ {t keys links heads : List ℕ} {n o at : ℕ} (m : Meeting t keys link
       meeting_refuses e = sym (on ∙ name_hit keys n m.met m.stored k at later e)
 
       pub meeting_goes_on : cond (eqb k 0) false (any (clash_test k) (take n keys)) ≡ false
-          → (links' heads' : List ℕ) (n' o' : ℕ) → n' ≡ cond (eqb k 0) n (n + 1) → LinkedIf links heads n k links' heads' → o' ≡ owner_by g.head o
+          → (links' heads' : List ℕ) (n' o' : ℕ) → n' ≡ cond (eqb k 0) n (n + 1) → LinkedIf links heads n k links' heads' → o' ≡ owner_by (kind_of g.head) o
           → Meeting t (set keys n k) links' heads' n' o' (at + g.width)
       meeting_goes_on e links' heads' n' o' count link own =
           let miss = name_miss keys n m.met m.stored k at later (omega (arith, meeting_room, m.sized)) e in
@@ -81,7 +82,7 @@ module _ {t keys links heads : List ℕ} {n o at : ℕ} (m : Meeting t keys link
             room = subst (λ (j : ℕ). j + length v.step.others ≤ most_records) (sym count)
                 (count_bound (eqb k 0) n (length v.step.others) (omega (arith, m.room, ap length v.step.split)));
             sized = length-set keys n k ∙ m.sized;
-            owned = subst (λ (j : ℕ). (1 ≤ j) × (j ≤ 3)) (sym own) (owner_bound g.head o m.owned);
+            owned = subst (λ (j : ℕ). (1 ≤ j) × (j ≤ 3)) (sym own) (owner_bound (kind_of g.head) o m.owned);
             linked = subst (λ (j : ℕ). Links (take j (set keys n k)) links' heads') (sym count)
                 (links_more keys links heads n k (omega (arith, meeting_room, m.sized)) m.sized m.linked links' heads' link);
           }

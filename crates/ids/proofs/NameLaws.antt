@@ -24,7 +24,7 @@ use Rattle.table.specs.Meaning.{record_meaning, body}
 use Rattle.table.specs.declared.Record.{Record}
 use Rattle.table.specs.declared.Record.TheVariants.{Unit as UnitStart, UnitEnd, Segment, Ignorable, Target, Text, Inline}
 use Rattle.glance.specs.declared.Glance.{Glance}
-use Rattle.glance.specs.Glances.{head_kind_in}
+use Rattle.glance.specs.Glances.{kind_of, head_kind_in}
 use Rattle.orders.proofs.WalkLaws.{Walked}
 use Rattle.ids.specs.Keys.{owner, named, clash_test, owner_by, NameAt}
 
@@ -141,20 +141,20 @@ pub count_bound : (b : Bool) (n m : ℕ) → n + suc m ≤ most_records → cond
 count_bound true n m h = omega arith
 count_bound false n m h = omega arith
 
-pub names_step : (t : List ℕ) (at : ℕ) (rs : List encode.Record) (g : Glance) → At t at rs → at < length t → (v : Walked t at rs g) (o k : ℕ) → NameAt t at g.head o k
-    → names_found (owner o) at rs ≡ named k at ++ names_found (owner (owner_by g.head o)) (at + g.width) v.step.others
+pub names_step : (t : List ℕ) (at : ℕ) (rs : List encode.Record) (g : Glance) → At t at rs → at < length t → (v : Walked t at rs g) (o k : ℕ) → NameAt t at (kind_of g.head) o k
+    → names_found (owner o) at rs ≡ named k at ++ names_found (owner (owner_by (kind_of g.head) o)) (at + g.width) v.step.others
 unfolding found
 names_step t at rs g a l v o k e =
     let reads = (at_next t at v.step.first v.step.others (subst (At t at) v.step.split a)).reads in
-    let part : (g.head ≡ 0 → ⊥) → is_part (read (drop at t)) ≡ false =
-    λ n. ap is_part (reads ∙ sym v.step.means) ∙ part_is (body (drop at t)) v.the ∙ ap (λ (h : Glance). eqb h.head 0) (sym v.is) ∙ ne_eqb g.head 0 n in
+    let part : ((kind_of g.head) ≡ 0 → ⊥) → is_part (read (drop at t)) ≡ false =
+    λ n. ap is_part (reads ∙ sym v.step.means) ∙ part_is (body (drop at t)) v.the ∙ ap (λ (h : Glance). eqb (kind_of h.head) 0) (sym v.is) ∙ ne_eqb (kind_of g.head) 0 n in
     ap (names_found (owner o) at) v.step.split
     ∙ ap₂ (λ (l : List Named) (p : Owner). l ++ names_found p (at + length (record_bytes v.step.first)) v.step.others)
     (ap (found_at of_source (λ q. of_target) head_name (λ q at. []) start_name no_name (owner o) at) (sym reads) ∙ sym (e rs a l part))
     (ap (state_after of_source (λ q. of_target) head_name (λ q at. []) start_name no_name (owner o))
     (sym v.step.means) ∙ owner_after o (body (drop at t)) v.the
-    ∙ ap (λ (h : Glance). owner (owner_by h.head o)) (sym v.is))
-    ∙ ap (λ (j : ℕ). named k at ++ names_found (owner (owner_by g.head o)) (at + j) v.step.others) (sym (v.wide ∙ v.step.wide))
+    ∙ ap (λ (h : Glance). owner (owner_by (kind_of h.head) o)) (sym v.is))
+    ∙ ap (λ (j : ℕ). named k at ++ names_found (owner (owner_by (kind_of g.head) o)) (at + j) v.step.others) (sym (v.wide ∙ v.step.wide))
 
 pub names_end : (t : List ℕ) (at : ℕ) (rs : List encode.Record) (o : Owner) (met : List Named) → At t at rs → length t ≤ at → first_clash met (names_found o at rs) ≡ none
 unfolding first_clash found

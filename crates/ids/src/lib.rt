@@ -8,9 +8,11 @@ ghost use Rattle.xliff.specs.Bytes.{any};
 ghost use Rattle.xliff.specs.Parse.{unit, most_records};
 ghost use Rattle.xliff.specs.Rules.{fault_6};
 ghost use Rattle.places.specs.Passes.{Passes};
+ghost use Rattle.glance.specs.Glances.{kind_of};
 ghost use Rattle.ids.specs.Keys.{Keyed, PairKeyed, ItemKeyed, HeadKeyed, RecordKeyed, ReadKeyed, clash_test, name_by, owner_by, NameAt};
 ghost use Rattle.ids.specs.KeyLinks.{Links, LinkedIf};
 
+use glance::Head;
 use limits::MOST_RECORDS;
 use table::{Fields, Half, Item, Read, Record};
 
@@ -88,25 +90,26 @@ fn name_by(o: u32, k: u32) -> u32
     keys::id_of(k) * 64 + o
 }
 
-// The number of the id that the record at an offset gives; `head` is 0 for SG and IG.
-fn name_at(t: &[u8], at: usize, head: u8, o: u32) -> u32
+// The number of the id that the record at an offset gives.
+fn name_at(t: &[u8], at: usize, head: Head, o: u32) -> u32
     requires { (1 ≤ o) × (o ≤ 3) }
-    ensures { NameAt t.now at head o result }
+    ensures { NameAt t.now at (kind_of head) o result }
 {
-    if head == 0 {
+    if head.is_part() {
         return key_of(o, walker::known_at(t, at));
     }
     name_by(o, keys::key_at(t, at))
 }
 
 // Whose ids come next: 2 for the source after SG and IG, 3 for a target after TG.
-fn owner_by(head: u8, o: u32) -> u32
-    ensures { result ≡ owner_by head o }
+fn owner_by(head: Head, o: u32) -> u32
+    ensures { result ≡ owner_by (kind_of head) o }
 {
-    if head == 0 {
-        return 2;
+    match head {
+        Head::Part => 2,
+        Head::Target(_) => 3,
+        Head::Other => o,
     }
-    if head == 1 { 3 } else { o }
 }
 
 fn clash_with(a: u32, b: u32) -> bool
