@@ -8,6 +8,7 @@ use Rattle.xliff.specs.Rules.{of_source, of_target, start_name}
 use Rattle.xliff.specs.Parse.{read}
 use Rattle.table.specs.Meaning.{body}
 use Rattle.orders.proofs.WalkLaws.{known_read}
+use Rattle.std.specs.Prelude.{Option}
 use Rattle.ids.specs.Keys.{owner, named, name_by}
 use Rattle.ids.proofs.MarkerLaws.{name_other}
 use borrow.Author.Tests.{eqb-false}
@@ -36,8 +37,8 @@ returns c =
     let o = args.o in
     let pre = c.requires in
     λ rs a l p.
-    ap (λ (k : ℕ). named k at₀) (c.name_by.ensures ∙ ap (name_by o) c.key_at.ensures)
-    ∙ name_other (read (drop at₀ args.t.now)) o at₀ pre.0 pre.1 (p (eqb-false _ _ (sym c.is_part.ensures ∙ c.if-is_part.false)))
+    ap (λ (k : Option ℕ). named k at₀) (c.name_by.ensures ∙ ap (name_by o) c.key_at.ensures)
+    ∙ name_other (read (drop at₀ args.t.now)) o at₀ pre (p (eqb-false _ _ (sym c.is_part.ensures ∙ c.if-is_part.false)))
 
 pub known_at-requires : goal.known_at-requires
 unfolding item_at
