@@ -12,7 +12,7 @@ use Rattle.xliff.specs.Bytes.{two, four, two_at, any}
 use Rattle.xliff.specs.Item.{Item, Content, start, end, form_P, form_S, text, character, standalone, isolated, pair, annotation_start, annotation_end, mark, id_of}
 use Rattle.xliff.specs.Encode.{Record, text_run, inline, code_bytes, field_bytes, record_bytes, spell}
 use Rattle.xliff.specs.Parse.{is, mark_of, mark_at, reading, take_record, size_of}
-use Rattle.xliff.proofs.lists.Tests.{two_value, and_false}
+use Rattle.xliff.proofs.lists.Tests.{two_value}
 use Rattle.marks.specs.Marks.{meaning}
 use Rattle.marks.specs.declared.Mark.{Mark}
 use Rattle.marks.proofs.RecordLaws.{mark_front}

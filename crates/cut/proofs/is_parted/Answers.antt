@@ -1,6 +1,5 @@
 use mathlib.Core.Path.{sym, ap, ◌∙◌}
 use Rattle.std.specs.Prelude.{Option}
-use Rattle.marks.specs.Marks.{meaning}
 use Rattle.walk.specs.declared.HalfKind.{HalfKind}
 use Rattle.walk.specs.Kept.{items}
 use Rattle.walk.specs.Marks.{number, has_other}
