@@ -78,7 +78,7 @@ fn put_requests(job: &[u8], n: usize, table: &mut [u8], out: &mut [u8]) -> usize
                 let s = answer_request(r, &job[at..], table, m, &mut out[k..]);
                 k += s.printed;
                 m = s.length;
-                at += requests::size_of(r);
+                at += r.size();
             }
             None => {
                 return k + put_unreadable(&mut out[k..], at, &table[..m]);

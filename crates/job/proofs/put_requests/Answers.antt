@@ -44,14 +44,14 @@ answer_request-s-requires c =
       z.1.1,
     )
 
--- at += requests::size_of(r)
+-- at += r.size()
 pub overflow_add-at : goal.overflow_add-at
 overflow_add-at c =
     let loop = c.loop-at in
     let request-of = c.request_of in
     let e = simp tail_is at request-of.ensures in
     let z = rw c.in-Some.is at e in
-    omega (arith, z.1.1, c.size_of-at.ensures, length-drop loop.at c.args.job.now, c.requires.2)
+    omega (arith, z.1.1, c.size-at.ensures, length-drop loop.at c.args.job.now, c.requires.2)
 
 -- the loop ends
 pub loop-at-smaller : goal.loop-at-smaller
@@ -61,7 +61,7 @@ loop-at-smaller c =
     let request-of = c.request_of in
     let e = simp tail_is at request-of.ensures in
     let z = rw c.in-Some.is at e in
-    omega (arith, z.1.0, z.1.1, c.size_of-at.ensures, length-drop loop.at job)
+    omega (arith, z.1.0, z.1.1, c.size-at.ensures, length-drop loop.at job)
 
 -- the loop's step
 pub loop-at-preserved : goal.loop-at-preserved
@@ -74,7 +74,7 @@ loop-at-preserved c =
     let loop-test = c.loop-at-test in
     let request-of = c.request_of in
     let answer-request = c.answer_request-s in
-    let size_of = c.size_of-at in
+    let size_of = c.size-at in
     let e = simp tail_is at request-of.ensures in
     let z = rw c.in-Some.is at e in
     let w = rw (tail_is at-now job) at answer-request.ensures in (
