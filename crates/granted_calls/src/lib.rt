@@ -41,7 +41,7 @@ fn call_passed(role: Role, positions: &[u8], table: &[u8], request: &[u8], out: 
     let Some(r) = requests::request_of(request) else {
         return Answer::Refused(2, 0);
     };
-    if requests::size_of(r) == request.len() {
+    if r.size() == request.len() {
         return call_read(role, positions, table, r, request, out);
     }
     Answer::Refused(2, 0)

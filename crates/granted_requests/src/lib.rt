@@ -59,10 +59,14 @@ pub fn granted(role: Role, positions: &[u8], table: &[u8], r: Request) -> bool
     ensures { GrantedIs (grant_of role positions.now) table.now r result }
 {
     match r {
-        Request::Split(_, _, _, _) => is_engineer(role),
-        Request::Join(_) => is_engineer(role),
-        Request::SetTarget(part, _, _) => granted_parts::within(role, positions, marks::wide(part)),
-        Request::RemoveTarget(part) => granted_parts::within(role, positions, marks::wide(part)),
-        Request::Rewrite(side, id, _) => rewrite_granted(role, positions, table, side, id),
+        Request::Split { .. } => is_engineer(role),
+        Request::Join { .. } => is_engineer(role),
+        Request::SetTarget { part, .. } => granted_parts::within(
+            role,
+            positions,
+            marks::wide(part),
+        ),
+        Request::RemoveTarget { part } => granted_parts::within(role, positions, marks::wide(part)),
+        Request::Rewrite { side, id, .. } => rewrite_granted(role, positions, table, side, id),
     }
 }

@@ -24,16 +24,16 @@ call_read-requires c =
     let read = c.request_of in
     (c.requires, read_size c.args.request.now read.result _ c.in-Some.is read.ensures.1)
 
-pub returns-then-size_of-request : goal.returns-then-size_of-request
-returns-then-size_of-request c =
+pub returns-then-size-request : goal.returns-then-size-request
+returns-then-size-request c =
     let call-read = c.call_read in
-    let size_of = c.size_of in
+    let size = c.size in
     let read = c.request_of in
     let args = c.args in
     let request = args.request.now in
     let room = length args.out.now in
     let grant = grant_of args.role args.positions.now in
-    let whole = eq-eqb _ _ (sym size_of.ensures ∙ c.if-size_of-request.true) in
+    let whole = eq-eqb _ _ (sym size.ensures ∙ c.if-size-request.true) in
     rw (one_request grant args.table.now request room c.requires read.result read.ensures.0 _
     c.in-Some.is whole)
     call-read.ensures
@@ -41,13 +41,13 @@ returns-then-size_of-request c =
 -- Answer::Refused(2, 0)
 pub returns : goal.returns
 returns c =
-    let size_of = c.size_of in
+    let size = c.size in
     let read = c.request_of in
     let args = c.args in
     let request = args.request.now in
     let out = args.out.now in
     let grant = grant_of args.role args.positions.now in
-    let longer = ne_eqb _ _ (λ e. c.if-size_of-request.false (size_of.ensures ∙ e)) in
+    let longer = ne_eqb _ _ (λ e. c.if-size-request.false (size.ensures ∙ e)) in
     answers_refused _ 2 0 out
     (not_alone grant args.table.now request (length out) c.requires read.result read.ensures.0 _
     c.in-Some.is longer)
