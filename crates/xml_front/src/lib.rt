@@ -6,7 +6,7 @@ ghost use Rattle.xliff.specs.Text.{spelled};
 ghost use Rattle.xml.specs.Characters.{begins, part_of, cut_character, front_character};
 ghost use Rattle.xml_front.specs.Fronts.{told};
 
-use text::{Char, char_of, xml_char};
+use text::{char_of, xml_char};
 
 // A code point at the front, and how many bytes it takes after the first.
 #[derive(Clone, Copy)]
@@ -56,8 +56,8 @@ fn goes_on(text: &[u8], pad: u8) -> bool
         byte_or(text, 3, pad),
     ];
     match char_of(&filled) {
-        Char::Point(_, width, _) => text.len() < width,
-        Char::Bad => false,
+        Some(whole) => text.len() < whole.width,
+        None => false,
     }
 }
 
@@ -75,17 +75,8 @@ pub fn front_character(text: &[u8]) -> Result<Front, Flaw>
     ensures { told result ≡ front_character text.now }
 {
     match char_of(text) {
-        Char::Point(c, width, _) => {
-            if xml_char(c) {
-                return Ok(Front { point: c, more: width - 1 });
-            }
-            Err(Flaw::Wrong)
-        }
-        Char::Bad => {
-            if cut_in(text) {
-                return Err(Flaw::Cut);
-            }
-            Err(Flaw::Wrong)
-        }
+        Some(c) if xml_char(c.point) => Ok(Front { point: c.point, more: c.width - 1 }),
+        None if cut_in(text) => Err(Flaw::Cut),
+        _ => Err(Flaw::Wrong),
     }
 }
