@@ -27,12 +27,12 @@ returns-in_err-close c =
     let p = err_from_is_err_and c.from_residual.result c.from_residual.ensures.1 in
     rw (p.1, p.2)
     (value_at_fault args.text.now args.at blanks-end.result blanks-end.ensures c.if-text-quoted.false
-    (not-false _ c.if-not-mark.false-raw) _ (rw c.in_err-close.was at c.value_end-close.ensures) _)
+    (not-false _ c.if-not-mark.false-raw) _ (rw c.in_err-close.was at c.value_end.ensures) _)
 
 -- close + 1
 pub overflow_add-result : goal.overflow_add-result
 overflow_add-result c =
-    let h = (rw c.in_ok-close.was at c.value_end-close.ensures).inside in
+    let h = (rw c.in_ok-close.was at c.value_end.ensures).inside in
     search rules
 
 -- Ok(Next::One(AttributeAt { .. }))
@@ -41,4 +41,4 @@ returns c =
     let args = c.args in
     let blanks-end = c.blanks_end-quoted in
     one_read args.text.now args.at blanks-end.result blanks-end.ensures c.if-text-quoted.false
-    (not-false _ c.if-not-mark.false-raw) _ _ _ c.requires.0 (rw c.in_ok-close.was at c.value_end-close.ensures)
+    (not-false _ c.if-not-mark.false-raw) _ _ _ c.requires.0 (rw c.in_ok-close.was at c.value_end.ensures)
