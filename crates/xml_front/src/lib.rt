@@ -1,7 +1,7 @@
 // The character at the front of bytes, as XML 1.0 allows it.
 #![tactic(auto)]
 
-ghost use Rattle.std.specs.Prelude.{◌≡◌, [], ◌∷◌, ◌++◌, ◌-◌, ◌≤◌, ◌<◌, length, get_or};
+ghost use Rattle.std.specs.Prelude.{◌≡◌, [], ◌∷◌, ◌++◌, ◌≤◌, length, get_or};
 ghost use Rattle.xliff.specs.Text.{spelled};
 ghost use Rattle.xml.specs.Characters.{begins, part_of, cut_character, front_character};
 ghost use Rattle.xml_front.specs.Fronts.{told};
@@ -27,13 +27,6 @@ pub fn begins(word: &[u8], text: &[u8]) -> bool
     ensures { result ≡ begins word.now text.now }
 {
     text.starts_with(word)
-}
-
-// `a` less `b`, or 0.
-pub fn less(a: u8, b: u8) -> u32
-    ensures { (result ≡ a - b) × (result < 256) }
-{
-    u32::from(a.saturating_sub(b))
 }
 
 // The byte at a place, or another where there is none.

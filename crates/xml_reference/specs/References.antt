@@ -1,14 +1,14 @@
 -- Parts of the definitions of references, one for each function of the program.
-use Rattle.std.specs.Prelude.{ℕ, Bool, true, false, ◌&&◌, cond, List, [], ◌∷◌, eqb, leb}
+use Rattle.std.specs.Prelude.{ℕ, Bool, true, false, ◌&&◌, cond, List, [], eqb, leb, Option as RustOption, Some, None}
+use Rattle.std.specs.List.{list_all}
 use Rattle.std.proofs.Math.Option.{Option, none, some}
 use Rattle.xliff.specs.Text.{xml_allows}
 use Rattle.xml.specs.Words.{'quot', 'apos'}
-use Rattle.xml.specs.Characters.{quote, apostrophe, semicolon, Front, found, cut, wrong, begins, in_a_name, only_name, digit_value}
+use Rattle.xml.specs.Characters.{quote, apostrophe, semicolon, Front, found, cut, wrong, begins, in_a_name, only_name}
 
 -- all bytes go on with a name
-unfoldable pub all_name : List ℕ → Bool
-all_name [] = true
-all_name (b ∷ t) = in_a_name b && all_name t
+abbrev pub all_name : List ℕ → Bool
+all_name t = list_all in_a_name t
 
 -- the two rarer entities, or none
 unfoldable pub rare : List ℕ → Front
@@ -18,13 +18,10 @@ abbrev pub base_of : Bool → ℕ
 base_of true = 16
 base_of false = 10
 
--- a digit's value, or 16
-abbrev pub or_16 : Option ℕ → ℕ
-or_16 (some d) = d
-or_16 none = 16
-
-unfoldable pub digit_or : Bool → ℕ → ℕ
-digit_or hex b = or_16 (digit_value (base_of hex) b)
+-- what the program tells of a digit
+abbrev pub digit_told : RustOption ℕ → Option ℕ
+digit_told (Some d) = some d
+digit_told None = none
 
 -- a number that no code point reaches, for all of them
 unfoldable pub capped : ℕ → ℕ

@@ -2,24 +2,19 @@
 #![tactic(auto)]
 
 ghost use Rattle.std.specs.Prelude.{◌≡◌, false, [], ◌+◌, ◌*◌, ◌≤◌, length, drop};
-ghost use Rattle.xml.specs.Characters.{found, only_name, entity, numeric, numeric_reference, front_reference};
+ghost use Rattle.xml.specs.Characters.{found, only_name, entity, digit_value, numeric, numeric_reference, front_reference};
 ghost use Rattle.xml_front.specs.Fronts.{told};
-ghost use Rattle.xml_reference.specs.References.{base_of, digit_or, all_name, rare, capped, numeric_end};
+ghost use Rattle.xml_reference.specs.References.{base_of, digit_told, all_name, rare, capped, numeric_end};
 
 use text::xml_char;
-use xml_front::{Flaw, Front, begins, less};
+use xml_front::{Flaw, Front, begins};
 use xml_names::{name_goes_on, name_starts};
 
 // Whether all bytes go on with a name.
 fn goes_to_end(text: &[u8]) -> bool
     ensures { result ≡ all_name text.now }
 {
-    for at in 0..text.len() {
-        if !name_goes_on(text[at]) {
-            return false;
-        }
-    }
-    true
+    text.iter().all(|b| name_goes_on(*b))
 }
 
 // Whether the bytes are a name, or the beginning of one.
@@ -71,30 +66,17 @@ fn entity_at(text: &[u8]) -> Result<Front, Flaw>
     rare_entity(text)
 }
 
-// A digit's value, or 16.
-fn digit_of(hex: bool, b: u8) -> u32
-    ensures { result ≡ digit_or hex b }
+fn base_of(hex: bool) -> u32
+    ensures { result ≡ base_of hex }
 {
-    if (b'0' <= b) & (b <= b'9') {
-        return less(b, b'0');
-    }
-    if hex & ((b'A' <= b) & (b <= b'F')) {
-        return less(b, b'A' - 10);
-    }
-    if hex & ((b'a' <= b) & (b <= b'f')) {
-        return less(b, b'a' - 10);
-    }
-    16
+    if hex { 16 } else { 10 }
 }
 
-fn times_base(hex: bool, value: u32) -> u32
-    requires { value ≤ 0x110000 }
-    ensures { (result ≡ value * base_of hex) × (result ≤ 0x1100000) }
+// A digit's value.
+fn digit_of(hex: bool, b: u8) -> Option<u32>
+    ensures { digit_told result ≡ digit_value (base_of hex) b }
 {
-    if hex {
-        return value * 16;
-    }
-    value * 10
+    char::from(b).to_digit(base_of(hex))
 }
 
 // One digit more; what no code point reaches stays there.
@@ -102,11 +84,7 @@ fn grown(hex: bool, value: u32, digit: u32) -> u32
     requires { (value ≤ 0x110000) × (digit ≤ 16) }
     ensures { (result ≡ capped (value * base_of hex + digit)) × (result ≤ 0x110000) }
 {
-    let sum = times_base(hex, value) + digit;
-    if sum <= 0x10FFFF {
-        return sum;
-    }
-    0x110000
+    (value * base_of(hex) + digit).min(0x110000)
 }
 
 // Behind the digits: the value of a reference that takes so many bytes, if it ends here.
@@ -128,10 +106,9 @@ fn numeric_at(text: &[u8], from: usize, hex: bool) -> Result<Front, Flaw>
     let mut value: u32 = 0;
     for at in from..text.len() {
         let b = text[at];
-        let digit = digit_of(hex, b);
-        if 16 <= digit {
+        let Some(digit) = digit_of(hex, b) else {
             return numeric_end(b, any, value, at + 1);
-        }
+        };
         value = grown(hex, value, digit);
         any = true;
     }

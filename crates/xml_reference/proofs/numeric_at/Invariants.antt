@@ -2,7 +2,7 @@ use Rattle.xml_reference.specs.References.{base_of}
 use Rattle.xml.specs.Characters.{numeric}
 use lib.ListN.{length, drop}
 use mathlib.Core.Bool.{false}
-use Prim.Native.Nat.{◌≤◌, ◌+◌, ◌-◌}
+use Prim.Native.Nat.{◌≤◌, ◌+◌}
 use mathlib.Core.Path.{◌≡◌}
 use Rattle.xml_reference.proofs.numeric_at.Given as goal
 
@@ -10,6 +10,3 @@ abbrev pub invariant-loop-at : goal.invariant-loop-at
 invariant-loop-at l =
     (l.at ≤ length l.text) × (l.value ≤ 0x110000)
     × (numeric (base_of l.hex) false 0 (l.from + 1) (drop l.from l.text) ≡ numeric (base_of l.hex) l.any l.value (l.at + 1) (drop l.at l.text))
-
-abbrev pub decreases-loop-at : goal.decreases-loop-at
-decreases-loop-at l = length l.text - l.at
