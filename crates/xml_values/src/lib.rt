@@ -28,14 +28,8 @@ pub fn blanks_end(text: &[u8], from: usize) -> usize
     requires { from ≤ length text.now }
     ensures { BlanksEnd text.now from result }
 {
-    let mut at = from;
-    while at < text.len() {
-        if !is_blank(text[at]) {
-            return at;
-        }
-        at += 1;
-    }
-    at
+    let more = text[from..].iter().take_while(|b| is_blank(**b)).count();
+    from + more
 }
 
 // What stands at the front of a value that goes on.
