@@ -1,5 +1,6 @@
 -- What the program tells of the front of bytes.
-use Rattle.std.specs.Prelude.{Result, Ok, Err}
+use Rattle.std.specs.Prelude.{ℕ, Option as RustOption, Some, None, Result, Ok, Err}
+use Rattle.std.proofs.Math.Option.{Option, none, some}
 use Rattle.xml.specs.Characters.{Front, found, cut, wrong}
 use Rattle.xml_front.specs.declared.Front.{Front as Told}
 use Rattle.xml_front.specs.declared.Flaw.{Flaw}
@@ -9,3 +10,8 @@ abbrev pub told : Result Told Flaw → Front
 told (Ok f) = found f.point f.more
 told (Err Cut) = cut
 told (Err Wrong) = wrong
+
+-- a number that the program tells, or none
+abbrev pub number_told : RustOption ℕ → Option ℕ
+number_told (Some x) = some x
+number_told None = none

@@ -17,9 +17,10 @@ use Rattle.text.specs.Utf8.{xml_char}
 use Rattle.text.proofs.TextLaws.{xml_same}
 use Rattle.std.specs.Char.{digit_value}
 use Rattle.xml.specs.Characters as spec
+use Rattle.xml_front.specs.Fronts.{number_told}
 use Rattle.xml.specs.Characters.{found, cut, wrong, numeric}
 use Rattle.xml.proofs.BoundLaws.{large_decimal, large_hexadecimal}
-use Rattle.xml_reference.specs.References.{base_of, digit_told, capped, numeric_end}
+use Rattle.xml_reference.specs.References.{base_of, capped, numeric_end}
 
 pub small : (base b d : ℕ) → spec.digit_value base b ≡ some d → d < 16
 unfolding spec.digit_value between
@@ -50,7 +51,7 @@ value_same true b = grind (arith, nat_tests)
 value_same false b = grind (arith, nat_tests)
 
 pub digit_is : (hex : Bool) (b : ℕ) (r : RustOption ℕ) → SomeIff r (digit_value b < base_of hex) (digit_value b)
-    → digit_told r ≡ spec.digit_value (base_of hex) b
+    → number_told r ≡ spec.digit_value (base_of hex) b
 digit_is hex b None h = sym (value_same hex b ∙ rw (le-ltb (digit_value b) (base_of hex) (omega (arith, h))))
 digit_is hex b (Some d) (h, e) = sym (value_same hex b ∙ rw (lt-ltb (digit_value b) (base_of hex) h, e))
 

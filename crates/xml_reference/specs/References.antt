@@ -1,7 +1,6 @@
 -- Parts of the definitions of references, one for each function of the program.
-use Rattle.std.specs.Prelude.{ℕ, Bool, true, false, ◌&&◌, cond, List, [], eqb, leb, Option as RustOption, Some, None}
+use Rattle.std.specs.Prelude.{ℕ, Bool, true, false, ◌&&◌, cond, List, [], eqb, leb}
 use Rattle.std.specs.List.{list_all}
-use Rattle.std.proofs.Math.Option.{Option, none, some}
 use Rattle.xliff.specs.Text.{xml_allows}
 use Rattle.xml.specs.Words.{'quot', 'apos'}
 use Rattle.xml.specs.Characters.{quote, apostrophe, semicolon, Front, found, cut, wrong, begins, in_a_name, only_name}
@@ -17,11 +16,6 @@ rare s = cond (begins 'quot' s) (found quote 5) (cond (begins 'apos' s) (found a
 abbrev pub base_of : Bool → ℕ
 base_of true = 16
 base_of false = 10
-
--- what the program tells of a digit
-abbrev pub digit_told : RustOption ℕ → Option ℕ
-digit_told (Some d) = some d
-digit_told None = none
 
 -- a number that no code point reaches, for all of them
 unfoldable pub capped : ℕ → ℕ

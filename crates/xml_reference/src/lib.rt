@@ -3,8 +3,8 @@
 
 ghost use Rattle.std.specs.Prelude.{◌≡◌, false, [], ◌+◌, ◌*◌, ◌≤◌, length, drop};
 ghost use Rattle.xml.specs.Characters.{found, only_name, entity, digit_value, numeric, numeric_reference, front_reference};
-ghost use Rattle.xml_front.specs.Fronts.{told};
-ghost use Rattle.xml_reference.specs.References.{base_of, digit_told, all_name, rare, capped, numeric_end};
+ghost use Rattle.xml_front.specs.Fronts.{told, number_told};
+ghost use Rattle.xml_reference.specs.References.{base_of, all_name, rare, capped, numeric_end};
 
 use text::xml_char;
 use xml_front::{Flaw, Front, begins};
@@ -74,7 +74,7 @@ fn base_of(hex: bool) -> u32
 
 // A digit's value.
 fn digit_of(hex: bool, b: u8) -> Option<u32>
-    ensures { digit_told result ≡ digit_value (base_of hex) b }
+    ensures { number_told result ≡ digit_value (base_of hex) b }
 {
     char::from(b).to_digit(base_of(hex))
 }

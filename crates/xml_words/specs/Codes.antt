@@ -1,6 +1,7 @@
 -- The code points of a value, one by one. Stepping stones.
 use Rattle.std.specs.Prelude.{ℕ, ◌≤◌, ◌<◌, ◌≡◌, List, [], ◌∷◌, length, drop, Option as RustOption, Some, None}
-use Rattle.std.proofs.Math.Option.{Option, none, some}
+use Rattle.std.specs.Borrow.{Bor}
+use Rattle.xml.specs.Attributes.{Word, word}
 use Rattle.xml_values.specs.Values.{value_codes}
 use Rattle.xml_words.specs.declared.Code.{Code}
 
@@ -14,7 +15,7 @@ abbrev pub CodeRead : List ℕ → ℕ → ℕ → RustOption Code → Type 0
 CodeRead text at quote (Some c) = PointRead text at quote c.point c.next
 CodeRead text at quote None = value_codes quote 0 (drop at text) ≡ []
 
--- a digit's value, or 16
-unfoldable pub digit_or_16 : Option ℕ → ℕ
-digit_or_16 none = 16
-digit_or_16 (some d) = d
+-- words and their letters, as the program has them
+abbrev pub spelled_out : List (Bor (List ℕ) × ℕ) → List Word
+spelled_out [] = []
+spelled_out (w ∷ ws) = word w.0.now w.1 ∷ spelled_out ws

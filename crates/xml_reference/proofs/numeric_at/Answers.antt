@@ -1,7 +1,7 @@
 use native.Mathlib.Omega.{arith}
 use Rattle.xml_reference.proofs.DigitLaws.{small, digit_on, digit_off, digits_end}
 use mathlib.Core.Path.{sym, refl, ap, ◌∙◌}
-use Rattle.xml_reference.specs.References.{digit_told}
+use Rattle.xml_front.specs.Fronts.{number_told}
 use borrow.Author.Rules.{rules}
 use Rattle.xml_reference.proofs.numeric_at.Goals as goal
 
@@ -16,13 +16,13 @@ returns-in_default c =
     let loop = c.loop-at in
     let off =
     digit_off args.hex loop.any loop.value loop.at args.text.now (search rules)
-    (sym c.digit_of.ensures ∙ ap digit_told c.in_default.is) in
+    (sym c.digit_of.ensures ∙ ap number_told c.in_default.is) in
     c.numeric_end.ensures ∙ sym (loop.invariant.2 ∙ off)
 
 -- a digit is below the base
 pub grown-value-requires : goal.grown-value-requires
 grown-value-requires c =
-    let digit = small _ _ _ (sym c.digit_of.ensures ∙ ap digit_told c.in-Some.is) in
+    let digit = small _ _ _ (sym c.digit_of.ensures ∙ ap number_told c.in-Some.is) in
     (c.loop-at.invariant.1, omega arith)
 
 -- the loop's step
@@ -32,7 +32,7 @@ loop-at-preserved c =
     let loop = c.loop-at in
     let on =
     digit_on args.hex loop.any loop.value loop.at args.text.now (search rules) _
-    (sym c.digit_of.ensures ∙ ap digit_told c.in-Some.is) in
+    (sym c.digit_of.ensures ∙ ap number_told c.in-Some.is) in
     (search rules, c.grown-value.ensures.1, loop.invariant.2 ∙ on ∙ rw c.grown-value.ensures.0)
 
 -- Err(Flaw::Cut)
