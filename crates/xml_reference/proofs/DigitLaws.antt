@@ -12,7 +12,7 @@ use borrow.Author.Tests.{leb-true, leb-false, lt-ltb, le-ltb}
 use Rattle.std.specs.Prelude.{Option as RustOption, Some, None, SomeIff}
 use Rattle.std.proofs.lemmas.Bool.Decides.{nat_tests}
 use Rattle.xliff.specs.Text.{between}
-use Rattle.xliff.proofs.lists.Tests.{and_right}
+use Rattle.xliff.proofs.lists.Tests.{and_right, and_false, and-true}
 use Rattle.text.specs.Utf8.{xml_char}
 use Rattle.text.proofs.TextLaws.{xml_same}
 use Rattle.std.specs.Char.{digit_value}
@@ -55,9 +55,14 @@ pub digit_is : (hex : Bool) (b : ℕ) (r : RustOption ℕ) → SomeIff r (digit_
 digit_is hex b None h = sym (value_same hex b ∙ rw (le-ltb (digit_value b) (base_of hex) (omega (arith, h))))
 digit_is hex b (Some d) (h, e) = sym (value_same hex b ∙ rw (lt-ltb (digit_value b) (base_of hex) h, e))
 
-pub end_is : (b v size : ℕ) (any : Bool) → numeric_end b any v size ≡ cond (eqb b 59 && any && xml_char v) (found v size) wrong
+-- behind digits, and where there were none
+pub end_some : (b v size : ℕ) → numeric_end b true v size ≡ cond (eqb b 59 && xml_char v) (found v size) wrong
 unfolding numeric_end
-end_is b v size any = rw (xml_same v)
+end_some b v size = rw (xml_same v, and-true (eqb b 59))
+
+pub end_none : (b v size : ℕ) → wrong ≡ numeric_end b false v size
+unfolding numeric_end
+end_none b v size = rw (and_false (eqb b 59)) refl
 
 pub capped_is : (v : ℕ) → min v 0x110000 ≡ capped v
 unfolding capped

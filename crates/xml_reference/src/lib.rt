@@ -1,7 +1,8 @@
 // References: the five entities and numeric ones, behind their &.
 #![tactic(auto)]
 
-ghost use Rattle.std.specs.Prelude.{◌≡◌, false, [], ◌+◌, ◌*◌, ◌≤◌, length, drop};
+ghost use Rattle.std.specs.Prelude.{◌≡◌, false, [], ◌+◌, ◌*◌, ◌≤◌, length, drop, is_some};
+ghost use Rattle.std.specs.Option.{unwrap_or};
 ghost use Rattle.xml.specs.Characters.{found, only_name, entity, digit_value, numeric, numeric_reference, front_reference};
 ghost use Rattle.xml_front.specs.Fronts.{told, number_told};
 ghost use Rattle.xml_reference.specs.References.{base_of, all_name, rare, capped, numeric_end};
@@ -87,14 +88,14 @@ fn grown(hex: bool, value: u32, digit: u32) -> u32
     (value * base_of(hex) + digit).min(0x110000)
 }
 
-// Behind the digits: the value of a reference that takes so many bytes, if it ends here.
-fn numeric_end(b: u8, any: bool, value: u32, size: usize) -> Result<Front, Flaw>
-    ensures { told result ≡ numeric_end b any value size }
+// Behind the digits: the value of a reference that takes so many bytes, if there were digits and it ends here.
+fn numeric_end(b: u8, value: Option<u32>, size: usize) -> Result<Front, Flaw>
+    ensures { told result ≡ numeric_end b (is_some value) (unwrap_or value 0) size }
 {
-    if (b == b';') & any & xml_char(value) {
-        return Ok(Front { point: value, more: size });
+    match value {
+        Some(point) if (b == b';') & xml_char(point) => Ok(Front { point, more: size }),
+        _ => Err(Flaw::Wrong),
     }
-    Err(Flaw::Wrong)
 }
 
 // The digits of a numeric reference, from a place on.
@@ -102,15 +103,13 @@ fn numeric_at(text: &[u8], from: usize, hex: bool) -> Result<Front, Flaw>
     requires { from ≤ length text.now }
     ensures { told result ≡ numeric (base_of hex) false 0 (from + 1) (drop from text.now) }
 {
-    let mut any = false;
-    let mut value: u32 = 0;
+    let mut value: Option<u32> = None;
     for at in from..text.len() {
         let b = text[at];
         let Some(digit) = digit_of(hex, b) else {
-            return numeric_end(b, any, value, at + 1);
+            return numeric_end(b, value, at + 1);
         };
-        value = grown(hex, value, digit);
-        any = true;
+        value = Some(grown(hex, value.unwrap_or(0), digit));
     }
     Err(Flaw::Cut)
 }
