@@ -3,9 +3,9 @@
 
 ghost use Rattle.std.specs.Prelude.{◌≡◌, false, [], ◌+◌, ◌*◌, ◌≤◌, length, drop, is_some};
 ghost use Rattle.std.specs.Option.{unwrap_or};
-ghost use Rattle.xml.specs.Characters.{found, only_name, entity, digit_value, numeric, numeric_reference, front_reference};
+ghost use Rattle.xml.specs.Characters.{only_name, entity, digit_value, numeric, numeric_reference, front_reference};
 ghost use Rattle.xml_front.specs.Fronts.{told, number_told};
-ghost use Rattle.xml_reference.specs.References.{base_of, all_name, rare, capped, numeric_end};
+ghost use Rattle.xml_reference.specs.References.{base_of, all_name, EntityTold, capped, numeric_end};
 
 use text::xml_char;
 use xml_front::{Flaw, Front, begins};
@@ -26,28 +26,16 @@ fn is_only_name(text: &[u8]) -> bool
     name_starts(text[0]) & goes_to_end(&text[1..])
 }
 
-// What an entity of so many bytes stands for.
-fn found(c: u8, size: usize) -> Result<Front, Flaw>
-    ensures { told result ≡ found c size }
+// The first of these entities, each with what it stands for, that is at the front.
+fn entity_of(text: &[u8], entities: &[(&[u8], u8)]) -> Option<Front>
+    ensures { EntityTold result entities.now text.now }
 {
-    Ok(Front { point: u32::from(c), more: size })
-}
-
-// quot and apos, or none of the five.
-fn rare_entity(text: &[u8]) -> Result<Front, Flaw>
-    requires { 1 ≤ length text.now }
-    ensures { told result ≡ rare text.now }
-{
-    if begins(b"quot;", text) {
-        return found(b'"', 5);
+    for (name, c) in entities {
+        if begins(name, text) {
+            return Some(Front { point: u32::from(*c), more: name.len() });
+        }
     }
-    if begins(b"apos;", text) {
-        return found(b'\'', 5);
-    }
-    if is_only_name(text) {
-        return Err(Flaw::Cut);
-    }
-    Err(Flaw::Wrong)
+    None
 }
 
 // The five entities.
@@ -55,16 +43,13 @@ fn entity_at(text: &[u8]) -> Result<Front, Flaw>
     requires { 1 ≤ length text.now }
     ensures { told result ≡ entity text.now }
 {
-    if begins(b"amp;", text) {
-        return found(b'&', 4);
+    let entities: [(&[u8], u8); 5] =
+        [(b"amp;", b'&'), (b"lt;", b'<'), (b"gt;", b'>'), (b"quot;", b'"'), (b"apos;", b'\'')];
+    match entity_of(text, &entities) {
+        Some(front) => Ok(front),
+        None if is_only_name(text) => Err(Flaw::Cut),
+        None => Err(Flaw::Wrong),
     }
-    if begins(b"lt;", text) {
-        return found(b'<', 3);
-    }
-    if begins(b"gt;", text) {
-        return found(b'>', 3);
-    }
-    rare_entity(text)
 }
 
 fn base_of(hex: bool) -> u32
