@@ -68,7 +68,10 @@ pub fn front_character(text: &[u8]) -> Result<Front, Flaw>
     ensures { told result ≡ front_character text.now }
 {
     match char_of(text) {
-        Some(c) if xml_char(c.point) => Ok(Front { point: c.point, more: c.width - 1 }),
+        Some(c) if xml_char(c.point) => Ok(Front {
+            point: c.point,
+            more: c.width - 1,
+        }),
         None if cut_in(text) => Err(Flaw::Cut),
         _ => Err(Flaw::Wrong),
     }

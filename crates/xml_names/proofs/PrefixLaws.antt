@@ -35,12 +35,12 @@ module _ (test : ℕ → Bool) (s : List ℕ) (R : ℕ → Type 0)
   by_left (suc k) at h r =
       elim (cases_lt at (length s)) [
         | inl e ↦
-          cases (test (get_or s at 0))
-          (λ b.
-          let more = prefix_len-drop_yes test s at 0 e b in
-          subst (EndsAt test s R) (let z : behind test s (at + 1) ≡ behind test s at = omega arith in z)
-          (by_left k (at + 1) (omega arith) (step at r e b)))
-          (λ b. here at r (λ k. b) (prefix_len-drop_no test s at 0 e b))
+            cases (test (get_or s at 0))
+            (λ b.
+            let more = prefix_len-drop_yes test s at 0 e b in
+            subst (EndsAt test s R) (let z : behind test s (at + 1) ≡ behind test s at = omega arith in z)
+            (by_left k (at + 1) (omega arith) (step at r e b)))
+            (λ b. here at r (λ k. b) (prefix_len-drop_no test s at 0 e b))
         | inr e ↦ over at r e
       ]
 

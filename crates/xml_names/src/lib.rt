@@ -41,6 +41,9 @@ pub fn name_end(text: &[u8], from: usize) -> usize
     requires { from ≤ length text.now }
     ensures { NameEnds text.now from result }
 {
-    let more = text[from..].iter().take_while(|b| name_goes_on(**b)).count();
+    let more = text[from..]
+        .iter()
+        .take_while(|b| name_goes_on(**b))
+        .count();
     from + more
 }

@@ -32,7 +32,10 @@ fn entity_of(text: &[u8], entities: &[(&[u8], u8)]) -> Option<Front>
 {
     for (name, c) in entities {
         if begins(name, text) {
-            return Some(Front { point: u32::from(*c), more: name.len() });
+            return Some(Front {
+                point: u32::from(*c),
+                more: name.len(),
+            });
         }
     }
     None
@@ -43,8 +46,13 @@ fn entity_at(text: &[u8]) -> Result<Front, Flaw>
     requires { 1 ≤ length text.now }
     ensures { told result ≡ entity text.now }
 {
-    let entities: [(&[u8], u8); 5] =
-        [(b"amp;", b'&'), (b"lt;", b'<'), (b"gt;", b'>'), (b"quot;", b'"'), (b"apos;", b'\'')];
+    let entities: [(&[u8], u8); 5] = [
+        (b"amp;", b'&'),
+        (b"lt;", b'<'),
+        (b"gt;", b'>'),
+        (b"quot;", b'"'),
+        (b"apos;", b'\''),
+    ];
     match entity_of(text, &entities) {
         Some(front) => Ok(front),
         None if is_only_name(text) => Err(Flaw::Cut),

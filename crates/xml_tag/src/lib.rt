@@ -51,7 +51,10 @@ fn open_at(text: &[u8], place: usize, at: usize) -> Markup
 {
     let b = text[at];
     if name_starts(b) {
-        return Markup::Start(Span { from: at, upto: name_end(text, at + 1) });
+        return Markup::Start(Span {
+            from: at,
+            upto: name_end(text, at + 1),
+        });
     }
     if b == b'/' {
         return close_at(text, place, at + 1);

@@ -159,7 +159,12 @@ fn yes_first_no(text: &[u8], start: usize, quote: u8) -> Option<u32>
     requires { start ≤ length text.now }
     ensures { number_told result ≡ letter_of yes_first_no (value_codes quote 0 (drop start text.now)) }
 {
-    letter(text, start, quote, &[(b"yes", b'Y'), (b"firstNo", b'F'), (b"no", b'N')])
+    letter(
+        text,
+        start,
+        quote,
+        &[(b"yes", b'Y'), (b"firstNo", b'F'), (b"no", b'N')],
+    )
 }
 
 // A state, as its letter.
@@ -167,8 +172,12 @@ fn state(text: &[u8], start: usize, quote: u8) -> Option<u32>
     requires { start ≤ length text.now }
     ensures { number_told result ≡ letter_of states (value_codes quote 0 (drop start text.now)) }
 {
-    let words: [(&[u8], u8); 4] =
-        [(b"initial", b'I'), (b"translated", b'T'), (b"reviewed", b'R'), (b"final", b'F')];
+    let words: [(&[u8], u8); 4] = [
+        (b"initial", b'I'),
+        (b"translated", b'T'),
+        (b"reviewed", b'R'),
+        (b"final", b'F'),
+    ];
     letter(text, start, quote, &words)
 }
 
