@@ -7,6 +7,7 @@ ghost use Rattle.xml_attribute.specs.Attribute.{attribute_of, AttributeIn};
 ghost use Rattle.xml_attributes.specs.Tags.{TagRead, Placed};
 
 use xml_attribute::{AttributeAt, Next, next_attribute};
+use xml_front::Flaw;
 use xml_slots::{
     ABSENT, CAN_COPY, CAN_DELETE, CAN_OVERLAP, CAN_REORDER, CAN_RESEGMENT, COPY_OF, DATA_REF,
     DATA_REF_END, DATA_REF_START, HEX, ID, ISOLATED, ORDER, SLOTS, START_REF, STATE, TRANSLATE,
@@ -14,13 +15,12 @@ use xml_slots::{
 };
 use xml_words::slot_value;
 
-// A whole tag: the place behind it, whether it is in the short form, and how many attributes it has. The text ends in
-// it. It is at fault.
+// A whole tag: the place behind it, whether it is in the short form, and how many attributes it has.
 #[derive(Clone, Copy)]
-pub enum Tagged {
-    Whole(usize, bool, usize),
-    Cut,
-    Fault,
+pub struct Tagged {
+    pub next: usize,
+    pub short: bool,
+    pub count: usize,
 }
 
 // The slot of a name, of the first eight; else 8, where the others begin.
@@ -105,9 +105,7 @@ fn place(text: &[u8], a: AttributeAt, slots: &mut [u32], fine: bool) -> bool
     if !fine {
         return false;
     }
-    let from = a.from;
-    let upto = a.upto;
-    let k = slot_of(&text[from..upto]);
+    let k = slot_of(a.name.of(text));
     if SLOTS <= k {
         return false;
     }
@@ -120,7 +118,7 @@ fn place(text: &[u8], a: AttributeAt, slots: &mut [u32], fine: bool) -> bool
 
 // The attributes of a start tag from `start` on, behind its name, and its end. A tag at fault is read to its end too:
 // a tag that the text's end cuts is no tag at fault.
-pub fn read_attributes(text: &[u8], start: usize, slots: &mut [u32]) -> Tagged
+pub fn read_attributes(text: &[u8], start: usize, slots: &mut [u32]) -> Result<Tagged, Flaw>
     requires { (start ≤ length text.now) × (slots.old ≡ slots_of []) }
     ensures { TagRead text.now start slots.new result }
 {
@@ -128,7 +126,7 @@ pub fn read_attributes(text: &[u8], start: usize, slots: &mut [u32]) -> Tagged
     let mut count: usize = 0;
     let mut fine = true;
     loop {
-        match next_attribute(text, at) {
+        match next_attribute(text, at)? {
             Next::One(a) => {
                 fine = place(text, a, slots, fine);
                 count += 1;
@@ -136,16 +134,10 @@ pub fn read_attributes(text: &[u8], start: usize, slots: &mut [u32]) -> Tagged
             }
             Next::End(next, short) => {
                 return if fine {
-                    Tagged::Whole(next, short, count)
+                    Ok(Tagged { next, short, count })
                 } else {
-                    Tagged::Fault
+                    Err(Flaw::Wrong)
                 };
-            }
-            Next::Short => {
-                return Tagged::Cut;
-            }
-            Next::Fault => {
-                return Tagged::Fault;
             }
         }
     }

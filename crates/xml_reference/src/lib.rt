@@ -2,12 +2,12 @@
 #![tactic(auto)]
 
 ghost use Rattle.std.specs.Prelude.{◌≡◌, false, [], ◌+◌, ◌*◌, ◌≤◌, length, drop};
-ghost use Rattle.xml.specs.Characters.{only_name, entity, numeric, numeric_reference, front_reference};
+ghost use Rattle.xml.specs.Characters.{found, only_name, entity, numeric, numeric_reference, front_reference};
 ghost use Rattle.xml_front.specs.Fronts.{told};
 ghost use Rattle.xml_reference.specs.References.{base_of, digit_or, all_name, rare, capped, numeric_end};
 
 use text::xml_char;
-use xml_front::{Front, begins, less};
+use xml_front::{Flaw, Front, begins, less};
 use xml_names::{name_goes_on, name_starts};
 
 // Whether all bytes go on with a name.
@@ -30,36 +30,43 @@ fn is_only_name(text: &[u8]) -> bool
     name_starts(text[0]) & goes_to_end(&text[1..])
 }
 
+// What an entity of so many bytes stands for.
+fn found(c: u8, size: usize) -> Result<Front, Flaw>
+    ensures { told result ≡ found c size }
+{
+    Ok(Front { point: u32::from(c), more: size })
+}
+
 // quot and apos, or none of the five.
-fn rare_entity(text: &[u8]) -> Front
+fn rare_entity(text: &[u8]) -> Result<Front, Flaw>
     requires { 1 ≤ length text.now }
     ensures { told result ≡ rare text.now }
 {
     if begins(b"quot;", text) {
-        return Front::Found(b'"' as u32, 5);
+        return found(b'"', 5);
     }
     if begins(b"apos;", text) {
-        return Front::Found(b'\'' as u32, 5);
+        return found(b'\'', 5);
     }
     if is_only_name(text) {
-        return Front::Cut;
+        return Err(Flaw::Cut);
     }
-    Front::Wrong
+    Err(Flaw::Wrong)
 }
 
 // The five entities.
-fn entity_at(text: &[u8]) -> Front
+fn entity_at(text: &[u8]) -> Result<Front, Flaw>
     requires { 1 ≤ length text.now }
     ensures { told result ≡ entity text.now }
 {
     if begins(b"amp;", text) {
-        return Front::Found(b'&' as u32, 4);
+        return found(b'&', 4);
     }
     if begins(b"lt;", text) {
-        return Front::Found(b'<' as u32, 3);
+        return found(b'<', 3);
     }
     if begins(b"gt;", text) {
-        return Front::Found(b'>' as u32, 3);
+        return found(b'>', 3);
     }
     rare_entity(text)
 }
@@ -103,17 +110,17 @@ fn grown(hex: bool, value: u32, digit: u32) -> u32
 }
 
 // Behind the digits: the value of a reference that takes so many bytes, if it ends here.
-fn numeric_end(b: u8, any: bool, value: u32, size: usize) -> Front
+fn numeric_end(b: u8, any: bool, value: u32, size: usize) -> Result<Front, Flaw>
     ensures { told result ≡ numeric_end b any value size }
 {
     if (b == b';') & any & xml_char(value) {
-        return Front::Found(value, size);
+        return Ok(Front { point: value, more: size });
     }
-    Front::Wrong
+    Err(Flaw::Wrong)
 }
 
 // The digits of a numeric reference, from a place on.
-fn numeric_at(text: &[u8], from: usize, hex: bool) -> Front
+fn numeric_at(text: &[u8], from: usize, hex: bool) -> Result<Front, Flaw>
     requires { from ≤ length text.now }
     ensures { told result ≡ numeric (base_of hex) false 0 (from + 1) (drop from text.now) }
 {
@@ -128,16 +135,16 @@ fn numeric_at(text: &[u8], from: usize, hex: bool) -> Front
         value = grown(hex, value, digit);
         any = true;
     }
-    Front::Cut
+    Err(Flaw::Cut)
 }
 
 // A numeric reference, behind its &.
-fn numeric_by(text: &[u8]) -> Front
+fn numeric_by(text: &[u8]) -> Result<Front, Flaw>
     requires { 1 ≤ length text.now }
     ensures { told result ≡ numeric_reference (drop 1 text.now) }
 {
     if text.len() < 2 {
-        return Front::Cut;
+        return Err(Flaw::Cut);
     }
     if text[1] == b'x' {
         return numeric_at(text, 2, true);
@@ -146,11 +153,11 @@ fn numeric_by(text: &[u8]) -> Front
 }
 
 // The reference at the front of the text, behind its &.
-pub fn front_reference(text: &[u8]) -> Front
+pub fn front_reference(text: &[u8]) -> Result<Front, Flaw>
     ensures { told result ≡ front_reference text.now }
 {
     if text.len() < 1 {
-        return Front::Cut;
+        return Err(Flaw::Cut);
     }
     if text[0] == b'#' {
         return numeric_by(text);

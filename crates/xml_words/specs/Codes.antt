@@ -1,9 +1,8 @@
 -- The code points of a value, one by one. Stepping stones.
-use Rattle.std.specs.Prelude.{ℕ, ◌≤◌, ◌<◌, ◌≡◌, List, [], ◌∷◌, length, drop}
+use Rattle.std.specs.Prelude.{ℕ, ◌≤◌, ◌<◌, ◌≡◌, List, [], ◌∷◌, length, drop, Option as RustOption, Some, None}
 use Rattle.std.proofs.Math.Option.{Option, none, some}
 use Rattle.xml_values.specs.Values.{value_codes}
 use Rattle.xml_words.specs.declared.Code.{Code}
-use Rattle.xml_words.specs.declared.Code.TheVariants.{Point, Over}
 
 -- the first code point of a value from `at` on, and the place of the rest
 pub record PointRead (text : List ℕ) (at quote c next : ℕ) : Type 0 where
@@ -11,9 +10,9 @@ pub record PointRead (text : List ℕ) (at quote c next : ℕ) : Type 0 where
   pub inside : next ≤ length text
   pub codes : value_codes quote 0 (drop at text) ≡ c ∷ value_codes quote 0 (drop next text)
 
-abbrev pub CodeRead : List ℕ → ℕ → ℕ → Code → Type 0
-CodeRead text at quote (Point c next) = PointRead text at quote c next
-CodeRead text at quote Over = value_codes quote 0 (drop at text) ≡ []
+abbrev pub CodeRead : List ℕ → ℕ → ℕ → RustOption Code → Type 0
+CodeRead text at quote (Some c) = PointRead text at quote c.point c.next
+CodeRead text at quote None = value_codes quote 0 (drop at text) ≡ []
 
 -- a digit's value, or 16
 unfoldable pub digit_or_16 : Option ℕ → ℕ

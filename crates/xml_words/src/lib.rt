@@ -9,15 +9,14 @@ ghost use Rattle.xml_values.specs.Values.{value_codes, value_code};
 ghost use Rattle.xml_slots.specs.Slots.{value_read, or_bad};
 ghost use Rattle.xml_words.specs.Codes.{CodeRead, digit_or_16};
 
-use xml_front::Front;
 use xml_slots::BAD;
 use xml_values::{is_blank_point, value_front};
 
-// The next code point of a value and the place behind it, or that the value is over.
+// A code point of a value, and the place behind it.
 #[derive(Clone, Copy)]
-pub enum Code {
-    Point(u32, usize),
-    Over,
+pub struct Code {
+    pub point: u32,
+    pub next: usize,
 }
 
 // A tab or a line end that stands as such in a value is a blank.
@@ -33,23 +32,25 @@ fn code_of(first: u8, c: u32) -> u32
     c
 }
 
-// The code point of a value that stands at a place.
-fn next_code(text: &[u8], at: usize, quote: u8) -> Code
+// The code point of a value that stands at a place, unless the value is over.
+fn next_code(text: &[u8], at: usize, quote: u8) -> Option<Code>
     requires { at ≤ length text.now }
     ensures { CodeRead text.now at quote result }
 {
     if text.len() <= at {
-        return Code::Over;
+        return None;
     }
     let first = text[at];
     if first == quote {
-        return Code::Over;
+        return None;
     }
-    match value_front(&text[at..]) {
-        Front::Found(c, more) => Code::Point(code_of(first, c), at + 1 + more),
-        Front::Cut => Code::Over,
-        Front::Wrong => Code::Over,
-    }
+    let Ok(front) = value_front(&text[at..]) else {
+        return None;
+    };
+    Some(Code {
+        point: code_of(first, front.point),
+        next: at + 1 + front.more,
+    })
 }
 
 // Whether a value is this word.
@@ -58,25 +59,17 @@ fn value_is(text: &[u8], start: usize, quote: u8, word: &[u8]) -> bool
     ensures { result ≡ equal (value_codes quote 0 (drop start text.now)) word.now }
 {
     let mut at = start;
-    let mut k: usize = 0;
-    while k < word.len() {
+    for k in 0..word.len() {
         match next_code(text, at, quote) {
-            Code::Point(c, next) => {
-                if c != word[k] as u32 {
-                    return false;
-                }
-                at = next;
-                k += 1;
+            Some(code) if code.point == u32::from(word[k]) => {
+                at = code.next;
             }
-            Code::Over => {
+            _ => {
                 return false;
             }
         }
     }
-    match next_code(text, at, quote) {
-        Code::Point(_, _) => false,
-        Code::Over => true,
-    }
+    next_code(text, at, quote).is_none()
 }
 
 fn is_digit(c: u32) -> bool
@@ -92,23 +85,18 @@ fn number_value(text: &[u8], start: usize, quote: u8) -> u32
 {
     let mut at = start;
     let mut n: u32 = 0;
-    loop {
-        match next_code(text, at, quote) {
-            Code::Point(c, next) => {
-                if !is_digit(c) | ((n == 0) & (c == b'0' as u32)) {
-                    return BAD;
-                }
-                n = n * 10 + (c - b'0' as u32);
-                if 65535 < n {
-                    return BAD;
-                }
-                at = next;
-            }
-            Code::Over => {
-                return if n == 0 { BAD } else { n };
-            }
+    while let Some(code) = next_code(text, at, quote) {
+        let c = code.point;
+        if !is_digit(c) | ((n == 0) & (c == b'0' as u32)) {
+            return BAD;
         }
+        n = n * 10 + (c - b'0' as u32);
+        if 65535 < n {
+            return BAD;
+        }
+        at = code.next;
     }
+    if n == 0 { BAD } else { n }
 }
 
 // A digit's value, or 16.
@@ -132,22 +120,16 @@ fn hexadecimal_value(text: &[u8], start: usize, quote: u8) -> u32
     let mut at = start;
     let mut n: u32 = 0;
     let mut k: usize = 0;
-    loop {
-        match next_code(text, at, quote) {
-            Code::Point(c, next) => {
-                let digit = upper_digit(c);
-                if (k == 4) | (digit == 16) {
-                    return BAD;
-                }
-                n = n * 16 + digit;
-                k += 1;
-                at = next;
-            }
-            Code::Over => {
-                return if k == 4 { n } else { BAD };
-            }
+    while let Some(code) = next_code(text, at, quote) {
+        let digit = upper_digit(code.point);
+        if (k == 4) | (digit == 16) {
+            return BAD;
         }
+        n = n * 16 + digit;
+        k += 1;
+        at = code.next;
     }
+    if k == 4 { n } else { BAD }
 }
 
 // "yes" or "no", as a letter of the table.

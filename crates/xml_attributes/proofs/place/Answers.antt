@@ -15,7 +15,7 @@ unfolding attribute_of
 returns-then-k-ge-SLOTS c =
     let args = c.args in
     strange_name (attribute_of args.text.now args.a) args.slots.now args.fine (not-false _ c.if-not-fine.false-raw)
-    c.slot_of-k.result c.slot_of-k.ensures c.if-k-ge-SLOTS.true
+    c.slot_of-k.result (rw c.of.ensures at c.slot_of-k.ensures) c.if-k-ge-SLOTS.true
 
 -- if slots[k] != ABSENT { return false; }
 pub returns-then-slots-k-ne-ABSENT : goal.returns-then-slots-k-ne-ABSENT
@@ -23,7 +23,7 @@ unfolding attribute_of
 returns-then-slots-k-ne-ABSENT c =
     let args = c.args in
     twice (attribute_of args.text.now args.a) args.slots.now args.fine (not-false _ c.if-not-fine.false-raw)
-    c.slot_of-k.result c.slot_of-k.ensures c.if-k-ge-SLOTS.false c.if-slots-k-ne-ABSENT.true
+    c.slot_of-k.result (rw c.of.ensures at c.slot_of-k.ensures) c.if-k-ge-SLOTS.false c.if-slots-k-ne-ABSENT.true
 
 -- slots[k] = slot_value(text, a.value, a.mark, k)
 pub returns : goal.returns
@@ -31,5 +31,5 @@ unfolding attribute_of
 returns c =
     let args = c.args in
     placed (attribute_of args.text.now args.a) args.slots.now args.fine (not-false _ c.if-not-fine.false-raw)
-    c.slot_of-k.result c.slot_of-k.ensures c.slot_value.result c.slot_value.ensures
+    c.slot_of-k.result (rw c.of.ensures at c.slot_of-k.ensures) c.slot_value.result c.slot_value.ensures
     c.if-k-ge-SLOTS.false c.if-slots-k-ne-ABSENT.false

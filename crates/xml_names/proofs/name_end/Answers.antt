@@ -1,4 +1,8 @@
-use mathlib.Core.Path.{sym, ◌∙◌}
+use Prim.Native.Nat.{ℕ}
+use mathlib.Core.Path.{◌≡◌, sym, ◌∙◌, subst}
+use native.Mathlib.Omega.{arith}
+use lib.ListN.{length}
+use Rattle.xml_names.specs.Names.{NameRead}
 use borrow.Author.Rules.{rules}
 use borrow.Author.Tests.{not-true, not-false}
 use Rattle.xml_names.proofs.NameLaws.{name_begins, name_goes_on}
@@ -24,6 +28,12 @@ loop-at-preserved c =
     name_goes_on args.text.now args.from loop.at loop.invariant (search rules)
     (sym c.name_goes_on.ensures ∙ not-false _ c.if-not-name_goes_on.false-raw)
 
--- at, where the text ends
+-- text.len()
 pub returns : goal.returns
-returns c = record { read = c.loop-at.invariant; stops = λ h. absurd (let z : ⊥ = search rules in z) }
+returns c =
+    let args = c.args in
+    let over : c.loop-at.at ≡ length args.text.now = search rules in
+    record {
+      read = subst (λ (i : ℕ). NameRead args.text.now args.from i) over c.loop-at.invariant;
+      stops = λ h. absurd (omega arith);
+    }

@@ -29,7 +29,7 @@ loop-at-preserved c =
     (omega (arith, digit-of.ensures, c.if-digit-ge16.false)) in
     (search rules, c.grown-value.ensures.1, loop.invariant.2 ∙ on ∙ rw (c.grown-value.ensures.0, digit-of.ensures))
 
--- Front::Cut
+-- Err(Flaw::Cut)
 pub returns : goal.returns
 returns c =
     let args = c.args in
