@@ -2,6 +2,7 @@
 use Prim.Native.Nat.{ℕ, ◌≤◌}
 use mathlib.Core.Path.{◌≡◌, refl, sym, ap, subst, ◌∙◌}
 use mathlib.Core.Bool.{Bool, true, false}
+use mathlib.Core.Logic.{◌⊎◌, inl, inr}
 use mathlib.Core.List.{List, [], ◌∷◌}
 use native.Mathlib.Omega.{arith}
 use lib.ListN.{length}
@@ -66,11 +67,11 @@ module _ (text name : List ℕ) (start at : ℕ) (s : Passed text start at) (m :
         blamed (end_tag at (spelled text other) ∷ rest_at text next) at (known (Close other next) e).1.same
         (other_end_empty name at (rest_at text next) (spelled text other) differs)
 
-  pub character_blamed : (c next : ℕ) → m ≡ Character c next → EmptyRead text name start (rest_at text start) (Err (blamed_at at))
+  character_blamed : (c next : ℕ) → m ≡ Character c next → EmptyRead text name start (rest_at text start) (Err (blamed_at at))
   character_blamed c next e =
       blamed (char at c ∷ rest_at text next) at (known (Character c next) e).1.same (char_empty name at (rest_at text next) c)
 
-  pub reference_blamed : (c next : ℕ) → m ≡ Reference c next → EmptyRead text name start (rest_at text start) (Err (blamed_at at))
+  reference_blamed : (c next : ℕ) → m ≡ Reference c next → EmptyRead text name start (rest_at text start) (Err (blamed_at at))
   reference_blamed c next e =
       blamed (reference at c ∷ rest_at text next) at (known (Reference c next) e).1.same
       (reference_empty name at (rest_at text next) c)
@@ -81,11 +82,21 @@ module _ (text name : List ℕ) (start at : ℕ) (s : Passed text start at) (m :
   pub at_fault : (p : ℕ) → m ≡ Fault p → EmptyRead text name start (rest_at text start) (Err (blamed_at p))
   at_fault p e = blamed (fault p ∷ []) p (known (Fault p) e) (fault_empty name p [])
 
-  pub text_at_fault : (p : ℕ) → m ≡ TextFault p → EmptyRead text name start (rest_at text start) (Err (blamed_at at))
+  text_at_fault : (p : ℕ) → m ≡ TextFault p → EmptyRead text name start (rest_at text start) (Err (blamed_at at))
   text_at_fault p e = blamed (text_fault at p ∷ []) at (known (TextFault p) e) (text_fault_empty name at [] p)
 
-  pub text_ends : m ≡ End → EmptyRead text name start (rest_at text start) (Err (blamed_at at))
+  text_ends : m ≡ End → EmptyRead text name start (rest_at text start) (Err (blamed_at at))
   text_ends e = blamed (finish at ∷ []) at (known End e) (finish_empty name at [])
+
+  -- text, of any of these kinds, or the text's end
+  pub text_blamed
+      : ((c : ℕ) × (next : ℕ) × (m ≡ Character c next))
+      ⊎ (((c : ℕ) × (next : ℕ) × (m ≡ Reference c next)) ⊎ (((p : ℕ) × (m ≡ TextFault p)) ⊎ (m ≡ End)))
+      → EmptyRead text name start (rest_at text start) (Err (blamed_at at))
+  text_blamed (inl (c, next, e)) = character_blamed c next e
+  text_blamed (inr (inl (c, next, e))) = reference_blamed c next e
+  text_blamed (inr (inr (inl (p, e)))) = text_at_fault p e
+  text_blamed (inr (inr (inr e))) = text_ends e
 
 -- the end of an empty element, in the short form and in the long
 pub short_end : (text name : List ℕ) (next : ℕ) (short : Bool) → next ≤ length text → short ≡ true

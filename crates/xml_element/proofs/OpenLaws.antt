@@ -24,17 +24,16 @@ use Rattle.xml_records.specs.Collecting.{Collects}
 use Rattle.xml_element.specs.declared.Blamed.{Blamed}
 use Rattle.xml_element.specs.declared.StartTag.{StartTag}
 use Rattle.xml_element.specs.declared.Opened.TheVariants.{Single as OneOpened, Nested as NestedOpened}
-use Rattle.xml_element.specs.Opens.{blamed_at, spelled, start_tokens, after_tag, TagFaulty, EmptyRead, SingleRead, OpenRead}
+use Rattle.xml_element.specs.Opens.{spelled, start_tokens, after_tag, TagFaulty, EmptyRead, SingleRead, OpenRead}
 
 module _ (text : List ℕ) (tag : StartTag) where
   abbrev name : List ℕ
   name = spelled text tag.name
 
   -- the tag is at fault or cut
-  pub faulty_open : {builder builder' : TableBuilder} (b : Blamed) → TagFaulty text tag b.place
-      → OpenRead text tag builder builder' (Err b)
+  pub faulty_open : (b : Blamed) → TagFaulty text tag b.place → (depth : ℕ) → Blames depth (start_tokens text tag) b.place
   unfolding TagFaulty Blames turn
-  faulty_open b k = λ depth side opens e. k name (in_content side opens) refl
+  faulty_open b k depth side opens e = k name (in_content side opens) refl
 
   module _ (slots : List ℕ) (t : Tagged) (w : WholeTag text tag.name.upto slots t.next t.short t.count) where
     abbrev ats : List Attribute
@@ -53,9 +52,9 @@ module _ (text : List ℕ) (tag : StartTag) where
     unfolding ByAttributes
     is o r = sym (r ats w.slotted)
 
-    pub bad_open : {builder builder' : TableBuilder} → ByAttributes slots t.count (inline_of_name name) none
-        → OpenRead text tag builder builder' (Err (blamed_at tag.place))
-    bad_open r = λ depth.
+    pub bad_open : ByAttributes slots t.count (inline_of_name name) none
+        → (depth : ℕ) → Blames depth (start_tokens text tag) tag.place
+    bad_open r depth =
         blames_as depth (start_tokens text tag) opens tag.place same
         (bad_element depth tag.place name ats behind_tag (is none r))
 
@@ -89,9 +88,9 @@ module _ (text : List ℕ) (tag : StartTag) where
             collects = put;
           }
 
-      pub single_bad : {builder builder' : TableBuilder} (b : Blamed) → SingleRead text name t.next t.short (Err b)
-          → OpenRead text tag builder builder' (Err b)
+      pub single_bad : (b : Blamed) → SingleRead text name t.next t.short (Err b)
+          → (depth : ℕ) → Blames depth (start_tokens text tag) b.place
       unfolding SingleRead
-      single_bad b k = λ depth.
+      single_bad b k depth =
           blames_as depth (start_tokens text tag) opens b.place same
           (single_blames depth tag.place name ats behind_tag (item x) b.place (is (some (single (item x))) r) (k tag.place ats))

@@ -15,23 +15,24 @@ use Rattle.xml_element.specs.declared.Blamed.{Blamed}
 use Rattle.xml_element.specs.declared.StartTag.{StartTag}
 use Rattle.xml_element.specs.Opens.{after_tag, TagFaulty, AttributesRead, TagBlamed}
 
-module _ (text : List ℕ) (tag : StartTag) (slots : List ℕ) where
-  pub cut_faulty : TagRead text tag.name.upto slots (Err Cut) → TagFaulty text tag (length text)
+module _ (text : List ℕ) (tag : StartTag) where
+  -- (what the slots hold does not matter)
+  pub cut_faulty : TagRead text tag.name.upto [] (Err Cut) → TagFaulty text tag (length text)
   unfolding TagFaulty
   cut_faulty k name w cut = ap (elements w) (k tag.place name) ∙ turns_bad w (cut_tag tag.place (length text)) [] (length text) cut
 
-  pub wrong_faulty : TagRead text tag.name.upto slots (Err Wrong) → TagFaulty text tag tag.place
+  pub wrong_faulty : TagRead text tag.name.upto [] (Err Wrong) → TagFaulty text tag tag.place
   unfolding TagFaulty
   wrong_faulty k name w cut = k tag.place name w
 
   -- blamed where no start tag may stand
-  pub whole_blamed : (t : Tagged) → AttributesRead text tag slots (Ok t) → TagBlamed text tag tag.place
+  pub whole_blamed : (slots : List ℕ) (t : Tagged) → AttributesRead text tag slots (Ok t) → TagBlamed text tag tag.place
   unfolding TagBlamed
-  whole_blamed t w name v starts cut =
+  whole_blamed slots t w name v starts cut =
       ap (elements v) (w.same tag.place name)
       ∙ turns_bad v (start_tag tag.place name w.attributes)
       (after_tag text t.short tag.place name w.attributes t.next) tag.place (starts w.attributes)
 
-  pub faulty_blamed : (b : Blamed) → AttributesRead text tag slots (Err b) → TagBlamed text tag b.place
+  pub faulty_blamed : (b : Blamed) → TagFaulty text tag b.place → TagBlamed text tag b.place
   unfolding TagBlamed TagFaulty
   faulty_blamed b k name v starts cut = k name v cut
