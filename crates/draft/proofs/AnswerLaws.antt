@@ -49,15 +49,19 @@ module _ (o : Outcome) (text : List ℕ) (out : MutBor (List ℕ))
   told : m.full ≡ ltb (length out.now) (length text)
   told = measured_tells text out b s m w
 
-  pub answers_15 : m.full ≡ true → (refused 15 0 ≡ answer o) × (m.out.now ≡ output o out.now)
-  answers_15 f =
+  -- `last`: the output once the draft is let go
+  pub answers_15 : m.full ≡ true → {last : List ℕ} → last ≡ m.out.now
+      → (refused 15 0 ≡ answer o) × (last ≡ output o out.now)
+  answers_15 f l =
       let a = answers_refused o 15 0 out.now (short (sym told ∙ f)) in
-      (a.0, measured_stays text out b s m w ∙ a.1)
+      (a.0, l ∙ measured_stays text out b s m w ∙ a.1)
 
   -- and then written
   module _ (f : m.full ≡ false) (out₁ : MutBor (List ℕ)) (same : out₁.now ≡ m.out.now)
       (c : Draft) (r : Began false out₁ c) (k : Draft) (x : Wrote text c k) where
-    pub answers_written : (accepted k.used ≡ answer o) × (k.out.now ≡ output o out.now)
-    answers_written =
-        answers_result o text k.used out.now k.out.now (enough (sym told ∙ f))
-        (written_used text out b s m w f out₁ same c r k x) (written_there text out b s m w f out₁ same c r k x)
+    pub answers_written : {n : ℕ} → n ≡ k.used → {last : List ℕ} → last ≡ k.out.now
+        → (accepted n ≡ answer o) × (last ≡ output o out.now)
+    answers_written {n} u l =
+        let a = answers_result o text k.used out.now k.out.now (enough (sym told ∙ f))
+            (written_used text out b s m w f out₁ same c r k x) (written_there text out b s m w f out₁ same c r k x) in
+        (ap accepted u ∙ a.0, l ∙ a.1)
