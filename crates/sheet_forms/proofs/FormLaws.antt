@@ -35,7 +35,7 @@ tab_or_feed b h k = by (eqb b 9) refl
   where
     by : (nine : Bool) → eqb b 9 ≡ nine → full_stop ≡ cell b
     by true e = rw e
-    by false e = rw (eq-eqb b 10 (let n = eqb-false b 9 e in omega arith))
+    by false e = rw (e, eq-eqb b 10 (let n = eqb-false b 9 e in omega arith))
 
 pub other_cell : (b : ℕ) → (b ≡ 9 → ⊥) → (b ≡ 10 → ⊥) → (b ≡ 13 → ⊥) → b ≡ cell b
 unfolding cell among
