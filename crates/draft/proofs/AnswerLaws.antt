@@ -63,5 +63,5 @@ module _ (o : Outcome) (text : List ℕ) (out : MutBor (List ℕ))
         → (accepted n ≡ answer o) × (last ≡ output o out.now)
     answers_written {n} u l =
         let a = answers_result o text k.used out.now k.out.now (enough (sym told ∙ f))
-            (written_used text out b s m w f out₁ same c r k x) (written_there text out b s m w f out₁ same c r k x) in
+        (written_used text out b s m w f out₁ same c r k x) (written_there text out b s m w f out₁ same c r k x) in
         (ap accepted u ∙ a.0, l ∙ a.1)

@@ -1,6 +1,6 @@
 -- A text written piece by piece into a lent output, or only measured against its length. Stepping stones.
 use Rattle.std.specs.Borrow.{MutBor}
-use Rattle.std.specs.Prelude.{ℕ, ◌≤◌, ◌≡◌, Bool, true, false, List, ◌++◌, length, ltb}
+use Rattle.std.specs.Prelude.{ℕ, ◌≡◌, Bool, true, false, List, ◌++◌, length, ltb}
 use Rattle.writer.specs.Pieces.{lead}
 use Rattle.draft.specs.declared.Draft.{Draft}
 

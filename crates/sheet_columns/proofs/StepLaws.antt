@@ -27,7 +27,7 @@ use Rattle.sheet_columns.specs.Taken.{taken, untaken, Ends, next_row}
 use Rattle.sheet_columns.specs.Filled.{Ahead, SomeAhead, Going, goes_on, Step, Filled, TextNext, ItemNext, RowItems, PutRow}
 use Rattle.sheet_columns.proofs.TakenLaws.{takes_fitting, ends_full, ends_over, ends_filled, takes_points}
 use Rattle.sheet_columns.proofs.CursorLaws.{Run, run, ahead_end}
-use Rattle.sheet_columns.proofs.ByteLaws.{text_cells, text_long, bytes_long, item_bytes}
+use Rattle.sheet_columns.proofs.ByteLaws.{text_cells, text_long, item_bytes}
 
 -- code points of a text
 module _ (c : List ℕ) (f : Filling) (p : Points)

@@ -5,14 +5,14 @@ use native.Mathlib.Numerals.{add-one}
 use mathlib.Core.Path.{◌≡◌, refl, sym, ap, ap₂, ◌∙◌}
 use mathlib.Core.Bool.{Bool, true, false}
 use mathlib.Core.List.{List, [], ◌∷◌, ◌++◌, map, append-nil}
-use lib.ListN.{length, take, get_or, set, replicate}
-use lib.Seq.{take-suc, take-suc-set, take_all}
+use lib.ListN.{length, take, get_or, replicate}
+use lib.Seq.{take-suc, take_all}
 use lib.Dec.{eqb}
 use borrow.Author.Tests.{eq-eqb, ne_eqb, eqb-false}
 use Rattle.xliff.specs.Bytes.{among}
 use Rattle.xliff.specs.Item.{Fields, Half, start, end, Form, isolated, pair}
 use Rattle.xliff.specs.Desk.{decimal, blank}
-use Rattle.xliff.proofs.lists.Tests.{or_none, map-append}
+use Rattle.xliff.proofs.lists.Tests.{map-append}
 use Rattle.sheet.specs.Column.{full_stop, cell, shown}
 use Rattle.sheet.specs.Sheet.{id_cells, right_aligned, padded}
 use Rattle.sheet_forms.specs.Forms.{half_form}

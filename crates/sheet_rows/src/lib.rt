@@ -89,7 +89,11 @@ fn target_start(place: PartPlace) -> usize
     requires { TargetFits place }
     ensures { TargetStart place result }
 {
-    if place.has_target { place.target + marks::TARGET_WIDTH } else { place.end }
+    if place.has_target {
+        place.target + marks::TARGET_WIDTH
+    } else {
+        place.end
+    }
 }
 
 // All rows of the part at `place`, which is number `n`.

@@ -133,7 +133,11 @@ fn put_inline(draft: &mut Draft, t: &[u8], next: usize, i: Item)
     requires { RecordsAt t.now next × FourDigits (item i) }
     ensures { WroteInline t.now next (item i) draft.old draft.new }
 {
-    let end_data = if xml_nesting::opens(i) { xml_nesting::end_data(t, next) } else { 0 };
+    let end_data = if xml_nesting::opens(i) {
+        xml_nesting::end_data(t, next)
+    } else {
+        0
+    };
     xml_items::put_item(draft, i, end_data);
 }
 

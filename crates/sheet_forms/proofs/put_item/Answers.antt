@@ -25,8 +25,8 @@ returns-in-Isolated c =
     let h = half c.in-Isolated.h in
     let f = fields c.in-Isolated.f in
     elim c.in-Isolated.is [
-      inl e ↦ rw (e, ← isolated_shown h f) put-half.ensures
-    | inr (w, e) ↦ rw (e, ← pair_shown h (form w) f) put-half.ensures
+      | inl e ↦ rw (e, ← isolated_shown h f) put-half.ensures
+      | inr (w, e) ↦ rw (e, ← pair_shown h (form w) f) put-half.ensures
     ]
 
 -- Item::AnnotationStart(_, id, _) => put_half(piece, Half::Start, id)

@@ -1,7 +1,5 @@
-use mathlib.Core.Path.{ap}
-use mathlib.Core.Bool.{Bool}
 use Rattle.xliff.specs.Bytes.{gather}
-use Rattle.draft.proofs.DraftLaws.{wrote_nothing, wrote_as}
+use Rattle.draft.proofs.DraftLaws.{wrote_nothing}
 use Rattle.xml.specs.Words.{'canOverlap', codes}
 use Rattle.xml_items.proofs.put_overlap.Goals as goal
 

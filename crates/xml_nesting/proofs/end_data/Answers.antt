@@ -1,4 +1,4 @@
-use mathlib.Core.Path.{◌≡◌, refl, sym, ap}
+use mathlib.Core.Path.{◌≡◌, refl, ap}
 use native.Mathlib.Omega.{arith}
 use borrow.Author.Tests.{eq-eqb, ne_eqb}
 use Rattle.xml_nesting.specs.Nesting.{Found, Open, ending_behind}
@@ -47,9 +47,9 @@ loop-at-preserved c =
     let n = loop.unclosed in
     let goes : ending_behind n c.step_at.result ≡ Open c.match-step_at.unclosed
     = elim c.match-step_at.branch [
-      in-Opens w ↦ rw (w.in-Opens.is, w.unclosed-is) refl
-    | in-Closes-2 w ↦ rw (w.in-Closes-2.is, ne_eqb n 0 w.if-unclosed-eq0.false, w.unclosed-is) refl
-    | in-Stays w ↦ rw (w.in-Stays.is, w.unclosed-is) refl
+      | in-Opens w ↦ rw (w.in-Opens.is, w.unclosed-is) refl
+      | in-Closes-2 w ↦ rw (w.in-Closes-2.is, ne_eqb n 0 w.if-unclosed-eq0.false, w.unclosed-is) refl
+      | in-Stays w ↦ rw (w.in-Stays.is, w.unclosed-is) refl
     ] in
     let (rs, a) = c.requires in (
       left_more t loop.at n rs (loop.invariant.1 rs a) c.loop-at-test.true c.step_at.result c.step_at.ensures

@@ -30,5 +30,9 @@ pub returns-in_default : goal.returns-in_default
 unfolding escaped_byte
 returns-in_default c =
     let b = c.args.b in
-    wrote_as (rw (ne_eqb b 38 (λ e. omega arith), ne_eqb b 60 (λ e. omega arith), ne_eqb b 62 (λ e. omega arith),
-    ne_eqb b 13 (λ e. omega arith))) c.put-in_default.ensures
+    wrote_as (rw (
+      ne_eqb b 38 (λ e. omega arith),
+      ne_eqb b 60 (λ e. omega arith),
+      ne_eqb b 62 (λ e. omega arith),
+      ne_eqb b 13 (λ e. omega arith),
+    )) c.put-in_default.ensures

@@ -1,4 +1,4 @@
-use mathlib.Core.Path.{refl, sym, ◌∙◌}
+use mathlib.Core.Path.{sym, ◌∙◌}
 use mathlib.Core.List.{[]}
 use Rattle.draft.proofs.DraftLaws.{wrote_as}
 use Rattle.table.specs.Meaning.{item}
@@ -12,9 +12,9 @@ use Rattle.xml_writer.proofs.put_inline.Goals as goal
 pub returns : goal.returns
 unfolding pending first_data
 returns c = elim c.if-opens.branch [
-      then-opens w ↦ λ rs a.
-          c.put_item.ensures (first_content rs) (sym (w.end_data-is ∙ w.end_data-end_data.ensures rs a))
-    | else-opens w ↦ λ rs a.
-          wrote_as (no_start (item c.args.i) [] (first_content rs) (sym c.opens.ensures ∙ w.if-opens.false))
-          (c.put_item.ensures [] (sym w.end_data-is))
-    ]
+  | then-opens w ↦ λ rs a.
+      c.put_item.ensures (first_content rs) (sym (w.end_data-is ∙ w.end_data-end_data.ensures rs a))
+  | else-opens w ↦ λ rs a.
+      wrote_as (no_start (item c.args.i) [] (first_content rs) (sym c.opens.ensures ∙ w.if-opens.false))
+      (c.put_item.ensures [] (sym w.end_data-is))
+]
