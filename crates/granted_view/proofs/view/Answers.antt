@@ -6,24 +6,18 @@ use Rattle.xliff.specs.Parse.{unit}
 use Rattle.xliff.specs.Check.{operation}
 use Rattle.draft.proofs.AnswerLaws.{text_refused}
 use Rattle.grants.specs.View.{view_unit, view}
-use Rattle.granted_view.proofs.view_checked.Goals as goal
+use Rattle.granted_view.proofs.view.Goals as goal
 
 -- view_passed(role, positions, table, out)
 pub view_passed-requires : goal.view_passed-requires
-view_passed-requires c =
-    let args = c.args in
-    let pre = c.requires in
-    accepted_none args.table.now _ (rw c.in-Accepted.is at pre)
+view_passed-requires c = accepted_none c.args.table.now _ (rw c.in-Accepted.is at c.check.ensures)
 
 -- Answer::Refused(k, at)
 pub returns-in-Refused : goal.returns-in-Refused
 unfolding view operation
 returns-in-Refused c =
-    let args = c.args in
-    let pre = c.requires in
-    let table = args.table.now in
-    let out = args.out.now in
-    let grant = grant_of args.role args.positions.now in
-    answers_refused _ _ _ out
-    (text_refused table (length out) (encode (view_unit grant (unit table))) _ _
-    (refused_some table _ _ (rw c.in-Refused.is at pre)))
+    let table = c.args.table.now in
+    let out = c.args.out.now in
+    let text = encode (view_unit (grant_of c.args.role c.args.positions.now) (unit table)) in
+    let refused = refused_some table _ _ (rw c.in-Refused.is at c.check.ensures) in
+    answers_refused _ _ _ out (text_refused table (length out) text _ _ refused)
