@@ -42,6 +42,7 @@ pub fn sources(t: &[u8], out: &mut [u16]) -> usize
     let mut at: usize = 0;
     let mut inside = false;
     let mut m: usize = 0;
+    // the lent table is read record by record through the walker
     while at < t.len() {
         let g = walker::glance_at(t, at);
         m = put_if(inside & g.marker, out, m, at as u16);
@@ -58,6 +59,7 @@ fn target_heads(t: &[u8], heads: &mut [u16]) -> usize
 {
     let mut at: usize = 0;
     let mut m: usize = 0;
+    // the lent table is read record by record through the walker
     while at < t.len() {
         let g = walker::glance_at(t, at);
         m = put_if(g.head.is_target(), heads, m, at as u16);
@@ -80,6 +82,7 @@ fn target_markers(t: &[u8], heads: &[u16], i: usize, q: u16, out: &mut [u16], n:
     }
     let mut at = head + first.width;
     let mut m = n;
+    // the lent table is read record by record through the walker
     while at < t.len() {
         let g = walker::glance_at(t, at);
         if !g.head.is_other() {
@@ -104,38 +107,37 @@ fn head_orders(t: &[u8], heads: &[u16], out: &mut [u16])
     }
 }
 
-// As `target_markers`, by the orders of the TG records: the table is read only where the order is `q`.
-fn markers_of(
-    t: &[u8],
-    heads: &[u16],
-    orders: &[u16],
-    i: usize,
-    q: u16,
-    out: &mut [u16],
-    n: usize,
-) -> usize
-    requires { Passes t.now × (length t.now ≤ most_bytes) × (heads.now ≡ head_offsets t.now) × (i < length heads.now)
-        × (length (of_order q (head_number t.now i)) + n ≤ length out.old) × (length out.old ≤ most_records)
-        × (length heads.now ≤ length orders.now) × Ordered t.now (length heads.now) orders.now }
-    ensures { Appended (of_order q (head_number t.now i)) out.old n out.new result }
-{
-    if q != orders[i] {
-        return n;
-    }
-    target_markers(t, heads, i, q, out, n)
+// The TG records of a table, in its order: their offsets, and their orders at the front.
+#[derive(Clone, Copy)]
+struct Heads<'a> {
+    offsets: &'a [u16],
+    orders: &'a [u16],
+    ghost paired: { length offsets.now ≤ length orders.now },
 }
 
-// The markers of the targets of order `q`, behind the first `n`; `heads` and `orders` are the offsets and the orders of
-// the TG records.
-fn collect(t: &[u8], heads: &[u16], orders: &[u16], q: u16, out: &mut [u16], n: usize) -> usize
-    requires { Passes t.now × (length t.now ≤ most_bytes) × (heads.now ≡ head_offsets t.now)
+// As `target_markers`, by the orders of the TG records: the table is read only where the order is `q`.
+fn markers_of(t: &[u8], heads: Heads, i: usize, q: u16, out: &mut [u16], n: usize) -> usize
+    requires { Passes t.now × (length t.now ≤ most_bytes) × (heads.offsets.now ≡ head_offsets t.now) × (i < length heads.offsets.now)
+        × (length (of_order q (head_number t.now i)) + n ≤ length out.old) × (length out.old ≤ most_records)
+        × Ordered t.now (length heads.offsets.now) heads.orders.now }
+    ensures { Appended (of_order q (head_number t.now i)) out.old n out.new result }
+{
+    if q != heads.orders[i] {
+        return n;
+    }
+    target_markers(t, heads.offsets, i, q, out, n)
+}
+
+// The markers of the targets of order `q`, behind the first `n`.
+fn collect(t: &[u8], heads: Heads, q: u16, out: &mut [u16], n: usize) -> usize
+    requires { Passes t.now × (length t.now ≤ most_bytes) × (heads.offsets.now ≡ head_offsets t.now)
         × (length (offsets false q t.now) + n ≤ length out.old) × (length out.old ≤ most_records)
-        × (length heads.now ≤ length orders.now) × Ordered t.now (length heads.now) orders.now }
+        × Ordered t.now (length heads.offsets.now) heads.orders.now }
     ensures { Appended (offsets false q t.now) out.old n out.new result }
 {
     let mut m = n;
-    for i in 0..heads.len() {
-        m = markers_of(t, heads, orders, i, q, out, m);
+    for i in 0..heads.offsets.len() {
+        m = markers_of(t, heads, i, q, out, m);
     }
     m
 }
@@ -149,9 +151,13 @@ pub fn targets(t: &[u8], parts: u16, out: &mut [u16]) -> usize
     let mut orders = [0u16; MOST_PARTS];
     let k = target_heads(t, &mut heads);
     head_orders(t, &heads[..k], &mut orders);
+    let heads = Heads {
+        offsets: &heads[..k],
+        orders: &orders,
+    };
     let mut n: usize = 0;
     for q in 0..parts {
-        n = collect(t, &heads[..k], &orders, q + 1, out, n);
+        n = collect(t, heads, q + 1, out, n);
     }
     n
 }

@@ -6,12 +6,6 @@ use native.Mathlib.Omega.{arith}
 use mathlib.Core.Path.{◌∙◌, sym}
 use Rattle.halves.proofs.follow_after.Goals as goal
 
--- keys.len()
-pub overflow_sub-j : goal.overflow_sub-j
-overflow_sub-j c =
-    let pre = c.requires in
-    omega (arith, pre.0 c.args.i pre.3, c.wide.ensures.0)
-
 -- the loop's start
 pub loop-j-init : goal.loop-j-init
 loop-j-init c =

@@ -61,7 +61,3 @@ returns c =
     let inv = loop.invariant in
     let none = inv.2 ∙ next_end (others keys args.i) (length keys) loop.j c.loop-j-test.false in
     omega (arith, none, inv.1, c.loop-j-test.false)
-
-pub is_other-requires : goal.is_other-requires
-unfolding half_after
-is_other-requires c = search rules

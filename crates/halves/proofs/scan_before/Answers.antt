@@ -46,7 +46,3 @@ returns c =
 pub loop-j-init : goal.loop-j-init
 unfolding half_before
 loop-j-init c = (search rules, refl)
-
-pub is_other-requires : goal.is_other-requires
-unfolding half_before
-is_other-requires c = search rules

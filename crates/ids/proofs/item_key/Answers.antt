@@ -1,4 +1,3 @@
-use Rattle.table.specs.Meaning as table-meaning
 use Rattle.ids.specs.Keys.{owner}
 use Rattle.ids.proofs.KeyLaws.{named_some, named_none, isolated_name}
 use mathlib.Core.Path.{sym, ◌∙◌}
@@ -15,10 +14,6 @@ returns-in-Isolated c =
     rw c.in-Isolated.is
     (λ at. named_some c.args.o _ c.key-in-Isolated.result at c.key-in-Isolated.ensures
     ∙ sym (isolated_name (owner c.args.o) _ _ at))
-
-pub returns-in-Pair : goal.returns-in-Pair
-unfolding start_name class half id_of
-returns-in-Pair c = rw c.in-Pair.is (λ at. c.pair_key.ensures (table-meaning.form c.in-Pair.field-0) at)
 
 pub returns-in-AnnotationStart : goal.returns-in-AnnotationStart
 unfolding start_name class half id_of

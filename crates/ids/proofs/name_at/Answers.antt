@@ -12,7 +12,6 @@ use Rattle.std.specs.Prelude.{Option}
 use Rattle.ids.specs.Keys.{owner, named, name_by}
 use Rattle.ids.proofs.MarkerLaws.{name_other}
 use borrow.Author.Tests.{eqb-false}
-use borrow.Author.Rules.{rules}
 use Rattle.ids.proofs.name_at.Goals as goal
 
 -- return key_of(o, walker::known_at(t, at))
@@ -39,19 +38,3 @@ returns c =
     λ rs a l p.
     ap (λ (k : Option ℕ). named k at₀) (c.name_by.ensures ∙ ap (name_by o) c.key_at.ensures)
     ∙ name_other (read (drop at₀ args.t.now)) o at₀ pre (p (eqb-false _ _ (sym c.is_part.ensures ∙ c.if-is_part.false)))
-
-pub known_at-requires : goal.known_at-requires
-unfolding item_at
-known_at-requires c = search rules
-
-pub key_of-requires : goal.key_of-requires
-unfolding item_at
-key_of-requires c = search rules
-
-pub key_at-requires : goal.key_at-requires
-unfolding item_at
-key_at-requires c = search rules
-
-pub name_by-requires : goal.name_by-requires
-unfolding item_at
-name_by-requires c = search rules

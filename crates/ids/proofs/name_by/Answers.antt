@@ -1,5 +1,4 @@
 use Rattle.ids.specs.Keys.{name_by}
-use borrow.Author.Rules.{rules}
 use Rattle.ids.proofs.name_by.Goals as goal
 
 -- no marker, or an end
@@ -17,15 +16,3 @@ returns c =
       c.if-class_of-half_of.false,
       c.id_of.ensures,
     )
-
-pub class_of-requires : goal.class_of-requires
-unfolding name_by
-class_of-requires c = search rules
-
-pub half_of-requires : goal.half_of-requires
-unfolding name_by
-half_of-requires c = search rules
-
-pub id_of-requires : goal.id_of-requires
-unfolding name_by
-id_of-requires c = search rules

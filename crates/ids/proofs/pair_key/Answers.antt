@@ -1,7 +1,6 @@
 use Rattle.xliff.specs.Item.{class, half, id_of}
 use Rattle.xliff.specs.Rules.{start_name}
 use Rattle.ids.proofs.KeyLaws.{named_some, named_none}
-use borrow.Author.Rules.{rules}
 use Rattle.ids.proofs.pair_key.Goals as goal
 
 pub returns-in-Start : goal.returns-in-Start
@@ -13,7 +12,3 @@ returns-in-Start c =
 pub returns-in-End : goal.returns-in-End
 unfolding start_name class half id_of
 returns-in-End c = rw c.in-End.is (λ w at. named_none at)
-
-pub key-requires : goal.key-requires
-unfolding start_name class half id_of
-key-requires c = search rules

@@ -1,6 +1,5 @@
 use Rattle.keys.specs.Marks.{marker_good}
 use borrow.Author.Tests.{lt-ltb, le-ltb}
-use borrow.Author.Rules.{rules}
 use Rattle.keys.proofs.marker_good.Goals as goal
 
 -- a code
@@ -19,15 +18,3 @@ pub returns : goal.returns
 unfolding marker_good
 returns c =
     simp (c.end_good.ensures, le-ltb _ _ c.if-low-lt40.false, le-ltb _ _ c.if-low-lt44.false)
-
-pub code_good-requires : goal.code_good-requires
-unfolding marker_good
-code_good-requires c = search rules
-
-pub start_good-requires : goal.start_good-requires
-unfolding marker_good
-start_good-requires c = search rules
-
-pub end_good-requires : goal.end_good-requires
-unfolding marker_good
-end_good-requires c = search rules

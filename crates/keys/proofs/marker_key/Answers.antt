@@ -1,6 +1,5 @@
 use borrow.Author.Tests.{eq-eqb, ne_eqb, lt-leb, le-leb, not-true, not-false}
 use Rattle.keys.specs.Marks.{marker_key, key_by}
-use borrow.Author.Rules.{rules}
 use Rattle.keys.proofs.marker_key.Goals as goal
 
 -- too short for a marker
@@ -50,19 +49,3 @@ returns c =
       c.wide_to_u32.ensures.0,
       c.number_at.ensures,
     )
-
-pub low_of-low-requires : goal.low_of-low-requires
-unfolding marker_key key_by
-low_of-low-requires c = search rules
-
-pub marker_good-requires : goal.marker_good-requires
-unfolding marker_key key_by
-marker_good-requires c = search rules
-
-pub number_at-requires : goal.number_at-requires
-unfolding marker_key key_by
-number_at-requires c = search rules
-
-pub wide_to_u32-requires : goal.wide_to_u32-requires
-unfolding marker_key key_by
-wide_to_u32-requires c = search rules

@@ -28,7 +28,7 @@ markers_of-m-requires c =
     let pre = c.requires in
     let loop = c.loop-i in
     let loop-test = c.loop-i-test in
-    let e = heads_more t args.heads.now loop.i pre.0 pre.2 loop-test.true q in (
+    let e = heads_more t args.heads.offsets.now loop.i pre.0 pre.2 loop-test.true q in (
       pre.0,
       pre.1,
       pre.2,
@@ -36,7 +36,6 @@ markers_of-m-requires c =
       fill_room (of_order q (head_number t loop.i)) _ loop.invariant e pre.3,
       omega (arith, loop.invariant.sized, pre.4),
       pre.5,
-      pre.6,
     )
 
 -- the loop's step
@@ -48,7 +47,7 @@ loop-i-preserved c =
     let pre = c.requires in
     let loop = c.loop-i in
     let loop-test = c.loop-i-test in
-    let e = heads_more t args.heads.now loop.i pre.0 pre.2 loop-test.true q in
+    let e = heads_more t args.heads.offsets.now loop.i pre.0 pre.2 loop-test.true q in
     fill_on (of_order q (head_number t loop.i)) _ loop.invariant e c.markers_of-m.ensures
 
 -- m
@@ -61,5 +60,5 @@ returns c =
     let args = c.args in
     let loop = c.loop-i in
     let f = fill_end loop.invariant
-    (heads_done args.t.now args.heads.now loop.i args.q c.requires.2 c.loop-i-test.false) in
+    (heads_done args.t.now args.heads.offsets.now loop.i args.q c.requires.2 c.loop-i-test.false) in
     (f.0, f.1, loop.invariant.sized)

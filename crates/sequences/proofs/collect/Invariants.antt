@@ -5,13 +5,10 @@ use Rattle.xliff.specs.Bytes.{gather}
 use lib.ListN.{length, take, drop}
 use mathlib.Core.List.{◌++◌}
 use mathlib.Core.Bool.{false}
-use Prim.Native.Nat.{◌-◌, ◌+◌}
+use Prim.Native.Nat.{◌+◌}
 use Rattle.sequences.proofs.collect.Given as goal
 
 abbrev pub invariant-loop-i : goal.invariant-loop-i
 invariant-loop-i l =
     Filled l.out l.m (gather (of_order l.q) (drop l.i (heads_of l.t))) (take l.n l.initial.out ++ offsets false l.q l.t)
     (length (offsets false l.q l.t) + l.n) (length l.initial.out)
-
-abbrev pub decreases-loop-i : goal.decreases-loop-i
-decreases-loop-i l = length l.heads - l.i

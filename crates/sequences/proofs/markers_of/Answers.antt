@@ -5,12 +5,12 @@ use Rattle.sequences.proofs.TargetLaws.{other_order}
 use Rattle.sequences.proofs.markers_of.Goals as goal
 
 -- return n
-pub returns-then-q-orders : goal.returns-then-q-orders
-returns-then-q-orders c =
+pub returns-then-q-heads : goal.returns-then-q-heads
+returns-then-q-heads c =
     let args = c.args in
     let q = args.q in
     let t = args.t.now in
     let i = args.i in
     let pre = c.requires in
     fill_none args.out.now (of_order q (head_number t i)) args.n
-    (other_order q (head_number t i) (λ z. c.if-q-orders.true (z ∙ sym (pre.7 i pre.3))))
+    (other_order q (head_number t i) (λ z. c.if-q-heads.true (z ∙ sym (pre.6 i pre.3))))

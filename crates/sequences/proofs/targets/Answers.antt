@@ -48,26 +48,7 @@ loop-q-init c =
     let e = order_start c.args.t.now c.args.parts in
     (omega arith, record { sized = c.requires.2; all = e; count = omega (arith, ap length e) })
 
--- &heads[..k]
-pub slice_bounds-heads-end-in-loop-q : goal.slice_bounds-heads-end-in-loop-q
-slice_bounds-heads-end-in-loop-q c =
-    let target-heads = c.target_heads-k in
-    omega (arith, target-heads.ensures.1)
-
--- &heads[..k]
-pub slice_bounds-collect-end : goal.slice_bounds-collect-end
-slice_bounds-collect-end c =
-    let target-heads = c.target_heads-k in
-    sym (length-take-le target-heads.result target-heads.new.heads
-    (omega (arith, target-heads.ensures.1, target-heads.ensures.2)))
-
--- &orders
-pub slice_bounds-collect-end-in-loop-q : goal.slice_bounds-collect-end-in-loop-q
-slice_bounds-collect-end-in-loop-q c =
-    let head-orders = c.head_orders in
-    sym head-orders.ensures.0
-
--- collect(t, &heads[..k], &orders, q + 1, out, n)
+-- collect(t, heads, q + 1, out, n)
 pub collect-n-requires : goal.collect-n-requires
 collect-n-requires c =
     let args = c.args in
@@ -84,13 +65,6 @@ collect-n-requires c =
       target-heads.ensures.0,
       fill_room (offsets false (loop.q + 1) t) _ loop.invariant.1 e (few_targets t pre.0 parts),
       omega (arith, loop.invariant.1.sized),
-      omega (
-        arith,
-        length-take-le target-heads.result target-heads.new.heads
-            (omega (arith, target-heads.ensures.1, target-heads.ensures.2)),
-        target-heads.ensures.1,
-        head-orders.ensures.0,
-      ),
       head-orders.ensures.1,
     )
 

@@ -10,6 +10,3 @@ invariant-loop-q l =
     (l.q ≤ l.parts)
     × Filled l.out l.n (target_offsets l.t l.q (l.parts - l.q)) (target_offsets l.t 0 l.parts) (length (target_offsets l.t 0 l.parts))
     most_records
-
-abbrev pub decreases-loop-q : goal.decreases-loop-q
-decreases-loop-q l = l.parts - l.q
