@@ -2,7 +2,7 @@
 // Throughout, `t` is the table, `source` and `target` the markers of the source and the target sequence.
 #![tactic(auto)]
 
-ghost use Rattle.std.specs.Prelude.{◌≡◌, true, [], suc, ◌+◌, ◌-◌, ◌<◌, ◌≤◌, length, drop, ltb};
+ghost use Rattle.std.specs.Prelude.{◌≡◌, ℕ, true, [], suc, ◌+◌, ◌-◌, ◌<◌, ◌≤◌, length, drop, get_or, ltb};
 ghost use Rattle.answers.specs.Answers.{refusal_at, toward};
 ghost use Rattle.views.specs.Views.{view_of};
 ghost use Rattle.keys.specs.Keys.{keys_at};
@@ -53,25 +53,15 @@ fn number_after(keys: &[u32], links: &[u16], i: usize) -> u16
     }
 }
 
-// The nearest other half before each marker, of keys that are linked to those before them.
-// Linear in the markers where few of them are of one group, quadratic where all are.
-fn fill_starts(keys: &[u32], links: &[u16], starts: &mut [u16])
-    requires { (length keys.now ≤ most_records) × (length links.now ≡ most_records) × (length starts.old ≡ most_records) × Linked keys.now links.now }
-    ensures { (length starts.new ≡ most_records) × Filled (half_before keys.now) (length keys.now) starts.new }
+// What `number` gives of each index below `n`, at that index.
+fn fill_by<F: Fn(usize) -> u16>(n: usize, number: F, out: &mut [u16])
+    requires within { n ≤ length out.old }
+    requires callable { (i : ℕ) → i < n → F.pre number i }
+    ensures room { length out.new ≡ length out.old }
+    ensures filled { (i : ℕ) → i < n → F.post number i (get_or out.new i 0) }
 {
-    for i in 0..keys.len() {
-        starts[i] = number_before(keys, links, i);
-    }
-}
-
-// The nearest other half after each marker, of keys that are linked to those after them.
-// Linear in the markers where few of them are of one group, quadratic where all are.
-fn fill_ends(keys: &[u32], links: &[u16], ends: &mut [u16])
-    requires { (length keys.now ≤ most_records) × (length links.now ≡ most_records) × (length ends.old ≡ most_records) × LinkedAfter keys.now links.now }
-    ensures { (length ends.new ≡ most_records) × Filled (half_after keys.now) (length keys.now) ends.new }
-{
-    for i in 0..keys.len() {
-        ends[i] = number_after(keys, links, i);
+    for i in 0..n {
+        out[i] = number(i);
     }
 }
 
@@ -84,9 +74,9 @@ fn fill(keys: &[u32], starts: &mut [u16], ends: &mut [u16])
     let mut links = [0u16; MOST_RECORDS];
     let mut heads = [0u16; 256];
     id_links::link_before(keys, &mut links, &mut heads);
-    fill_starts(keys, &links, starts);
+    fill_by(keys.len(), |i| number_before(keys, &links, i), starts);
     id_links::link_after(keys, &mut links);
-    fill_ends(keys, &links, ends);
+    fill_by(keys.len(), |i| number_after(keys, &links, i), ends);
 }
 
 // Whether a marker between `first` and `end`, with these nearest other halves, is isolated or has its other half
