@@ -32,9 +32,10 @@ struct Halved<'a> {
 }
 
 // The nearest other halves of the marker at `i`, as arrays of two-byte numbers hold them: that before as its index plus
-// one, or 0; that after as its index, or the number of markers.
+// one, or 0; that after as its index, or the number of markers. In fixed memory Options would take twice the room.
 fn number_before(keys: &[u32], links: &[u16], i: usize) -> u16
-    requires { Linked keys.now links.now × (length keys.now ≤ most_records) × (length links.now ≡ most_records) × (i < length keys.now) }
+    requires { Linked keys.now links.now × (length keys.now ≤ most_records) × (length links.now ≡ most_records)
+        × (i < length keys.now) }
     ensures { result ≡ half_before keys.now i }
 {
     match halves::linked_before(keys, links, i) {
@@ -44,7 +45,8 @@ fn number_before(keys: &[u32], links: &[u16], i: usize) -> u16
 }
 
 fn number_after(keys: &[u32], links: &[u16], i: usize) -> u16
-    requires { LinkedAfter keys.now links.now × (length keys.now ≤ most_records) × (length links.now ≡ most_records) × (i < length keys.now) }
+    requires { LinkedAfter keys.now links.now × (length keys.now ≤ most_records) × (length links.now ≡ most_records)
+        × (i < length keys.now) }
     ensures { result ≡ half_after keys.now i }
 {
     match halves::linked_after(keys, links, i) {
@@ -68,8 +70,10 @@ fn fill_by<F: Fn(usize) -> u16>(n: usize, number: F, out: &mut [u16])
 // The nearest other halves of all markers.
 // Linear in the markers where few of them are of one group, quadratic where all are.
 fn fill(keys: &[u32], starts: &mut [u16], ends: &mut [u16])
-    requires { (length keys.now ≤ most_records) × (length starts.old ≡ most_records) × (length ends.old ≡ most_records) }
-    ensures { (length starts.new ≡ most_records) × (length ends.new ≡ most_records) × Halves keys.now starts.new ends.new }
+    requires { (length keys.now ≤ most_records) × (length starts.old ≡ most_records)
+        × (length ends.old ≡ most_records) }
+    ensures { (length starts.new ≡ most_records) × (length ends.new ≡ most_records)
+        × Halves keys.now starts.new ends.new }
 {
     let mut links = [0u16; MOST_RECORDS];
     let mut heads = [0u16; 256];
@@ -135,7 +139,8 @@ fn is_closed(t: &[u8], s: Sequence, i: usize) -> bool
 // Rule 9 of the marker at `i`. Linear in the markers that it encloses.
 fn encloses_stray(t: &[u8], h: Halved, i: usize) -> bool
     requires { (h.sequence.keys.now ≡ keys_at t.now h.sequence.markers.now) × (i < length h.sequence.markers.now) }
-    ensures { result ≡ bad_9 (earlier (marker_at t.now h.entry.sequence.markers.now) i) (marker_at t.now h.entry.sequence.markers.now i)
+    ensures { result ≡ bad_9 (earlier (marker_at t.now h.entry.sequence.markers.now) i)
+        (marker_at t.now h.entry.sequence.markers.now i)
         (items (placed_at t.now (drop (suc i) h.entry.sequence.markers.now))) }
 {
     if !is_closed(t, h.sequence, i) {
