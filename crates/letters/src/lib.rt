@@ -55,8 +55,10 @@ fn bad_alone(source: bool, led: bool, x: View) -> bool
 // Whether the marker at `i` is the end of a pair and does not match its start, the nearest other half before it.
 // Linear in the markers before `i`.
 fn ill_ended(t: &[u8], s: Sequence, i: usize, x: View) -> bool
-    requires { (s.keys.now ≡ keys_at t.now s.markers.now) × (i < length s.markers.now) × (x ≡ view_of (marker_at t.now s.markers.now i)) }
-    ensures { result ≡ ill_end (earlier (marker_at t.now s.entry.markers.now) i) (marker_at t.now s.entry.markers.now i) }
+    requires { (s.keys.now ≡ keys_at t.now s.markers.now) × (i < length s.markers.now)
+        × (x ≡ view_of (marker_at t.now s.markers.now i)) }
+    ensures { result ≡ ill_end (earlier (marker_at t.now s.entry.markers.now) i)
+        (marker_at t.now s.entry.markers.now i) }
 {
     if !((x.class == 2) & (x.half == 2)) {
         return false;

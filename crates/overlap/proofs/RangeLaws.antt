@@ -1,11 +1,13 @@
--- Tests of the indices from one on.
-use Prim.Native.Nat.{ℕ, zero, suc, ◌+◌, ◌-◌}
-use mathlib.Core.Path.{◌≡◌, refl, sym, ap, ap₂, ◌∙◌}
+-- The indices from one on: tests of them, and what an array holds for each.
+use Prim.Native.Nat.{ℕ, zero, suc, ◌+◌, ◌-◌, ◌<◌}
+use mathlib.Core.Path.{◌≡◌, refl, sym, ap, ap₂, ◌∙◌, subst}
 use mathlib.Core.Bool.{Bool, true, false, not, cond, ◌||◌, ◌&&◌, true≢false}
 use mathlib.Core.List.{List}
 use native.Mathlib.Omega.{arith}
 use lib.Dec.{ltb}
-use lib.ListN.{length, drop, get_or}
+use lib.ListN.{length, drop, get_or, set}
+use lib.Seq.{get_or-set_same, get_or-set_other}
+use borrow.Author.Count.{below_more}
 use borrow.Author.Tests.{lt-ltb, le-ltb}
 use Rattle.std.specs.Prelude.{Option}
 use Rattle.std.specs.List.{range_with_len, list_any, list_all}
@@ -20,6 +22,14 @@ use Rattle.halves.specs.Nearest.{earlier, marker_at}
 use Rattle.halves.proofs.TwoSequences.{blamed_step}
 use Rattle.overlap.specs.Nine.{closed_start, AllOpen}
 use Rattle.overlap.proofs.TestLaws.{not_closed}
+
+-- one more element of an array whose first elements have a property
+pub set_filled : (P : ℕ → ℕ → Type 0) (l : List ℕ) (i v : ℕ) → i < length l → ((k : ℕ) → k < i → P k (get_or l k 0)) → P i v
+    → (k : ℕ) → k < i + 1 → P k (get_or (set l i v) k 0)
+set_filled P l i v h g p =
+    below_more (λ k. P k (get_or (set l i v) k 0)) i
+    (λ k s. subst (P k) (sym (get_or-set_other l i k v 0 (λ z. omega (arith, s, z)))) (g k s))
+    (subst (P i) (sym (get_or-set_same l i v 0 h)) p)
 
 -- one of n indices passes if the nearest that passes is one of them
 any_of : (p : ℕ → Bool) (n a : ℕ) → list_any p (range_with_len a n) ≡ ltb (next p a n) (a + n)

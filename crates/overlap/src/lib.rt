@@ -2,7 +2,7 @@
 // Throughout, `t` is the table, `source` and `target` the markers of the source and the target sequence.
 #![tactic(auto)]
 
-ghost use Rattle.std.specs.Prelude.{◌≡◌, true, [], suc, ◌+◌, ◌-◌, ◌<◌, ◌≤◌, length, drop, ltb};
+ghost use Rattle.std.specs.Prelude.{◌≡◌, ℕ, true, [], suc, ◌+◌, ◌-◌, ◌<◌, ◌≤◌, length, drop, get_or, ltb};
 ghost use Rattle.answers.specs.Answers.{refusal_at, toward};
 ghost use Rattle.views.specs.Views.{view_of};
 ghost use Rattle.keys.specs.Keys.{keys_at};
@@ -32,9 +32,10 @@ struct Halved<'a> {
 }
 
 // The nearest other halves of the marker at `i`, as arrays of two-byte numbers hold them: that before as its index plus
-// one, or 0; that after as its index, or the number of markers.
+// one, or 0; that after as its index, or the number of markers. In fixed memory Options would take twice the room.
 fn number_before(keys: &[u32], links: &[u16], i: usize) -> u16
-    requires { Linked keys.now links.now × (length keys.now ≤ most_records) × (length links.now ≡ most_records) × (i < length keys.now) }
+    requires { Linked keys.now links.now × (length keys.now ≤ most_records) × (length links.now ≡ most_records)
+        × (i < length keys.now) }
     ensures { result ≡ half_before keys.now i }
 {
     match halves::linked_before(keys, links, i) {
@@ -44,7 +45,8 @@ fn number_before(keys: &[u32], links: &[u16], i: usize) -> u16
 }
 
 fn number_after(keys: &[u32], links: &[u16], i: usize) -> u16
-    requires { LinkedAfter keys.now links.now × (length keys.now ≤ most_records) × (length links.now ≡ most_records) × (i < length keys.now) }
+    requires { LinkedAfter keys.now links.now × (length keys.now ≤ most_records) × (length links.now ≡ most_records)
+        × (i < length keys.now) }
     ensures { result ≡ half_after keys.now i }
 {
     match halves::linked_after(keys, links, i) {
@@ -53,40 +55,32 @@ fn number_after(keys: &[u32], links: &[u16], i: usize) -> u16
     }
 }
 
-// The nearest other half before each marker, of keys that are linked to those before them.
-// Linear in the markers where few of them are of one group, quadratic where all are.
-fn fill_starts(keys: &[u32], links: &[u16], starts: &mut [u16])
-    requires { (length keys.now ≤ most_records) × (length links.now ≡ most_records) × (length starts.old ≡ most_records) × Linked keys.now links.now }
-    ensures { (length starts.new ≡ most_records) × Filled (half_before keys.now) (length keys.now) starts.new }
+// What `number` gives of each index below `n`, at that index.
+fn fill_by<F: Fn(usize) -> u16>(n: usize, number: F, out: &mut [u16])
+    requires within { n ≤ length out.old }
+    requires callable { (i : ℕ) → i < n → F.pre number i }
+    ensures room { length out.new ≡ length out.old }
+    ensures filled { (i : ℕ) → i < n → F.post number i (get_or out.new i 0) }
 {
-    for i in 0..keys.len() {
-        starts[i] = number_before(keys, links, i);
-    }
-}
-
-// The nearest other half after each marker, of keys that are linked to those after them.
-// Linear in the markers where few of them are of one group, quadratic where all are.
-fn fill_ends(keys: &[u32], links: &[u16], ends: &mut [u16])
-    requires { (length keys.now ≤ most_records) × (length links.now ≡ most_records) × (length ends.old ≡ most_records) × LinkedAfter keys.now links.now }
-    ensures { (length ends.new ≡ most_records) × Filled (half_after keys.now) (length keys.now) ends.new }
-{
-    for i in 0..keys.len() {
-        ends[i] = number_after(keys, links, i);
+    for i in 0..n {
+        out[i] = number(i);
     }
 }
 
 // The nearest other halves of all markers.
 // Linear in the markers where few of them are of one group, quadratic where all are.
 fn fill(keys: &[u32], starts: &mut [u16], ends: &mut [u16])
-    requires { (length keys.now ≤ most_records) × (length starts.old ≡ most_records) × (length ends.old ≡ most_records) }
-    ensures { (length starts.new ≡ most_records) × (length ends.new ≡ most_records) × Halves keys.now starts.new ends.new }
+    requires { (length keys.now ≤ most_records) × (length starts.old ≡ most_records)
+        × (length ends.old ≡ most_records) }
+    ensures { (length starts.new ≡ most_records) × (length ends.new ≡ most_records)
+        × Halves keys.now starts.new ends.new }
 {
     let mut links = [0u16; MOST_RECORDS];
     let mut heads = [0u16; 256];
     id_links::link_before(keys, &mut links, &mut heads);
-    fill_starts(keys, &links, starts);
+    fill_by(keys.len(), |i| number_before(keys, &links, i), starts);
     id_links::link_after(keys, &mut links);
-    fill_ends(keys, &links, ends);
+    fill_by(keys.len(), |i| number_after(keys, &links, i), ends);
 }
 
 // Whether a marker between `first` and `end`, with these nearest other halves, is isolated or has its other half
@@ -145,7 +139,8 @@ fn is_closed(t: &[u8], s: Sequence, i: usize) -> bool
 // Rule 9 of the marker at `i`. Linear in the markers that it encloses.
 fn encloses_stray(t: &[u8], h: Halved, i: usize) -> bool
     requires { (h.sequence.keys.now ≡ keys_at t.now h.sequence.markers.now) × (i < length h.sequence.markers.now) }
-    ensures { result ≡ bad_9 (earlier (marker_at t.now h.entry.sequence.markers.now) i) (marker_at t.now h.entry.sequence.markers.now i)
+    ensures { result ≡ bad_9 (earlier (marker_at t.now h.entry.sequence.markers.now) i)
+        (marker_at t.now h.entry.sequence.markers.now i)
         (items (placed_at t.now (drop (suc i) h.entry.sequence.markers.now))) }
 {
     if !is_closed(t, h.sequence, i) {

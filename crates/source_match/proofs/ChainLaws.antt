@@ -47,7 +47,9 @@ module _ (t markers keys links heads : List ℕ) (id : ℕ) (x : View) (given : 
   matches_past : (i : ℕ) → i ≤ length markers → first i ≡ first (previous chain i)
   unfolding matches_in
   matches_past i h =
-      same_matches (items_past (test_by view_starts_id id x) t markers chain (other_group view_starts_id) i h) (items_past (test_by other_class_view id x) t markers chain (other_group other_class_view) i h)
+      same_matches
+      (items_past (test_by view_starts_id id x) t markers chain (other_group view_starts_id) i h)
+      (items_past (test_by other_class_view id x) t markers chain (other_group other_class_view) i h)
       (items_past (test_by agrees_with id x) t markers chain (other_group agrees_with) i h) (items_past (test_by may_copy_view id x) t markers chain (other_group may_copy_view) i h)
 
   matches_last : (i : ℕ) → i < length markers → first (suc i) ≡ joined (matches_by id x (item_at t (get_or markers i 0))) (first i)

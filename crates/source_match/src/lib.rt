@@ -6,8 +6,21 @@ ghost use Rattle.std.specs.Prelude.{◌≡◌, [], ◌<◌, length, get_or};
 ghost use Rattle.answers.specs.Answers.{refusal_at, toward};
 ghost use Rattle.views.specs.Views.{items_of_markers};
 ghost use Rattle.keys.specs.Keys.{keys_at};
-ghost use Rattle.source_match.specs.Ten.{view_starts_id, other_class_view, agrees_with, may_copy_view, matches_of, matches_by, matches_in, none_found, joined,
-    bad_ten_source, copies_none, bad_ten_target, LinkedItems};
+ghost use Rattle.source_match.specs.Ten.{
+  view_starts_id,
+  other_class_view,
+  agrees_with,
+  may_copy_view,
+  matches_of,
+  matches_by,
+  matches_in,
+  none_found,
+  joined,
+  bad_ten_source,
+  copies_none,
+  bad_ten_target,
+  LinkedItems,
+};
 ghost use Rattle.xliff.specs.Sequences.{blamed, first_of};
 ghost use Rattle.xliff.specs.Rules.{bad_10_source, bad_10_target, fault_10};
 ghost use Rattle.xliff.specs.Parse.{unit};
@@ -108,7 +121,8 @@ impl LinkedItems<'_> {
     // The tests of one more item, that at the index `i`. Only where its id is `id` is the table read.
     fn one_more(self, i: usize, id: u16, x: View, found: Matches) -> Matches
         requires { i < length self.sequence.markers.now }
-        ensures { result ≡ joined found (matches_by id x (item_at self.entry.t.now (get_or self.entry.sequence.markers.now i 0))) }
+        ensures { result ≡ joined found
+            (matches_by id x (item_at self.entry.t.now (get_or self.entry.sequence.markers.now i 0))) }
     {
         let k = self.sequence.keys[i];
         if !(keys::id_of(k) == u32::from(id)) {
@@ -119,7 +133,8 @@ impl LinkedItems<'_> {
     }
 
     // The tests of all items whose id is `id`.
-    // Linear in the items of the group of `id`, from the last on along the links.
+    // Linear in the items of the group of `id`, from the last on along the links: no range counts them, and 0 ends
+    // them, since heads and links are arrays of two-byte numbers in fixed memory.
     fn matches_by(self, id: u16, x: View) -> Matches
         ensures { result ≡ matches_in id x (items_of_markers self.entry.t.now self.entry.sequence.markers.now) }
     {
@@ -149,7 +164,8 @@ impl LinkedItems<'_> {
     {
         let m = self.matches_by(x.id, x);
         let code = views::is_code(x);
-        (m.differs | ((code & m.starts) & (!m.agrees | !(x.of == 0)))) | (code & self.copies_none(x))
+        (m.differs | ((code & m.starts) & (!m.agrees | !(x.of == 0))))
+            | (code & self.copies_none(x))
     }
 }
 
@@ -168,7 +184,11 @@ fn ten_source(t: &[u8], s: Sequence) -> Option<usize>
     let mut best = None;
     for i in 0..s.markers.len() {
         let at = marks::wide(s.markers[i]);
-        best = answers::lower_if(bad_copy_in_source(keys::view_at(t, at, s.keys[i])), best, at);
+        best = answers::lower_if(
+            bad_copy_in_source(keys::view_at(t, at, s.keys[i])),
+            best,
+            at,
+        );
     }
     best
 }
@@ -179,7 +199,8 @@ fn ten_source(t: &[u8], s: Sequence) -> Option<usize>
 fn ten_target(t: &[u8], source: LinkedItems, s: Sequence, start: Option<usize>) -> Option<usize>
     requires { s.keys.now ≡ keys_at t.now s.markers.now }
     ensures { refusal_at 10 result ≡ toward 10 start
-        (blamed (bad_10_target (items_of_markers source.entry.t.now source.entry.sequence.markers.now)) [] (placed_at t.now s.entry.markers.now)) }
+        (blamed (bad_10_target (items_of_markers source.entry.t.now source.entry.sequence.markers.now)) []
+            (placed_at t.now s.entry.markers.now)) }
 {
     let mut best = start;
     for i in 0..s.markers.len() {

@@ -46,7 +46,7 @@ fn pair_of(t: &[u8], s: Sequence, id: u16) -> Option<WholePair>
     requires { s.keys.now ≡ keys_at t.now s.markers.now }
     ensures { result ≡ pair_of (find_whole id (items_of_markers t.now s.entry.markers.now)) }
 {
-    let i = find_start(s.keys, marks::wide_to_u32(id))?;
+    let i = find_start(s.keys, u32::from(id))?;
     let j = halves::half_after(s.keys, i)?;
     let start = views::view_at(t, marks::wide(s.markers[i]));
     let end = views::view_at(t, marks::wide(s.markers[j]));

@@ -4,14 +4,14 @@ use Rattle.halves.proofs.Others.{view_there}
 use Rattle.whole_pair.proofs.SearchLaws.{found_by, none_started, none_ended, complete}
 use Rattle.whole_pair.proofs.pair_of.Goals as goal
 
--- find_start(keys, marks::wide_to_u32(id))?
+-- find_start(keys, u32::from(id))?
 pub returns-in_err-i : goal.returns-in_err-i
 returns-in_err-i c =
     let args = c.args in
     let t = args.t.now in
     let markers = args.s.markers.now in
-    let start = found_by t markers args.id c.wide_to_u32.result args.s.keys.now c.find_start.result c.requires
-    c.wide_to_u32.ensures.0 c.find_start.ensures in
+    let start = found_by t markers args.id c.from.result args.s.keys.now c.find_start.result c.requires
+    c.from.ensures c.find_start.ensures in
     c.from_residual.ensures ∙ none_started t markers args.id (start ∙ c.in_err-i.was)
 
 -- halves::half_after(s.keys, i)?
@@ -20,8 +20,8 @@ returns-in_err-j c =
     let args = c.args in
     let t = args.t.now in
     let markers = args.s.markers.now in
-    let start = found_by t markers args.id c.wide_to_u32.result args.s.keys.now c.find_start.result c.requires
-    c.wide_to_u32.ensures.0 c.find_start.ensures in
+    let start = found_by t markers args.id c.from.result args.s.keys.now c.find_start.result c.requires
+    c.from.ensures c.find_start.ensures in
     let none = rw c.requires at c.in_err-j.ensures in
     c.from_residual-in_err-j.ensures
     ∙ none_ended t markers args.id c.in_ok-i.i (start ∙ c.in_ok-i.was) _ (sym none) (omega arith)
@@ -32,8 +32,8 @@ returns c =
     let args = c.args in
     let t = args.t.now in
     let markers = args.s.markers.now in
-    let start = found_by t markers args.id c.wide_to_u32.result args.s.keys.now c.find_start.result c.requires
-    c.wide_to_u32.ensures.0 c.find_start.ensures in
+    let start = found_by t markers args.id c.from.result args.s.keys.now c.find_start.result c.requires
+    c.from.ensures c.find_start.ensures in
     let found = rw c.requires at c.in_ok-j.ensures in
     complete t markers args.id c.in_ok-i.i (start ∙ c.in_ok-i.was) c.in_ok-j.j (sym found.0) found.2
     c.view_at-start.result c.view_at-end.result
