@@ -35,11 +35,8 @@ fn past_limit(built: Built) -> Built
     ensures { result.over ≡ true }
 {
     Built {
-        used: built.used,
-        records: built.records,
-        parts: built.parts,
-        text: built.text,
         over: true,
+        ..built
     }
 }
 
@@ -59,13 +56,11 @@ pub fn put_record(table: &mut [u8], built: Built, bytes: &[u8], heads_part: bool
     let used = built.used;
     let wrote = writer::put(&mut table[used..], bytes);
     let end = used + wrote;
-    let records = built.records + 1;
     let more: usize = if heads_part { 1 } else { 0 };
-    let parts = built.parts + more;
     Built {
         used: end,
-        records: records,
-        parts: parts,
+        records: built.records + 1,
+        parts: built.parts + more,
         text: 0,
         over: false,
     }
@@ -82,13 +77,7 @@ fn put_first(table: &mut [u8], built: Built, c: u32) -> Built
     let text_at = writer::put_number(&mut bytes, length_at, wide as u16);
     let end = utf8::put_code_point(&mut bytes, text_at, c);
     let put = put_record(table, built, &bytes[..end], false);
-    Built {
-        used: put.used,
-        records: put.records,
-        parts: put.parts,
-        text: wide,
-        over: put.over,
-    }
+    Built { text: wide, ..put }
 }
 
 // A further one.
@@ -106,10 +95,9 @@ fn put_further(table: &mut [u8], built: Built, c: u32) -> Built
     let text_at = writer::put_number(table, length_at, long as u16);
     Built {
         used: end,
-        records: built.records,
-        parts: built.parts,
         text: long,
         over: false,
+        ..built
     }
 }
 

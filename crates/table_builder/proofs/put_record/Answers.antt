@@ -57,14 +57,14 @@ overflow_add-end c =
     omega (arith, c.put-wrote.ensures.0, room_left used (length bytes) _ n.used c.if-built-bytes.false)
 
 -- built.records + 1
-pub overflow_add-records : goal.overflow_add-records
-overflow_add-records c =
+pub overflow_add-result : goal.overflow_add-result
+overflow_add-result c =
     let n = numbers c.requires c.if-built.false in
     omega arith
 
 -- built.parts + more
-pub overflow_add-parts : goal.overflow_add-parts
-overflow_add-parts c =
+pub overflow_add-result-2 : goal.overflow_add-result-2
+overflow_add-result-2 c =
     let n = numbers c.requires c.if-built.false in
     elim c.if-heads_part.branch [ then-heads_part w ↦ omega (arith, n, w.more-is) | else-heads_part w ↦ omega (arith, n, w.more-is) ]
 
