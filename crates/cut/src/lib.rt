@@ -13,6 +13,7 @@ ghost use Rattle.xliff.specs.Split.{first_items, second_items};
 ghost use Rattle.cut.specs.Halves.{RoomFor, WroteFor};
 
 use marks::Mark;
+use walk::Place;
 
 // The mark of start or end over that of pc or mrk at the head of `out`; every other mark stays.
 fn put_turned_mark(out: &mut [u8], m: Mark)
@@ -91,14 +92,13 @@ fn put_text(out: &mut [u8], t: &[u8]) -> usize
     j + n
 }
 
-// The first half of a content that is cut at item `k`.
+// The first half of a content that is cut at item `k`. The halves have a function each: a text that is cut ends the
+// first and begins the second, and one function with a side would switch at each step.
 pub fn put_first(out: &mut [u8], c: &[u8], k: usize) -> usize
     requires { RoomFor (first_items k) c.now out.old }
     ensures { WroteFor (first_items k) c.now out.old result out.new }
 {
-    let p = walk::place_of(c, k);
-    let at = p.at;
-    let into = p.into;
+    let Place { at, into, .. } = walk::place_of(c, k);
     let n = put_cut(out, &c[..at], &c[at..]);
     if into == 0 {
         return n;
@@ -114,9 +114,7 @@ pub fn put_second(out: &mut [u8], c: &[u8], k: usize) -> usize
     requires { RoomFor (second_items k) c.now out.old }
     ensures { WroteFor (second_items k) c.now out.old result out.new }
 {
-    let p = walk::place_of(c, k);
-    let at = p.at;
-    let into = p.into;
+    let Place { at, into, .. } = walk::place_of(c, k);
     if into == 0 {
         return put_cut(out, &c[at..], &c[..at]);
     }

@@ -5,7 +5,8 @@ ghost use Rattle.std.specs.Prelude.{◌+◌, ◌-◌};
 ghost use Rattle.xliff.specs.Split.{first_target, second_target, first_half, second_half};
 ghost use Rattle.halves_of_part.specs.Parts.{RoomTarget, WroteTarget, RoomHalf, WroteHalf, RoomHalves, WroteHalves};
 
-// The target of the first half.
+// The target of the first half. The halves have two functions each: cut, order and id all differ, so one function with
+// a side would switch at each step, and promise both halves.
 fn put_target_first(out: &mut [u8], t: &[u8], k: usize) -> usize
     requires { RoomTarget (first_target k) t.now out.old }
     ensures { WroteTarget (first_target k) t.now out.old result out.new }

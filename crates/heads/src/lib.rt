@@ -59,14 +59,7 @@ pub fn put_with_state(out: &mut [u8], head: &[u8], state: u8) -> usize
 {
     if is_segment(head) {
         let f = segment_of(head);
-        return put_segment(
-            out,
-            Segment {
-                id: f.id,
-                can_resegment: f.can_resegment,
-                state: state,
-            },
-        );
+        return put_segment(out, Segment { state, ..f });
     }
     writer::put(out, head)
 }

@@ -1,5 +1,5 @@
 // The inline records but text, as they are written. Their fields are read by `table`.
-#![tactic(auto)]
+#![tactic(auto, unfolding(xliff::specs::Encode::record_bytes, xliff::specs::Encode::field_bytes, xliff::specs::Item::mark))]
 
 ghost use Rattle.std.specs.Prelude.{[], ◌∷◌, ◌++◌, ◌≤◌, length};
 ghost use Rattle.xliff.specs.Bytes.{two};
@@ -41,15 +41,11 @@ fn put_pair(out: &mut [u8], w: Form, h: Half, f: Fields) -> usize
     requires { code_size ≤ length out.old }
     ensures { Written (record_bytes (inline (pair (half h) (form w) (fields f)))) out.old result out.new }
 {
-    match w {
-        Form::P => match h {
-            Half::Start => put_code(out, b"PO", f),
-            Half::End => put_code(out, b"PC", f),
-        },
-        Form::S => match h {
-            Half::Start => put_code(out, b"SC", f),
-            Half::End => put_code(out, b"EC", f),
-        },
+    match (w, h) {
+        (Form::P, Half::Start) => put_code(out, b"PO", f),
+        (Form::P, Half::End) => put_code(out, b"PC", f),
+        (Form::S, Half::Start) => put_code(out, b"SC", f),
+        (Form::S, Half::End) => put_code(out, b"EC", f),
     }
 }
 

@@ -4,6 +4,7 @@ use mathlib.Core.Path.{◌≡◌, refl, sym, ap, ap₂, ◌∙◌, subst}
 use mathlib.Core.Bool.{Bool, true, false, ◌&&◌, true≢false}
 use mathlib.Core.List.{List, [], ◌∷◌, ◌++◌, map, append_assoc, append-nil}
 use native.Mathlib.Omega.{arith}
+use Rattle.std.specs.Prelude.{Option, Some, None}
 use lib.ListN.{length, take, drop, length-append, length-drop}
 use lib.Seq.{drop_at, take-append-add, drop-append-add}
 use Rattle.writer.specs.Pieces.{lead, overlay, number_bytes}
@@ -28,7 +29,7 @@ use Rattle.xliff.proofs.unit.Pieces.{spell_append}
 use Rattle.walk.proofs.PlaceLaws.{is_text, kept_items}
 use Rattle.cut.proofs.CutLaws.{kept_records}
 use Rattle.cut.proofs.HalfLaws.{items_of}
-use Rattle.joined_content.specs.Seam.{Last, Seam, apart, touching, SeamOf, RoomContents, WroteContents}
+use Rattle.joined_content.specs.Seam.{Last, Seam, apart, touching, SeamOf, SeamFound, RoomContents, WroteContents}
 
 -- next is the offset behind the record at the offset at of c
 pub record Behind (c : List ℕ) (at next : ℕ) : Type 0 where
@@ -110,10 +111,20 @@ no_bytes_left : (c : List ℕ) (rs : List Record) → length c ≡ 0 → Of c rs
 no_bytes_left c rs z o = rest_end c 0 rs (omega arith) (rest_start c rs o)
 
 -- the answers of the code
-pub seam_none : (a : List ℕ) (rs qs : List Record) → length a ≡ 0 → Of a rs → Kept false qs → Seam (length a) rs qs 0
-seam_none a rs qs z o k =
-    subst (λ (n : ℕ). Seam (length a) rs qs n) z
-    (apart (subst (λ (l : List Record). Kept false (l ++ qs)) (sym (no_bytes_left a rs z o)) k))
+pub seam_none : (a : List ℕ) (rs qs : List Record) → length a ≡ 0 → Of a rs → Kept false qs
+    → Seam (length a) rs qs (length a)
+seam_none a rs qs z o k = apart (subst (λ (l : List Record). Kept false (l ++ qs)) (sym (no_bytes_left a rs z o)) k)
+
+-- where the texts touch, or the end of the first content
+pub some_seam : (a b : List ℕ) (o : Option ℕ) → SeamFound a b o → (n : ℕ) × SeamOf a b n
+some_seam a b None s = (length a, s)
+some_seam a b (Some n) s = (n, s.0)
+
+pub no_seam : (a b : List ℕ) (o : Option ℕ) → SeamFound a b o → o ≡ None → SeamOf a b (length a)
+no_seam a b o s e = subst (λ (q : Option ℕ). SeamFound a b q) e s
+
+pub seam_at : (a b : List ℕ) (o : Option ℕ) (n : ℕ) → SeamFound a b o → o ≡ Some n → SeamOf a b n × (n < length a)
+seam_at a b o n s e = subst (λ (q : Option ℕ). SeamFound a b q) e s
 
 pub seam_last : (a b : List ℕ) (rs qs : List Record) → length b ≡ 0 → Of b qs → Kept false rs → Seam (length a) rs qs (length a)
 seam_last a b rs qs z o k = apart (subst (Kept false) (sym (ap (λ (l : List Record). rs ++ l) (no_bytes_left b qs z o) ∙ append-nil rs)) k)

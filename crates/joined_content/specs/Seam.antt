@@ -1,5 +1,5 @@
 -- Where two contents meet.
-use Rattle.std.specs.Prelude.{ℕ, ◌+◌, ◌≤◌, ◌<◌, ◌≡◌, false, List, [], ◌∷◌, ◌++◌, length}
+use Rattle.std.specs.Prelude.{ℕ, Option, Some, None, ◌+◌, ◌≤◌, ◌<◌, ◌≡◌, false, List, [], ◌∷◌, ◌++◌, length}
 use Rattle.xliff.specs.Item.{Content}
 use Rattle.xliff.specs.Encode.{Record, text_run, spell, content_bytes}
 use Rattle.walk.specs.Kept.{Kept, Of, Holds}
@@ -23,6 +23,11 @@ pub data Seam (end : ℕ) (rs qs : List Record) : ℕ → Type 0 where
 
 abbrev pub SeamOf : List ℕ → List ℕ → ℕ → Type 0
 SeamOf a b n = (rs qs : List Record) → Of a rs → Of b qs → Seam (length a) rs qs n
+
+-- where they touch, if they do
+abbrev pub SeamFound : List ℕ → List ℕ → Option ℕ → Type 0
+SeamFound a b None = SeamOf a b (length a)
+SeamFound a b (Some n) = SeamOf a b n × (n < length a)
 
 -- contents, with room for both in one
 abbrev pub RoomContents : List ℕ → List ℕ → List ℕ → Type 0

@@ -4,7 +4,7 @@
 ghost use Rattle.std.specs.Prelude.{◌≡◌, [], ◌∷◌, ◌+◌, ◌<◌, ◌≤◌, length};
 ghost use Rattle.walk.specs.Kept.{Fair};
 ghost use Rattle.marks.specs.Marks.{marked};
-ghost use Rattle.joined_content.specs.Seam.{LastOf, SeamOf, RoomContents, WroteContents};
+ghost use Rattle.joined_content.specs.Seam.{LastOf, SeamFound, RoomContents, WroteContents};
 
 // Where the last record of a content begins.
 fn last_of(c: &[u8]) -> usize
@@ -27,24 +27,24 @@ fn is_text(t: &[u8]) -> bool
     marks::marked_by(t, b"TX")
 }
 
-// Where the text begins that ends the first content, if a text begins the second; else the end of the first.
-fn seam(a: &[u8], b: &[u8]) -> usize
+// Where the text begins that ends the first content, if a text begins the second.
+fn seam(a: &[u8], b: &[u8]) -> Option<usize>
     requires { Fair a.now × Fair b.now }
-    ensures { SeamOf a.now b.now result }
+    ensures { SeamFound a.now b.now result }
 {
     if a.len() == 0 {
-        return 0;
+        return None;
     }
     if b.len() == 0 {
-        return a.len();
+        return None;
     }
     let p = last_of(a);
     let x = is_text(&a[p..]);
     let y = is_text(b);
     if x & y {
-        return p;
+        return Some(p);
     }
-    a.len()
+    None
 }
 
 // The second content directly behind the first; touching texts become one.
@@ -52,12 +52,12 @@ pub fn put_joined(out: &mut [u8], a: &[u8], b: &[u8]) -> usize
     requires { RoomContents a.now b.now out.old }
     ensures { WroteContents a.now b.now out.old result out.new }
 {
-    let p = seam(a, b);
+    let found = seam(a, b);
     let n = writer::put(out, a);
-    if p == a.len() {
+    let Some(p) = found else {
         let m = writer::put(&mut out[n..], b);
         return n + m;
-    }
+    };
     let x = marks::number_at(a, p + 2) + marks::number_at(b, 2);
     let q = writer::put_number(out, p + 2, x);
     let m = writer::put(&mut out[n..], &b[4..]);

@@ -22,11 +22,10 @@ fn joined_segment(x: Segment, y: Segment) -> Segment
     ensures { JoinedSegment x y result }
 {
     let dash = dash_if((x.can_resegment == b'-') & (y.can_resegment == b'-'));
-    let state = states::join_states(x.state, y.state);
     Segment {
         id: x.id,
         can_resegment: dash,
-        state: state,
+        state: states::join_states(x.state, y.state),
     }
 }
 
@@ -89,17 +88,18 @@ pub fn put_joined_part(out: &mut [u8], t: &[u8], x: PartPlace, y: PartPlace, ord
     requires { RoomJoinedPart order t.now x y out.old }
     ensures { WroteJoinedPart order t.now x y out.old result out.new }
 {
-    let h = x.head;
-    let s = x.source;
-    let g = x.target;
-    let e = x.end;
-    let i = y.head;
-    let r = y.source;
-    let k = y.target;
-    let f = y.end;
-    let n = put_joined_head(out, &t[h..s], &t[i..r]);
-    let m = joined_content::put_joined(&mut out[n..], &t[s..g], &t[r..k]);
+    let n = put_joined_head(out, &t[x.head..x.source], &t[y.head..y.source]);
+    let m = joined_content::put_joined(
+        &mut out[n..],
+        &t[x.source..x.target],
+        &t[y.source..y.target],
+    );
     let w = n + m;
-    let z = put_joined_target(&mut out[w..], &t[g..e], &t[k..f], order);
+    let z = put_joined_target(
+        &mut out[w..],
+        &t[x.target..x.end],
+        &t[y.target..y.end],
+        order,
+    );
     w + z
 }

@@ -16,6 +16,7 @@ fn digit(n: usize) -> u8
     (48 + n % 10) as u8
 }
 
+// Digits by hand: what a std formatter writes comes to a writer, and no promise says which bytes a slice then has.
 // A number in decimal, at the head of `out`; its length.
 pub fn put_decimal(out: &mut [u8], n: usize) -> usize
     requires { 20 ≤ length out.old }

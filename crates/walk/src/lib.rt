@@ -67,6 +67,7 @@ pub fn has_other(c: &[u8], kind: HalfKind, id: u16) -> bool
     requires { Fair c.now }
     ensures { FoundOther c.now (Some kind) id result }
 {
+    // The lent table is read record by record through the walker.
     let mut at: usize = 0;
     while at < c.len() {
         let next = at + walker::width_at(c, at);
@@ -79,6 +80,7 @@ pub fn has_other(c: &[u8], kind: HalfKind, id: u16) -> bool
 }
 
 // The item stands in the record met, behind so many bytes of its text; or the items left.
+// An enum of its own: neither way is a failure or nothing, each has a number, and `Stop` and `On` say which.
 #[derive(Clone, Copy)]
 enum Pass {
     Stop(usize),
@@ -120,11 +122,7 @@ pub fn place_of(c: &[u8], k: usize) -> Place
         let next = at + walker::width_at(c, at);
         match pass_one(&c[at..next], left) {
             Pass::Stop(into) => {
-                return Place {
-                    at: at,
-                    into: into,
-                    left: 0,
-                };
+                return Place { at, into, left: 0 };
             }
             Pass::On(l) => {
                 at = next;
@@ -132,9 +130,5 @@ pub fn place_of(c: &[u8], k: usize) -> Place
             }
         }
     }
-    Place {
-        at: at,
-        into: 0,
-        left: left,
-    }
+    Place { at, into: 0, left }
 }

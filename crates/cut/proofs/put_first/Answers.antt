@@ -9,7 +9,7 @@ pub slice_bounds-put_cut-end : goal.slice_bounds-put_cut-end
 slice_bounds-put_cut-end c =
     let args = c.args in
     let pre = c.requires in
-    let place_of = c.place_of-p in
+    let place_of = c.place_of-at in
     sym (first_fits args.k args.c.now place_of.result place_of.ensures args.out.now pre).long
 
 -- `&c[at..]`
@@ -17,7 +17,7 @@ pub slice_bounds-put_cut-count : goal.slice_bounds-put_cut-count
 slice_bounds-put_cut-count c =
     let args = c.args in
     let pre = c.requires in
-    let place_of = c.place_of-p in
+    let place_of = c.place_of-at in
     (first_fits args.k args.c.now place_of.result place_of.ensures args.out.now pre).fit
 
 -- the same
@@ -25,7 +25,7 @@ pub slice_bounds-put_cut-start : goal.slice_bounds-put_cut-start
 slice_bounds-put_cut-start c =
     let args = c.args in
     let pre = c.requires in
-    let place_of = c.place_of-p in
+    let place_of = c.place_of-at in
     omega (arith, (first_fits args.k args.c.now place_of.result place_of.ensures args.out.now pre).fit)
 
 -- both are contents, and there is room
@@ -33,7 +33,7 @@ pub put_cut-n-requires : goal.put_cut-n-requires
 put_cut-n-requires c =
     let args = c.args in
     let pre = c.requires in
-    let place_of = c.place_of-p in
+    let place_of = c.place_of-at in
     let f = first_fits args.k args.c.now place_of.result place_of.ensures args.out.now pre in
     (f.fair.0, f.fair.1, omega (arith, f.long, f.room))
 
@@ -41,7 +41,7 @@ put_cut-n-requires c =
 pub returns-then-into-eq0 : goal.returns-then-into-eq0
 returns-then-into-eq0 c =
     let args = c.args in
-    let place_of = c.place_of-p in
+    let place_of = c.place_of-at in
     let put-cut = c.put_cut-n in
     let if1 = c.if-into-eq0.true in
     first_clean args.k args.c.now place_of.result place_of.ensures args.out.now put-cut.new.out
@@ -52,7 +52,7 @@ pub overflow_add-s : goal.overflow_add-s
 overflow_add-s c =
     let args = c.args in
     let pre = c.requires in
-    let place_of = c.place_of-p in
+    let place_of = c.place_of-at in
     let f = first_fits args.k args.c.now place_of.result place_of.ensures args.out.now pre in
     omega (arith, f.text_fit (omega arith))
 
@@ -61,7 +61,7 @@ pub overflow_add-e : goal.overflow_add-e
 overflow_add-e c =
     let args = c.args in
     let pre = c.requires in
-    let place_of = c.place_of-p in
+    let place_of = c.place_of-at in
     let f = first_fits args.k args.c.now place_of.result place_of.ensures args.out.now pre in
     omega (arith, f.text_fit (omega arith))
 
@@ -70,7 +70,7 @@ pub slice_bounds-put_text-count : goal.slice_bounds-put_text-count
 slice_bounds-put_text-count c =
     let args = c.args in
     let pre = c.requires in
-    let place_of = c.place_of-p in
+    let place_of = c.place_of-at in
     let put-cut = c.put_cut-n in
     let f = first_fits args.k args.c.now place_of.result place_of.ensures args.out.now pre in
     omega (arith, f.long, f.room, put-cut.ensures.0)
@@ -80,7 +80,7 @@ pub slice_bounds-put_text-start : goal.slice_bounds-put_text-start
 slice_bounds-put_text-start c =
     let args = c.args in
     let pre = c.requires in
-    let place_of = c.place_of-p in
+    let place_of = c.place_of-at in
     let put-cut = c.put_cut-n in
     let f = first_fits args.k args.c.now place_of.result place_of.ensures args.out.now pre in
     omega (arith, f.long, f.room, put-cut.ensures.0)
@@ -90,7 +90,7 @@ pub slice_bounds-put_text-end-2 : goal.slice_bounds-put_text-end-2
 slice_bounds-put_text-end-2 c =
     let args = c.args in
     let pre = c.requires in
-    let place_of = c.place_of-p in
+    let place_of = c.place_of-at in
     let f = first_fits args.k args.c.now place_of.result place_of.ensures args.out.now pre in
     omega (arith, f.text_fit (omega arith))
 
@@ -99,7 +99,7 @@ pub put_text-m-requires : goal.put_text-m-requires
 put_text-m-requires c =
     let args = c.args in
     let pre = c.requires in
-    let place_of = c.place_of-p in
+    let place_of = c.place_of-at in
     let put-cut = c.put_cut-n in
     let f = first_fits args.k args.c.now place_of.result place_of.ensures args.out.now pre in
     let long = f.text_long (omega arith) in (
@@ -112,7 +112,7 @@ pub overflow_add-result : goal.overflow_add-result
 overflow_add-result c =
     let args = c.args in
     let pre = c.requires in
-    let place_of = c.place_of-p in
+    let place_of = c.place_of-at in
     let put-cut = c.put_cut-n in
     let if1 = c.if-into-eq0.false in
     let put-text = c.put_text-m in
@@ -123,7 +123,7 @@ overflow_add-result c =
 pub returns : goal.returns
 returns c =
     let args = c.args in
-    let place_of = c.place_of-p in
+    let place_of = c.place_of-at in
     let put-cut = c.put_cut-n in
     let if1 = c.if-into-eq0.false in
     let put-text = c.put_text-m in

@@ -9,7 +9,7 @@ pub slice_bounds-put_cut-count : goal.slice_bounds-put_cut-count
 slice_bounds-put_cut-count c =
     let args = c.args in
     let pre = c.requires in
-    let place_of = c.place_of-p in
+    let place_of = c.place_of-at in
     (second_fits args.k args.c.now place_of.result place_of.ensures args.out.now pre).fit
 
 -- the same
@@ -17,7 +17,7 @@ pub slice_bounds-put_cut-start : goal.slice_bounds-put_cut-start
 slice_bounds-put_cut-start c =
     let args = c.args in
     let pre = c.requires in
-    let place_of = c.place_of-p in
+    let place_of = c.place_of-at in
     omega (arith, (second_fits args.k args.c.now place_of.result place_of.ensures args.out.now pre).fit)
 
 -- `&c[..at]`
@@ -25,7 +25,7 @@ pub slice_bounds-put_cut-end-then-into-eq0 : goal.slice_bounds-put_cut-end-then-
 slice_bounds-put_cut-end-then-into-eq0 c =
     let args = c.args in
     let pre = c.requires in
-    let place_of = c.place_of-p in
+    let place_of = c.place_of-at in
     sym (second_fits args.k args.c.now place_of.result place_of.ensures args.out.now pre).long
 
 -- both are contents, and there is room
@@ -33,7 +33,7 @@ pub put_cut-requires : goal.put_cut-requires
 put_cut-requires c =
     let args = c.args in
     let pre = c.requires in
-    let place_of = c.place_of-p in
+    let place_of = c.place_of-at in
     let if1 = c.if-into-eq0.true in
     let f = second_fits args.k args.c.now place_of.result place_of.ensures args.out.now pre in
     (f.fair.1, f.fair.0, f.room if1)
@@ -42,7 +42,7 @@ put_cut-requires c =
 pub returns-then-into-eq0 : goal.returns-then-into-eq0
 returns-then-into-eq0 c =
     let args = c.args in
-    let place_of = c.place_of-p in
+    let place_of = c.place_of-at in
     let if1 = c.if-into-eq0.true in
     let put-cut = c.put_cut in
     second_clean args.k args.c.now place_of.result place_of.ensures args.out.now put-cut.new.out
@@ -53,7 +53,7 @@ pub overflow_add-next : goal.overflow_add-next
 overflow_add-next c =
     let args = c.args in
     let pre = c.requires in
-    let place_of = c.place_of-p in
+    let place_of = c.place_of-at in
     let width_at = c.width_at in
     omega (
       arith,
@@ -66,7 +66,7 @@ pub overflow_add-s : goal.overflow_add-s
 overflow_add-s c =
     let args = c.args in
     let pre = c.requires in
-    let place_of = c.place_of-p in
+    let place_of = c.place_of-at in
     let width_at = c.width_at in
     let i = (second_fits args.k args.c.now place_of.result place_of.ensures args.out.now pre).inner
     width_at.result (omega arith) width_at.ensures in
@@ -77,7 +77,7 @@ pub overflow_add-s-2 : goal.overflow_add-s-2
 overflow_add-s-2 c =
     let args = c.args in
     let pre = c.requires in
-    let place_of = c.place_of-p in
+    let place_of = c.place_of-at in
     let width_at = c.width_at in
     let i = (second_fits args.k args.c.now place_of.result place_of.ensures args.out.now pre).inner
     width_at.result (omega arith) width_at.ensures in
@@ -88,7 +88,7 @@ pub slice_bounds-put_text-count : goal.slice_bounds-put_text-count
 slice_bounds-put_text-count c =
     let args = c.args in
     let pre = c.requires in
-    let place_of = c.place_of-p in
+    let place_of = c.place_of-at in
     let width_at = c.width_at in
     ((second_fits args.k args.c.now place_of.result place_of.ensures args.out.now pre).inner width_at.result
     (omega arith) width_at.ensures).text_fit
@@ -98,7 +98,7 @@ pub slice_bounds-put_text-start : goal.slice_bounds-put_text-start
 slice_bounds-put_text-start c =
     let args = c.args in
     let pre = c.requires in
-    let place_of = c.place_of-p in
+    let place_of = c.place_of-at in
     let width_at = c.width_at in
     let i = (second_fits args.k args.c.now place_of.result place_of.ensures args.out.now pre).inner
     width_at.result (omega arith) width_at.ensures in
@@ -109,7 +109,7 @@ pub slice_bounds-put_text-end : goal.slice_bounds-put_text-end
 slice_bounds-put_text-end c =
     let args = c.args in
     let pre = c.requires in
-    let place_of = c.place_of-p in
+    let place_of = c.place_of-at in
     let width_at = c.width_at in
     let i = (second_fits args.k args.c.now place_of.result place_of.ensures args.out.now pre).inner
     width_at.result (omega arith) width_at.ensures in
@@ -120,7 +120,7 @@ pub put_text-n-requires : goal.put_text-n-requires
 put_text-n-requires c =
     let args = c.args in
     let pre = c.requires in
-    let place_of = c.place_of-p in
+    let place_of = c.place_of-at in
     let width_at = c.width_at in
     let i = (second_fits args.k args.c.now place_of.result place_of.ensures args.out.now pre).inner
     width_at.result (omega arith) width_at.ensures in
@@ -131,7 +131,7 @@ pub slice_bounds-put_cut-count-2 : goal.slice_bounds-put_cut-count-2
 slice_bounds-put_cut-count-2 c =
     let args = c.args in
     let pre = c.requires in
-    let place_of = c.place_of-p in
+    let place_of = c.place_of-at in
     let width_at = c.width_at in
     let put-text = c.put_text-n in
     omega (
@@ -146,7 +146,7 @@ pub slice_bounds-put_cut-start-2 : goal.slice_bounds-put_cut-start-2
 slice_bounds-put_cut-start-2 c =
     let args = c.args in
     let pre = c.requires in
-    let place_of = c.place_of-p in
+    let place_of = c.place_of-at in
     let width_at = c.width_at in
     let put-text = c.put_text-n in
     omega (
@@ -161,7 +161,7 @@ pub slice_bounds-put_cut-count-3 : goal.slice_bounds-put_cut-count-3
 slice_bounds-put_cut-count-3 c =
     let args = c.args in
     let pre = c.requires in
-    let place_of = c.place_of-p in
+    let place_of = c.place_of-at in
     let width_at = c.width_at in
     ((second_fits args.k args.c.now place_of.result place_of.ensures args.out.now pre).inner width_at.result
     (omega arith) width_at.ensures).next_fit
@@ -171,7 +171,7 @@ pub slice_bounds-put_cut-start-3 : goal.slice_bounds-put_cut-start-3
 slice_bounds-put_cut-start-3 c =
     let args = c.args in
     let pre = c.requires in
-    let place_of = c.place_of-p in
+    let place_of = c.place_of-at in
     let width_at = c.width_at in
     omega (
       arith,
@@ -184,7 +184,7 @@ pub slice_bounds-put_cut-end-4 : goal.slice_bounds-put_cut-end-4
 slice_bounds-put_cut-end-4 c =
     let args = c.args in
     let pre = c.requires in
-    let place_of = c.place_of-p in
+    let place_of = c.place_of-at in
     sym (second_fits args.k args.c.now place_of.result place_of.ensures args.out.now pre).long
 
 -- both are contents, and there is room
@@ -192,7 +192,7 @@ pub put_cut-m-requires : goal.put_cut-m-requires
 put_cut-m-requires c =
     let args = c.args in
     let pre = c.requires in
-    let place_of = c.place_of-p in
+    let place_of = c.place_of-at in
     let width_at = c.width_at in
     let put-text = c.put_text-n in
     let i = (second_fits args.k args.c.now place_of.result place_of.ensures args.out.now pre).inner
@@ -207,7 +207,7 @@ pub overflow_add-result : goal.overflow_add-result
 overflow_add-result c =
     let args = c.args in
     let pre = c.requires in
-    let place_of = c.place_of-p in
+    let place_of = c.place_of-at in
     let width_at = c.width_at in
     let put-text = c.put_text-n in
     let put-cut2 = c.put_cut-m in
@@ -223,7 +223,7 @@ overflow_add-result c =
 pub returns : goal.returns
 returns c =
     let args = c.args in
-    let place_of = c.place_of-p in
+    let place_of = c.place_of-at in
     let width_at = c.width_at in
     let put-text = c.put_text-n in
     let put-cut2 = c.put_cut-m in

@@ -5,13 +5,13 @@ use mathlib.Core.Path.{sym, ◌∙◌, ap₂}
 use native.Mathlib.Omega.{arith}
 use Rattle.joined_content.proofs.seam.Goals as goal
 
--- return 0
+-- return None
 pub returns-then-a-eq0 : goal.returns-then-a-eq0
 returns-then-a-eq0 c =
     let a = c.args.a.now in
     λ rs qs o q. seam_none a rs qs c.if-a-eq0.true o q.0
 
--- return a.len()
+-- return None
 pub returns-then-b-eq0 : goal.returns-then-b-eq0
 returns-then-b-eq0 c =
     let args = c.args in
@@ -62,18 +62,20 @@ is_text-y-requires c =
     let (qs, q) = g in
     first_least c.args.b.now qs q (omega arith)
 
--- return p
+-- return Some(p)
 pub returns-then-x-y : goal.returns-then-x-y
 returns-then-x-y c =
-    let args = c.args in
+    let a = c.args.a.now in
     let last_of = c.last_of-p in
-    λ rs qs o q.
-    seam_touching args.a.now args.b.now rs qs last_of.result o q (omega arith) (last_of.ensures rs o)
-    (ap₂ (λ (u v : Bool). u && v) (sym (simp tail_is at c.is_text-x.ensures))
-    (sym c.is_text-y.ensures)
-    ∙ c.if-x-y.true)
+    let ((rs, o), g) = c.requires in (
+      λ rs qs o q.
+          seam_touching a c.args.b.now rs qs last_of.result o q (omega arith) (last_of.ensures rs o)
+          (ap₂ (λ (u v : Bool). u && v) (sym (simp tail_is at c.is_text-x.ensures)) (sym c.is_text-y.ensures)
+          ∙ c.if-x-y.true),
+      omega (arith, (last_least a rs last_of.result o (last_of.ensures rs o)).1),
+    )
 
--- a.len()
+-- None
 pub returns : goal.returns
 returns c =
     let args = c.args in

@@ -6,4 +6,4 @@ use Rattle.joined_part.proofs.joined_segment.Goals as goal
 pub returns : goal.returns
 returns c =
     let args = c.args in
-    two_joined args.x args.y _ refl c.dash_if-dash.ensures c.join_states-state.ensures
+    two_joined args.x args.y _ refl c.dash_if-dash.ensures c.join_states.ensures
