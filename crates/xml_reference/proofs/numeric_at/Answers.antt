@@ -37,4 +37,6 @@ pub returns : goal.returns
 returns c =
     let args = c.args in
     let loop = c.loop-at in
-    sym (loop.invariant.2 ∙ digits_end args.hex (is_some loop.value) (unwrap_or loop.value 0) loop.at args.text.now (search rules))
+    let over =
+    digits_end args.hex (is_some loop.value) (unwrap_or loop.value 0) loop.at args.text.now (search rules) in
+    sym (loop.invariant.2 ∙ over)
