@@ -51,8 +51,8 @@ fn slot_of(name: &[u8]) -> Option<usize>
     place_among(name, &names)
 }
 
-// An attribute into its slot. Not so where an attribute before it was not, its name is none of the subset, or its name has
-// stood before.
+// An attribute into its slot. Not so where an attribute before it was not, its name is none of the subset, or its name
+// has stood before.
 fn place(text: &[u8], a: AttributeAt, slots: &mut [u32], fine: bool) -> bool
     requires { AttributeIn text.now a × (length slots.old ≡ 16) }
     ensures { Placed slots.old fine (attribute_of text.now a) slots.new result }

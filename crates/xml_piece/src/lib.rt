@@ -10,8 +10,8 @@ use xml_names::Span;
 use xml_reference::front_reference;
 use xml_tag::{Markup, tag_at};
 
-// A start tag: where its name stands, its attributes begin behind that. An end tag: its name, and the place behind it. A
-// comment, a character and a reference, each with the place behind it. A tag that the text's end cuts. A tag or a
+// A start tag: where its name stands, its attributes begin behind that. An end tag: its name, and the place behind it.
+// A comment, a character and a reference, each with the place behind it. A tag that the text's end cuts. A tag or a
 // comment at fault; a character or a reference that is at fault or cut: the place blamed where text may stand. The
 // text's end. (No Result: each reader of pieces goes another way at each fault, so that no `?` would serve.)
 #[derive(Clone, Copy)]

@@ -5,8 +5,8 @@ ghost use Rattle.std.specs.Prelude.{◌≡◌, cond, eqb};
 ghost use Rattle.xliff.specs.Bytes.{equal};
 ghost use Rattle.xml_slots.specs.Slots.{absent};
 
-// A slot whose attribute has no good value, and one whose attribute is not there. A value is below both. (Numbers, and no
-// enum of three cases: one comparison, or `u16::try_from`, tells a value from both, and the definitions have numbers.)
+// A slot whose attribute has no good value, and one whose attribute is not there. A value is below both. (Numbers, no
+// enum of three cases: one comparison, or `u16::try_from`, tells a value from both; the definitions have numbers.)
 pub const BAD: u32 = 0x10000;
 
 pub const ABSENT: u32 = 0x20000;

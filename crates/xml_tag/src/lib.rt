@@ -11,8 +11,8 @@ use xml_names::{Span, name_end, name_starts};
 use xml_values::blanks_end;
 
 // A start tag: where its name stands, its attributes begin behind that. An end tag: the same, and the place behind it.
-// A comment: the place behind it. The text ends in the tag. A place at fault. (No Result: no step here passes a fault of
-// another on by `?`, and the one caller goes through all five cases.)
+// A comment: the place behind it. The text ends in the tag. A place at fault. (No Result: no step here passes on a fault
+// of another by `?`, and the one caller goes through all five cases.)
 #[derive(Clone, Copy)]
 pub enum Markup {
     Start(Span),

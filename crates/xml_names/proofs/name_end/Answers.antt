@@ -23,7 +23,7 @@ returns c =
     let text = args.text.now in
     let more =
     count_from_yields_List c.take_while.result _ c.count-more.ensures.ran
-    (YieldsList-from_take_while _ in_a_name (YieldsList-from_slice (rest text args.from) cc) c.take_while.ensures.closure
-    c.take_while.ensures.done (λ x b q k. search (rules, tests)))
+    (YieldsList-from_take_while _ in_a_name (YieldsList-from_slice (rest text args.from) cc)
+    c.take_while.ensures.closure c.take_while.ensures.done (λ x b q k. search (rules, tests)))
     ∙ length-prefix_len in_a_name (rest text args.from) ∙ ap (prefix_len in_a_name) (take_rest text args.from) in
     rw more (name_ends text args.from c.requires)

@@ -1,14 +1,10 @@
 use Rattle.std.specs.Option.{is_some, unwrap_or}
 use native.Mathlib.Omega.{arith}
 use Rattle.xml_reference.proofs.DigitLaws.{small, digit_on, digit_off, digits_end}
-use mathlib.Core.Path.{sym, refl, ap, ◌∙◌}
+use mathlib.Core.Path.{sym, ap, ◌∙◌}
 use Rattle.xml_front.specs.Fronts.{number_told}
 use borrow.Author.Rules.{rules}
 use Rattle.xml_reference.proofs.numeric_at.Goals as goal
-
--- the loop's start
-pub loop-at-init : goal.loop-at-init
-loop-at-init c = (search rules, search rules, refl)
 
 -- no digit: return numeric_end(b, value, at + 1)
 pub returns-in_default : goal.returns-in_default
@@ -41,4 +37,6 @@ pub returns : goal.returns
 returns c =
     let args = c.args in
     let loop = c.loop-at in
-    sym (loop.invariant.2 ∙ digits_end args.hex (is_some loop.value) (unwrap_or loop.value 0) loop.at args.text.now (search rules))
+    let over =
+    digits_end args.hex (is_some loop.value) (unwrap_or loop.value 0) loop.at args.text.now (search rules) in
+    sym (loop.invariant.2 ∙ over)

@@ -6,13 +6,15 @@ use Rattle.xml_reference.proofs.numeric_end.Goals as goal
 pub returns-in-Some : goal.returns-in-Some
 returns-in-Some c =
     let args = c.args in
-    rw c.in-Some.is (sym (end_some args.b c.in-Some.point args.size ∙ rw (rw c.xml_char.ensures at c.if-b-xml_char.true)))
+    let tested = rw c.xml_char.ensures at c.if-b-xml_char.true in
+    rw c.in-Some.is (sym (end_some args.b c.in-Some.point args.size ∙ rw tested))
 
 -- another byte, or a code point that XML forbids
 pub returns-in_default : goal.returns-in_default
 returns-in_default c =
     let args = c.args in
-    rw c.in-Some.is (sym (end_some args.b c.in-Some.point args.size ∙ rw (rw c.xml_char.ensures at c.if-b-xml_char.false)))
+    let tested = rw c.xml_char.ensures at c.if-b-xml_char.false in
+    rw c.in-Some.is (sym (end_some args.b c.in-Some.point args.size ∙ rw tested))
 
 -- no digits
 pub returns-in_default-2 : goal.returns-in_default-2
