@@ -1,7 +1,10 @@
 -- Tags out of their pieces, and items in front of any content.
-use Prim.Native.Nat.{ℕ}
+use Prim.Native.Nat.{ℕ, ◌/◌, ◌%◌, ◌<◌}
+use native.Mathlib.Omega.{arith}
 use mathlib.Core.Path.{◌≡◌, refl, sym, ap, ◌∙◌}
 use mathlib.Core.List.{List, [], ◌∷◌, ◌++◌, append_assoc}
+use lib.ListN.{get_or}
+use Rattle.xliff.specs.Desk.{hex_digit, hex_byte}
 use Rattle.xliff.specs.Item.{Content, Half, start, end, Form, form_P, form_S, Fields, isolated, pair, annotation_start, annotation_end}
 use Rattle.xliff.proofs.lists.Tests.{gather_append}
 use Rattle.draft.specs.declared.Draft.{Draft}
@@ -65,6 +68,16 @@ code_closed tag id x refs others u v w y =
     let b = unless_zero 'copyOf' x.copy_of in
     tag_end tag (append_assoc a b (refs ++ others)) (tag_more tag (a ++ b) (refs ++ others) u (attributes_then refs others v w)) y
 
--- four digits, one by one
-pub four_digits : {a b c d p q r s : ℕ} → a ≡ p → b ≡ q → c ≡ r → d ≡ s → a ∷ b ∷ c ∷ d ∷ [] ≡ p ∷ q ∷ r ∷ s ∷ []
-four_digits e f g h = cc
+-- the four hexadecimal digits of a number of at most 16 bits, by its two bytes
+module _ (c : ℕ) (small : c < 65536) (bytes : List ℕ) (are : bytes ≡ c / 256 % 256 ∷ c % 256 ∷ []) where
+  high : get_or bytes 0 0 ≡ c / 256
+  high = rw are (omega arith)
+
+  low : get_or bytes 1 0 ≡ c % 256
+  low = rw are
+
+  pub four_digits : {p q r s : ℕ} → p ≡ hex_digit (get_or bytes 0 0 / 16) → q ≡ hex_digit (get_or bytes 0 0 % 16)
+      → r ≡ hex_digit (get_or bytes 1 0 / 16) → s ≡ hex_digit (get_or bytes 1 0 % 16)
+      → p ∷ q ∷ r ∷ s ∷ [] ≡ hex_byte (c / 256) ++ hex_byte (c % 256)
+  unfolding hex_byte
+  four_digits e f g h = rw (e, f, g, h, high, low)

@@ -152,13 +152,13 @@ fn put_character(draft: &mut Draft, c: u32)
     requires { c < 65536 }
     ensures { Wrote (item_text (character c) []) draft.old draft.new }
 {
-    let high = c / 256;
-    let low = c % 256;
-    let first = lines::hex_digit((high / 16) as u8);
-    let second = lines::hex_digit((high % 16) as u8);
-    let third = lines::hex_digit((low / 16) as u8);
-    let fourth = lines::hex_digit((low % 16) as u8);
-    let digits = [first, second, third, fourth];
+    let [high, low] = (c as u16).to_be_bytes();
+    let digits = [
+        lines::hex_digit(high / 16),
+        lines::hex_digit(high % 16),
+        lines::hex_digit(low / 16),
+        lines::hex_digit(low % 16),
+    ];
     draft.put(b"<cp");
     xml_tags::put_attribute(draft, b"hex", &digits);
     draft.put(b"/>");

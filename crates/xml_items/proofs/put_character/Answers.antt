@@ -1,4 +1,3 @@
-use Rattle.xliff.specs.Desk.{hex_byte}
 use Rattle.draft.proofs.DraftLaws.{wrote_then}
 use Rattle.xml.specs.Words.{'cp', 'hex', codes}
 use Rattle.xml.specs.Write.{item_text, short_tag}
@@ -6,18 +5,10 @@ use Rattle.xml_tags.proofs.TagLaws.{value_as}
 use Rattle.xml_items.proofs.ItemLaws.{four_digits}
 use Rattle.xml_items.proofs.put_character.Goals as goal
 
--- draft.put(b"/>")
+-- the tag with its digits
 pub returns : goal.returns
-unfolding item_text short_tag hex_byte 'cp' 'hex' codes
+unfolding item_text short_tag 'cp' 'hex' codes
 returns c =
-    let put2 = c.put-2 in
-    let put-attribute = c.put_attribute in
-    let put = c.put in
-    let hex-digit4 = c.hex_digit-fourth in
-    let hex-digit3 = c.hex_digit-third in
-    let hex-digit2 = c.hex_digit-second in
-    let hex_digit = c.hex_digit-first in
-    wrote_then put.ensures
-    (wrote_then
-    (value_as 'hex' (four_digits hex_digit.ensures hex-digit2.ensures hex-digit3.ensures hex-digit4.ensures) put-attribute.ensures)
-    put2.ensures)
+    let digits = four_digits c.args.c c.requires c.to_be_bytes.result c.to_be_bytes.ensures c.hex_digit.ensures
+    c.hex_digit-2.ensures c.hex_digit-3.ensures c.hex_digit-4.ensures in
+    wrote_then c.put.ensures (wrote_then (value_as 'hex' digits c.put_attribute.ensures) c.put-2.ensures)
