@@ -1,14 +1,9 @@
 // Split: document 01, "Split (part, source cut, target cut, new id)", with 23 of document 02, order 2.
 #![tactic(auto)]
 
-ghost use Rattle.std.specs.Prelude.{◌≡◌, length};
-ghost use Rattle.std.proofs.Math.Option.{none};
-ghost use Rattle.xliff.specs.Check.{table_refusal, check};
-ghost use Rattle.xliff.specs.Focus.{focus};
-ghost use Rattle.xliff.specs.Parse.{unit};
+ghost use Rattle.std.specs.Prelude.{length};
 ghost use Rattle.xliff.specs.Split.{split};
-ghost use Rattle.answers.specs.Answers.{answer_meaning};
-ghost use Rattle.part_at.specs.Stands.{PartFound, CheckedPart};
+ghost use Rattle.part_at.specs.Stands.{CheckedPart};
 ghost use Rattle.outcomes.specs.Outcomes.{Answers};
 
 use answers::Answer;
@@ -48,50 +43,6 @@ fn split_there(
     Answer::Accepted(split_result::put_split(out, table, place, source_cut, target_cut, id))
 }
 
-fn split_found(
-    table: &[u8],
-    n: usize,
-    found: Option<PartPlace>,
-    source_cut: usize,
-    target_cut: usize,
-    id: u16,
-    out: &mut [u8],
-) -> Answer
-    requires { (table_refusal table.now ≡ none) × PartFound table.now (focus (unit table.now).parts n) found }
-    ensures { Answers (split table.now n source_cut target_cut id (length out.old)) result out.old out.new }
-{
-    match found {
-        Some(place) => split_there(table, n, place, source_cut, target_cut, id, out),
-        None => Answer::Refused(11, 0),
-    }
-}
-
-fn split_checked(
-    table: &[u8],
-    a: Answer,
-    n: usize,
-    source_cut: usize,
-    target_cut: usize,
-    id: u16,
-    out: &mut [u8],
-) -> Answer
-    requires { answer_meaning a ≡ check table.now }
-    ensures { Answers (split table.now n source_cut target_cut id (length out.old)) result out.old out.new }
-{
-    match a {
-        Answer::Accepted(_) => split_found(
-            table,
-            n,
-            part_at::part_at(table, n),
-            source_cut,
-            target_cut,
-            id,
-            out,
-        ),
-        Answer::Refused(k, at) => Answer::Refused(k, at),
-    }
-}
-
 // Accepted: the output's first bytes are the split table, the rest is unchanged. Refused: the whole output is
 // unchanged.
 pub fn split(
@@ -104,13 +55,15 @@ pub fn split(
 ) -> Answer
     ensures { Answers (split table.now part source_cut target_cut new_id (length out.old)) result out.old out.new }
 {
-    split_checked(
-        table,
-        table_check::check(table),
-        marks::wide(part),
-        marks::wide(source_cut),
-        marks::wide(target_cut),
-        new_id,
-        out,
-    )
+    let checked = table_check::check(table);
+    let Answer::Accepted(_) = checked else {
+        return checked;
+    };
+    let n = usize::from(part);
+    let Some(place) = part_at::part_at(table, n) else {
+        return Answer::Refused(11, 0);
+    };
+    let k = usize::from(source_cut);
+    let j = usize::from(target_cut);
+    split_there(table, n, place, k, j, new_id, out)
 }
