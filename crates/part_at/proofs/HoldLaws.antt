@@ -1,7 +1,8 @@
 -- The bytes of the contents of a part that stands in a table hold them.
-use mathlib.Core.Bool.{true, false}
+use mathlib.Core.Bool.{true, false, true≢false}
+use Rattle.std.specs.Prelude.{is_some}
 use Prim.Native.Nat.{ℕ, zero, suc, ◌+◌, ◌-◌, ◌≤◌}
-use mathlib.Core.Path.{◌≡◌, sym, refl}
+use mathlib.Core.Path.{◌≡◌, sym, refl, ap, ◌∙◌}
 use mathlib.Core.List.{List, [], ◌∷◌, ◌++◌}
 use native.Mathlib.Omega.{arith}
 use lib.ListN.{length, take, drop}
@@ -41,10 +42,10 @@ pub record TargetThere (t : List ℕ) (x : PartPlace) (g : Target) : Type 0 wher
   pub within : x.end ≤ length t
   pub holds : Holds (target_of t x) (target_items g)
 
-pub nothing_there : (t : List ℕ) (x : PartPlace) (g : Target) → TargetStands t x g → x.has_target ≡ false → target_items g ≡ []
+pub nothing_there : (t : List ℕ) (x : PartPlace) (g : Target) → TargetStands t x g → is_some x.order ≡ false → target_items g ≡ []
 unfolding target_items
 nothing_there t x no_target s z = refl
-nothing_there t x (target q xs) (f, o, hs, ts) z = absurd (let y : ◌≡◌ {A = ℕ} 0 1 = cc in let w : ⊥ = omega arith in w)
+nothing_there t x (target q xs) (o, hs, ts) z = absurd (true≢false (sym (ap is_some o) ∙ z))
 
 module _ (t : List ℕ) (h : Bytes t) (b : List Part) (p : Part) (a : List Part) (x : PartPlace) (s : PartStands t b p a x) where
   pub good_part : AllGood (content_records p.source ++ target_records p.target)
@@ -55,8 +56,8 @@ module _ (t : List ℕ) (h : Bytes t) (b : List Part) (p : Part) (a : List Part)
   holds_source = holds_slice t x.source x.target p.source h s.source (each_left (content_records p.source) (target_records p.target) good_part)
 
   target_order : (g : Target) → TargetStands t x g → x.target ≤ length t → (x.target ≤ x.end) × (x.end ≤ length t)
-  target_order no_target e k = (omega (arith, e.2), omega (arith, e.2))
-  target_order (target q xs) e k = (omega (arith, e.3.ordered), e.3.within)
+  target_order no_target e k = (omega (arith, e.1), omega (arith, e.1))
+  target_order (target q xs) e k = (omega (arith, e.2.ordered), e.2.within)
 
   pub target_ends : (x.target ≤ x.end) × (x.end ≤ length t)
   target_ends = target_order p.target s.target s.source.within
@@ -64,10 +65,10 @@ module _ (t : List ℕ) (h : Bytes t) (b : List Part) (p : Part) (a : List Part)
   good_target : AllGood (target_records p.target)
   good_target = each_right (content_records p.source) (target_records p.target) good_part
 
-  there : (g : Target) → TargetStands t x g → AllGood (target_records g) → x.has_target ≡ true → TargetThere t x g
+  there : (g : Target) → TargetStands t x g → AllGood (target_records g) → is_some x.order ≡ true → TargetThere t x g
   unfolding target_items target_records
-  there no_target (f, o, e) k z = absurd (let y : ◌≡◌ {A = ℕ} 0 1 = cc in let w : ⊥ = omega arith in w)
-  there (target q xs) (f, o, hs, ts) k z = record { ordered = ts.ordered; within = ts.within; holds = holds_slice t (x.target + 4) x.end xs h ts (good_rest k) }
+  there no_target (o, e) k z = absurd (true≢false (sym z ∙ ap is_some o))
+  there (target q xs) (o, hs, ts) k z = record { ordered = ts.ordered; within = ts.within; holds = holds_slice t (x.target + 4) x.end xs h ts (good_rest k) }
 
-  pub target_there : x.has_target ≡ true → TargetThere t x p.target
+  pub target_there : is_some x.order ≡ true → TargetThere t x p.target
   target_there z = there p.target s.target good_target z
