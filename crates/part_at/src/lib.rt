@@ -7,7 +7,8 @@ ghost use Rattle.xliff.specs.Focus.{focus};
 ghost use Rattle.places.specs.Passes.{Passes};
 ghost use Rattle.orders.specs.Heads.{order_of, order_in};
 ghost use Rattle.part_at.specs.Content.{is_in_content, is_content_read, ContentAt, ContentEnds};
-ghost use Rattle.part_at.specs.Stands.{TargetAt, TargetSpans, PartFrom, PartSpans, PartFound};
+ghost use Rattle.part_at.specs.Stands.{TargetAt, TargetSpans, PartFrom, PartSpans, PartFound, Standing};
+ghost use Rattle.part_at.specs.Lent.{SourceHeld, TargetHeld};
 ghost use Rattle.xliff.specs.Encode.{unit_records};
 
 use table::{Read, Record};
@@ -83,6 +84,31 @@ impl PartPlace {
     {
         self.order.is_some()
     }
+
+    // The content of its source.
+    pub fn source_of(self, t: &[u8]) -> &[u8]
+        requires { Standing t.now self }
+        ensures { SourceHeld t.now self result.now }
+    {
+        &t[self.source..self.target]
+    }
+
+    // The content of its target, empty without one.
+    pub fn target_of(self, t: &[u8]) -> &[u8]
+        requires { Standing t.now self }
+        ensures { TargetHeld t.now self result.now }
+    {
+        let start = if self.has_target() { self.target + marks::TARGET_WIDTH } else { self.end };
+        &t[start..self.end]
+    }
+}
+
+// Where a part is split, at an item of its source and one of its target, and the id of the second half.
+#[derive(Clone, Copy)]
+pub struct Cuts {
+    pub source: usize,
+    pub target: usize,
+    pub new_id: u16,
 }
 
 // The part with these offsets, its target or the next part at `target`.
