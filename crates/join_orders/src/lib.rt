@@ -32,12 +32,11 @@ fn highest_unused(t: &[u8], n: u16) -> u16
     requires { Passes t.now }
     ensures { result ≡ highest_unused n (orders (unit t.now).parts) }
 {
-    let mut k = n;
-    while 0 < k {
+    for passed in 0..n {
+        let k = n - passed;
         if !is_order(t, k) {
             return k;
         }
-        k -= 1;
     }
     0
 }
@@ -47,9 +46,11 @@ pub fn falls_above(t: &[u8], x: PartPlace, y: PartPlace) -> u16
     requires { Passes t.now }
     ensures { FallsAbove t.now x y result }
 {
-    if x.has_target & y.has_target {
-        return x.order;
+    match (x.order, y.order) {
+        (Some(first), Some(_)) => first,
+        _ => {
+            let n = orders::count_parts(t);
+            highest_unused(t, n as u16)
+        }
     }
-    let n = orders::count_parts(t);
-    highest_unused(t, n as u16)
 }

@@ -40,7 +40,7 @@ pub fn remove_target(table: &[u8], part: u16, out: &mut [u8]) -> Answer
     let Some(place) = part_at::part_at(table, usize::from(part)) else {
         return Answer::Refused(11, 0);
     };
-    if !place.has_target {
+    if !place.has_target() {
         return Answer::Refused(20, 0);
     }
     remove_ended(table, place, out)

@@ -49,10 +49,8 @@ fn old_records(t: &[u8], place: PartPlace) -> usize
     requires { Checked t.now place }
     ensures { OldRecordsAre t.now place result }
 {
-    if place.has_target {
-        let from = place.target + marks::TARGET_WIDTH;
-        let to = place.end;
-        return 1 + count_records(&t[from..to]);
+    if place.has_target() {
+        return 1 + count_records(place.target_of(t));
     }
     0
 }

@@ -1,13 +1,14 @@
 // Set target: document 01, "Set target (part, state, content)".
 #![tactic(auto)]
 
-ghost use Rattle.std.specs.Prelude.{◌≡◌, ◌≤◌, length};
+ghost use Rattle.std.specs.Prelude.{◌≡◌, length};
 ghost use Rattle.std.proofs.Math.Option.{none};
-ghost use Rattle.xliff.specs.Parse.{content_fault, most_bytes};
+ghost use Rattle.xliff.specs.Parse.{content_fault};
 ghost use Rattle.xliff.specs.SetTarget.{set_target};
 ghost use Rattle.outcomes.specs.Outcomes.{Answers};
+ghost use Rattle.part_at.specs.Stands.{Standing};
 ghost use Rattle.set_target.specs.Ending.{SetAt, Ended};
-ghost use Rattle.set_target.specs.Stages.{old_from, old_to, StateFits, Fitting};
+ghost use Rattle.set_target.specs.Stages.{OldHeld, StateFits, Fitting};
 
 use answers::Answer;
 use limits::MOST_BYTES;
@@ -37,27 +38,15 @@ fn set_ended(
     Answer::Refused(k, 0)
 }
 
-// Where the old content begins: the target's, without target the source's.
-fn old_from(place: PartPlace) -> usize
-    requires { place.target ≤ most_bytes }
-    ensures { result ≡ old_from place }
+// The old content: the target's, without target the source's.
+fn old_content(table: &[u8], place: PartPlace) -> &[u8]
+    requires { Standing table.now place }
+    ensures { OldHeld table.now place result.now }
 {
-    if place.has_target {
-        place.target + marks::TARGET_WIDTH
-    } else {
-        place.source
+    if place.has_target() {
+        return place.target_of(table);
     }
-}
-
-// And where it ends.
-fn old_to(place: PartPlace) -> usize
-    ensures { result ≡ old_to place }
-{
-    if place.has_target {
-        place.end
-    } else {
-        place.target
-    }
+    place.source_of(table)
 }
 
 // 18 and 19, then the rest.
@@ -72,12 +61,11 @@ fn set_content(
     requires { Fitting table.now n place state × (content_fault content.now ≡ none) }
     ensures { Answers (set_target table.now n state content.now (length out.old)) result out.old out.new }
 {
-    let from = old_from(place);
-    let to = old_to(place);
-    if codes::kept::is_lost(&table[from..to], content) {
+    let old = old_content(table, place);
+    if codes::kept::is_lost(old, content) {
         return Answer::Refused(18, 0);
     }
-    if codes::chains::differs(&table[from..to], content) {
+    if codes::chains::differs(old, content) {
         return Answer::Refused(19, 0);
     }
     let order = target_order::new_order(table, n, place);

@@ -10,7 +10,7 @@ ghost use Rattle.part_at.specs.Stands.{Standing};
 ghost use Rattle.draft.specs.Drafts.{Wrote};
 ghost use Rattle.sheet.specs.Sheet.{id_cells, sheet_bytes};
 ghost use Rattle.sheet_columns.specs.Filled.{SomeAhead};
-ghost use Rattle.sheet_rows.specs.Rows.{margin, HeadMargin, ReadMargin, goes_on, PutColumns, PutLater, PutContents, TargetFits, TargetStart, PutPart};
+ghost use Rattle.sheet_rows.specs.Rows.{margin, HeadMargin, ReadMargin, goes_on, PutColumns, PutLater, PutContents, PutPart};
 
 use draft::Draft;
 use part_at::PartPlace;
@@ -128,28 +128,13 @@ fn put_contents(out: &mut [u8], draft: Draft, source: &[u8], target: &[u8]) -> D
     put_later(out, first, source, target)
 }
 
-// Where the content of a part's target begins: at its end where it has none.
-fn target_start(place: PartPlace) -> usize
-    requires { TargetFits place }
-    ensures { TargetStart place result }
-{
-    if place.has_target {
-        return place.target + marks::TARGET_WIDTH;
-    }
-    place.end
-}
-
 // All rows of the part at `place`, which is number `n`.
 fn put_part(out: &mut [u8], draft: Draft, t: &[u8], n: usize, place: PartPlace) -> Draft
     requires { (draft.used ≤ length out.old) × Standing t.now place }
     ensures { PutPart t.now n place out.old draft out.new result }
 {
-    let from = place.source;
-    let to = place.target;
-    let start = target_start(place);
-    let end = place.end;
     let headed = put_read(out, draft, n, walker::known_at(t, place.head));
-    put_contents(out, headed, &t[from..to], &t[start..end])
+    put_contents(out, headed, place.source_of(t), place.target_of(t))
 }
 
 // The sheet of a table that passed the check.

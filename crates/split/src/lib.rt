@@ -7,29 +7,27 @@ ghost use Rattle.part_at.specs.Stands.{CheckedPart};
 ghost use Rattle.outcomes.specs.Outcomes.{Answers};
 
 use answers::Answer;
-use part_at::PartPlace;
+use part_at::{Cuts, PartPlace};
 
 // 12, 13, 23, 14, 15, then the bytes: every refusal is decided before the first store.
 fn split_there(
     table: &[u8],
     n: usize,
     place: PartPlace,
-    source_cut: usize,
-    target_cut: usize,
-    id: u16,
+    cuts: Cuts,
     out: &mut [u8],
 ) -> Answer
     requires { CheckedPart table.now n place }
-    ensures { Answers (split table.now n source_cut target_cut id (length out.old)) result out.old out.new }
+    ensures { Answers (split table.now n cuts.source cuts.target cuts.new_id (length out.old)) result out.old out.new }
 {
     if part_refusals::is_closed(table, place) {
         return Answer::Refused(12, 0);
     }
-    if split_limits::is_bad_cut(table, place, source_cut, target_cut) {
+    if split_limits::is_bad_cut(table, place, cuts) {
         return Answer::Refused(13, 0);
     }
-    let parted = accents::is_accent_parted(table, place, source_cut, target_cut);
-    let taken = part_refusals::is_taken(table, id);
+    let parted = accents::is_accent_parted(table, place, cuts);
+    let taken = part_refusals::is_taken(table, cuts.new_id);
     if parted {
         return Answer::Refused(23, 0);
     }
@@ -37,10 +35,10 @@ fn split_there(
         return Answer::Refused(14, 0);
     }
     let room = out.len();
-    if split_limits::is_too_large(table, n, place, source_cut, target_cut, id, room) {
+    if split_limits::is_too_large(table, n, place, cuts, room) {
         return Answer::Refused(15, 0);
     }
-    Answer::Accepted(split_result::put_split(out, table, place, source_cut, target_cut, id))
+    Answer::Accepted(split_result::put_split(out, table, place, cuts))
 }
 
 // Accepted: the output's first bytes are the split table, the rest is unchanged. Refused: the whole output is
@@ -63,7 +61,6 @@ pub fn split(
     let Some(place) = part_at::part_at(table, n) else {
         return Answer::Refused(11, 0);
     };
-    let k = usize::from(source_cut);
-    let j = usize::from(target_cut);
-    split_there(table, n, place, k, j, new_id, out)
+    let cuts = Cuts { source: usize::from(source_cut), target: usize::from(target_cut), new_id };
+    split_there(table, n, place, cuts, out)
 }

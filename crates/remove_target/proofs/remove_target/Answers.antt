@@ -1,4 +1,5 @@
-use mathlib.Core.Path.{sym, ◌∙◌, subst}
+use mathlib.Core.Bool.{not}
+use mathlib.Core.Path.{sym, ap, ◌∙◌, subst}
 use lib.ListN.{length}
 use Rattle.xliff.specs.Answer.{Outcome}
 use Rattle.xliff.specs.RemoveTarget.{remove_target}
@@ -34,8 +35,8 @@ returns-in_default-part_at c =
     (rw (c.in_default-part_at.is, c.from.ensures) at c.part_at.ensures))
 
 -- return Answer::Refused(20, 0)
-pub returns-then-not-place : goal.returns-then-not-place
-returns-then-not-place c =
+pub returns-then-not-has_target : goal.returns-then-not-has_target
+returns-then-not-has_target c =
     let args = c.args in
     let checked = c.check-checked in
     let table = args.table.now in
@@ -43,7 +44,7 @@ returns-then-not-place c =
     let (b, p, a, f, s) = rw (c.in-Some.is, c.from.ensures) at c.part_at.ensures in
     answers_refused _ 20 0 args.out.now
     (refused_20 table args.part (length args.out.now) passed b p a f
-    (lacks_is table c.in-Some.place p.target s.target ∙ c.if-not-place.true))
+    (lacks_is table c.in-Some.place p.target s.target ∙ ap not (sym c.has_target.ensures ∙ c.if-not-has_target.true)))
 
 -- remove_ended(table, place, out)
 pub remove_ended-requires : goal.remove_ended-requires
@@ -64,5 +65,5 @@ returns c =
     let (b, p, a, f, s) = rw (c.in-Some.is, c.from.ensures) at c.part_at.ensures in
     subst (λ (o : Outcome). Answers o ended.result out ended.new.out)
     (sym (ends table args.part (length out) passed b p a f
-    (lacks_is table c.in-Some.place p.target s.target ∙ c.if-not-place.false)))
+    (lacks_is table c.in-Some.place p.target s.target ∙ ap not (sym c.has_target.ensures ∙ c.if-not-has_target.false))))
     (ended.ensures b p a s)

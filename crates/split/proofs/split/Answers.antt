@@ -30,7 +30,7 @@ returns-in_default-part_at c =
     (no_part table args.part args.source_cut args.target_cut args.new_id (length args.out.now) passed
     (rw (c.in_default-part_at.is, c.from-n.ensures) at c.part_at.ensures))
 
--- split_there(table, n, place, k, j, new_id, out)
+-- split_there(table, n, place, cuts, out)
 pub split_there-requires : goal.split_there-requires
 split_there-requires c =
     let checked = c.check-checked in
