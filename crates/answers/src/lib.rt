@@ -11,20 +11,14 @@ pub enum Answer {
     Refused(u8, usize),
 }
 
-fn at_if(bad: bool, at: usize) -> Option<usize>
-    ensures { result ≡ cond bad (Some at) None }
-{
-    if bad { Some(at) } else { None }
-}
-
 // The lower place, if the record at `at` is at fault. It is made anew: a loop that hands it on copies no bytes between
 // its fields.
 pub fn lower_if(bad: bool, best: Option<usize>, at: usize) -> Option<usize>
     ensures { result ≡ cond bad (lower best at) best }
 {
     match best {
-        None => at_if(bad, at),
-        Some(a) => Some(if bad & (at < a) { at } else { a }),
+        None => bad.then_some(at),
+        Some(a) => Some(if bad { at.min(a) } else { a }),
     }
 }
 

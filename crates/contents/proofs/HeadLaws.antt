@@ -21,7 +21,7 @@ use Rattle.table.specs.Meaning.{record_meaning, body}
 use Rattle.table.specs.declared.Record.{Record}
 use Rattle.table.specs.declared.Record.TheVariants.{Unit as UnitStart, UnitEnd, Segment, Ignorable, Target, Text, Inline}
 use Rattle.glance.specs.declared.Glance.{Glance}
-use Rattle.glance.specs.Glances.{head_kind_in, marker_in}
+use Rattle.glance.specs.Glances.{kind_of, head_kind_in, marker_in}
 use Rattle.orders.proofs.WalkLaws.{Walked}
 use Rattle.sequences.proofs.GlanceLaws.{item_marked}
 use Rattle.contents.specs.Contents.{marker_offset, no_offset, barred_found, barred}
@@ -89,12 +89,12 @@ module _ (targets inside : Bool) where
 
   -- one record further
   pub barred_step : (t : List ℕ) (at : ℕ) (rs : List encode.Record) (g : Glance) (v : Walked t at rs g) (b after : Bool)
-      → b ≡ is_found g.head inside g.marker → after ≡ inside_after_head targets g.head inside
+      → b ≡ is_found (kind_of g.head) inside g.marker → after ≡ inside_after_head targets (kind_of g.head) inside
       → barred_found targets inside at rs ≡ cond b (at ∷ []) [] ++ barred_found targets after (at + g.width) v.step.others
   unfolding found
   barred_step t at rs g v b after e f =
       let x = v.step.first in
-      let k : g.head ≡ head_kind x = ap (λ (h : Glance). h.head) v.is ∙ head_in (body (drop at t)) v.the ∙ ap head_kind v.step.means in
+      let k : kind_of g.head ≡ head_kind x = ap (λ (h : Glance). kind_of h.head) v.is ∙ head_in (body (drop at t)) v.the ∙ ap head_kind v.step.means in
       let m : g.marker ≡ is_marked (item_in x) = ap (λ (h : Glance). h.marker) v.is ∙ marker_in_lem (body (drop at t)) v.the ∙ ap (λ (r : encode.Record). is_marked (item_in r)) v.step.means in
       ap (barred_found targets inside at) v.step.split
       ∙ ap₂ (λ (l : List ℕ) (p : Bool). l ++ barred_found targets p (at + length (record_bytes x)) v.step.others)

@@ -12,7 +12,7 @@ use Rattle.places.specs.Passes.{Passes}
 use Rattle.places.specs.Offsets.{At}
 use Rattle.places.proofs.Places.{at_start}
 use Rattle.glance.specs.declared.Glance.{Glance}
-use Rattle.glance.specs.Glances.{Glanced}
+use Rattle.glance.specs.Glances.{kind_of, Glanced}
 use Rattle.orders.proofs.WalkLaws.{Walked, walked}
 use Rattle.sequences.proofs.MarkLaws.{collected, counted}
 use Rattle.contents.specs.Contents.{barred_found, barred}
@@ -39,11 +39,11 @@ walk_start t targets out p h =
     }
 
 module _ {t : List ℕ} {targets inside : Bool} {out : List ℕ} {at m : ℕ} (walk : Walk t targets inside out at m) (g : Glance) {b : Bool} (l : at < length t)
-    (e : Glanced (drop at t) g) (f : b ≡ is_found g.head inside g.marker) where
+    (e : Glanced (drop at t) g) (f : b ≡ is_found (kind_of g.head) inside g.marker) where
   stands_on : Walked t at walk.left g
   stands_on = walked t at walk.left g walk.stands l e
 
-  next : (after : Bool) → after ≡ inside_after_head targets g.head inside
+  next : (after : Bool) → after ≡ inside_after_head targets (kind_of g.head) inside
       → barred_found targets inside at walk.left ≡ cond b (at ∷ []) [] ++ barred_found targets after (at + g.width) stands_on.step.others
   next after h = barred_step targets inside t at walk.left g stands_on b after f h
 
@@ -54,13 +54,13 @@ module _ {t : List ℕ} {targets inside : Bool} {out : List ℕ} {at m : ℕ} (w
   walk_room p =
       omega (
         arith,
-        ap length (next (inside_after_head targets g.head inside) refl),
-        length-append (cond b (at ∷ []) []) (barred_found targets (inside_after_head targets g.head inside) (at + g.width) stands_on.step.others),
+        ap length (next (inside_after_head targets (kind_of g.head) inside) refl),
+        length-append (cond b (at ∷ []) []) (barred_found targets (inside_after_head targets (kind_of g.head) inside) (at + g.width) stands_on.step.others),
         walk.count,
         barred_few targets t p,
       )
 
-  pub walk_on : {after : Bool} {out' : List ℕ} {m' : ℕ} → after ≡ inside_after_head targets g.head inside
+  pub walk_on : {after : Bool} {out' : List ℕ} {m' : ℕ} → after ≡ inside_after_head targets (kind_of g.head) inside
       → (take m' out' ≡ take m out ++ cond b (at ∷ []) []) × (m' ≡ length (cond b (at ∷ []) []) + m) × (length out' ≡ length out) → Walk t targets after out' (at + g.width) m'
   walk_on {after} h k =
       record {

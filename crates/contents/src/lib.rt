@@ -4,32 +4,37 @@
 ghost use Rattle.std.specs.Prelude.{◌≡◌, ◌<◌, ◌≤◌, length, take, drop, eqb};
 ghost use Rattle.xliff.specs.Parse.{read, most_bytes, most_records};
 ghost use Rattle.places.specs.Passes.{Passes};
+ghost use Rattle.glance.specs.Glances.{kind_of};
 ghost use Rattle.contents.specs.Heads.{head_kind, inside_after_head, is_found};
 ghost use Rattle.contents.specs.Contents.{barred, bar_key, bar_keys};
 
+use glance::Head;
+use sequences::MarkerRoom;
+
 // Whether what follows a record is of a content that is asked for.
-fn inside_after(targets: bool, head: u8, inside: bool) -> bool
-    ensures { result ≡ inside_after_head targets head inside }
+fn inside_after(targets: bool, head: Head, inside: bool) -> bool
+    ensures { result ≡ inside_after_head targets (kind_of head) inside }
 {
-    (head == 0) | (((head == 1) & targets) | ((head == 2) & inside))
+    head.is_part() | ((head.is_target() & targets) | (head.is_other() & inside))
 }
 
 // Whether a record is a head, or a marker of a content that is asked for.
-fn is_found(head: u8, inside: bool, marker: bool) -> bool
-    ensures { result ≡ is_found head inside marker }
+fn is_found(head: Head, inside: bool, marker: bool) -> bool
+    ensures { result ≡ is_found (kind_of head) inside marker }
 {
-    !(head == 2) | (inside & marker)
+    !head.is_other() | (inside & marker)
 }
 
 // The offsets of the heads (SG, IG, TG) and of the markers of source contents and, where `targets`, of target contents,
 // in table order.
-pub fn contents(t: &[u8], targets: bool, out: &mut [u16]) -> usize
+fn contents(t: &[u8], targets: bool, out: &mut [u16]) -> usize
     requires { Passes t.now × (length t.now ≤ most_bytes) × (length out.old ≡ most_records) }
     ensures { (take result out.new ≡ barred targets t.now) × (result ≤ most_records) × (length out.new ≡ most_records) }
 {
     let mut at: usize = 0;
     let mut inside = false;
     let mut m: usize = 0;
+    // the lent table is read record by record through the walker
     while at < t.len() {
         let g = walker::glance_at(t, at);
         m = sequences::put_if(is_found(g.head, inside, g.marker), out, m, at as u16);
@@ -43,10 +48,7 @@ pub fn contents(t: &[u8], targets: bool, out: &mut [u16]) -> usize
 fn is_target(s: &[u8]) -> bool
     ensures { result ≡ eqb (head_kind (read s.now)) 1 }
 {
-    if s.len() < marks::TARGET_WIDTH {
-        return false;
-    }
-    marks::marked_by(s, b"TG")
+    s.len() >= marks::TARGET_WIDTH && marks::marked_by(s, b"TG")
 }
 
 // The key of the record at an offset: 1 for TG, 0 for all but TG and markers, also where no record is.
@@ -63,11 +65,21 @@ fn bar_key(t: &[u8], at: usize) -> u32
 }
 
 // The keys of the heads and markers at some offsets, at the front of `out`.
-pub fn bar_keys(t: &[u8], markers: &[u16], out: &mut [u32])
+fn bar_keys(t: &[u8], markers: &[u16], out: &mut [u32])
     requires { length markers.now ≤ length out.old }
     ensures { (take (length markers.now) out.new ≡ bar_keys t.now markers.now) × (length out.new ≡ length out.old) }
 {
     for i in 0..markers.len() {
         out[i] = bar_key(t, marks::wide(markers[i]));
     }
+}
+
+// The heads and markers of the contents of a table.
+pub fn hold_contents(t: &[u8], targets: bool, room: &mut MarkerRoom)
+    requires { Passes t.now × (length t.now ≤ most_bytes) }
+    ensures { (take room.new.count room.new.markers ≡ barred targets t.now)
+        × (take room.new.count room.new.keys ≡ bar_keys t.now (take room.new.count room.new.markers)) }
+{
+    room.count = contents(t, targets, &mut room.markers);
+    bar_keys(t, &room.markers[..room.count], &mut room.keys);
 }

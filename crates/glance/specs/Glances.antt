@@ -1,5 +1,5 @@
 -- A glance at a record, and what it says of the record that the specification reads there.
-use Rattle.std.specs.Prelude.{ℕ, ◌≡◌, Bool, true, false, cond, List, [], ◌∷◌, length, leb}
+use Rattle.std.specs.Prelude.{ℕ, ◌≡◌, Bool, true, false, cond, List, [], ◌∷◌, length, eqb, leb, Option as RustOption, Some, None}
 use Rattle.xliff.specs.Encode.{record_bytes}
 use Rattle.xliff.specs.Bytes.{two_at}
 use Rattle.xliff.specs.Parse.{Mark, UN, UE, SG, IG, TG, TX, CP, MO, SM, MC, EM, code_size, annotation_start_size, annotation_end_size, size_of, read}
@@ -11,17 +11,27 @@ use Rattle.table.specs.declared.Record.{Record}
 use Rattle.table.specs.declared.Record.TheVariants.{Unit as UnitStart, UnitEnd, Segment, Ignorable, Target, Text, Inline}
 use Rattle.table.specs.declared.Read.{Read}
 use Rattle.table.specs.declared.Read.TheVariants.{Good, Ill, Broken}
+use Rattle.glance.specs.declared.Head.{Head}
+use Rattle.glance.specs.declared.Head.TheVariants.{Part, Target as TargetHead, Other}
 use Rattle.glance.specs.declared.Glance.{Glance}
 
+abbrev pub head_in : Record → Head
+head_in (UnitStart f) = Other
+head_in UnitEnd = Other
+head_in (Segment f) = Part
+head_in (Ignorable i) = Part
+head_in (Target q) = TargetHead q
+head_in Text = Other
+head_in (Inline i) = Other
+
 -- 0 for SG and IG, 1 for TG, 2 for all else
+abbrev pub kind_of : Head → ℕ
+kind_of Part = 0
+kind_of (TargetHead q) = 1
+kind_of Other = 2
+
 abbrev pub head_kind_in : Record → ℕ
-head_kind_in (UnitStart f) = 2
-head_kind_in UnitEnd = 2
-head_kind_in (Segment f) = 0
-head_kind_in (Ignorable i) = 0
-head_kind_in (Target q) = 1
-head_kind_in Text = 2
-head_kind_in (Inline i) = 2
+head_kind_in x = kind_of (head_in x)
 
 abbrev pub is_marker : Item → Bool
 is_marker (Character c) = false
@@ -41,17 +51,18 @@ marker_in Text = false
 marker_in (Inline i) = is_marker i
 
 -- the order that a TG sets
-abbrev pub order_number : Record → ℕ
-order_number (UnitStart f) = 0
-order_number UnitEnd = 0
-order_number (Segment f) = 0
-order_number (Ignorable i) = 0
-order_number (Target q) = q
-order_number Text = 0
-order_number (Inline i) = 0
+abbrev pub order_set : Head → RustOption ℕ
+order_set Part = None
+order_set (TargetHead q) = Some q
+order_set Other = None
+
+abbrev pub sets_order : ℕ → Head → Bool
+sets_order q Part = false
+sets_order q (TargetHead k) = eqb q k
+sets_order q Other = false
 
 abbrev pub glance_in : Record → ℕ → Glance
-glance_in x w = record { head = head_kind_in x; marker = marker_in x; order = order_number x; width = w }
+glance_in x w = record { head = head_in x; marker = marker_in x; width = w }
 
 -- a glance agrees with what the reader finds, where that is a good record
 pub data Agrees (g : Glance) : Read → Type 0 where
@@ -68,17 +79,17 @@ pub record Glanced (t : List ℕ) (g : Glance) : Type 0 where
 
 -- the code's cases
 abbrev pub part_glance : ℕ → Glance
-part_glance w = record { head = 0; marker = false; order = 0; width = w }
+part_glance w = record { head = Part; marker = false; width = w }
 
 abbrev pub item_glance : Bool → ℕ → Glance
-item_glance marker w = record { head = 2; marker = marker; order = 0; width = w }
+item_glance marker w = record { head = Other; marker = marker; width = w }
 
 abbrev pub text_glance : List ℕ → Glance
 text_glance t = item_glance false (cond (leb 4 (length t)) (size_of TX t) 0)
 
 abbrev pub target_glance : List ℕ → Glance
 target_glance t =
-    cond (leb (size_of TG t) (length t)) (record { head = 1; marker = false; order = two_at t 2; width = size_of TG t })
+    cond (leb (size_of TG t) (length t)) (record { head = TargetHead (two_at t 2); marker = false; width = size_of TG t })
     (item_glance false 0)
 
 -- what is no head and no text: of all that is left, only codes are good records

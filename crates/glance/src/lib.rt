@@ -1,16 +1,62 @@
 // A glance at a record of a table that was read before: what a walk over the records asks of it, by its mark alone.
 #![tactic(auto)]
 
-ghost use Rattle.std.specs.Prelude.{◌≡◌, ◌≤◌, length, drop};
+ghost use Rattle.std.specs.Prelude.{◌≡◌, ◌≤◌, length, drop, eqb};
 ghost use Rattle.xliff.specs.Parse.{mark_at};
-ghost use Rattle.glance.specs.Glances.{part_glance, item_glance, text_glance, target_glance, rest_glance, Glanced};
+ghost use Rattle.glance.specs.Glances.{kind_of, order_set, sets_order, part_glance, item_glance, text_glance, target_glance, rest_glance, Glanced};
 
-// 0 for SG and IG, 1 for TG, 2 for all else; whether it is a marker; the order that a TG sets; the width.
+// What a record heads: a part (SG and IG), a target, with the order that it sets (TG), or neither.
+#[derive(Clone, Copy, PartialEq, Eq)]
+pub enum Head {
+    Part,
+    Target(u16),
+    Other,
+}
+
+impl Head {
+    pub fn is_part(self) -> bool
+        ensures { result ≡ eqb (kind_of self) 0 }
+    {
+        matches!(self, Head::Part)
+    }
+
+    pub fn is_target(self) -> bool
+        ensures { result ≡ eqb (kind_of self) 1 }
+    {
+        matches!(self, Head::Target(_))
+    }
+
+    pub fn is_other(self) -> bool
+        ensures { result ≡ eqb (kind_of self) 2 }
+    {
+        matches!(self, Head::Other)
+    }
+
+    pub fn sets(self, q: u16) -> bool
+        ensures { result ≡ sets_order q self }
+    {
+        match self {
+            Head::Target(k) => q == k,
+            _ => false,
+        }
+    }
+
+    // The order that it sets. Above, whether it is of a TG that sets the order `q`.
+    pub fn order(self) -> Option<u16>
+        ensures { result ≡ order_set self }
+    {
+        match self {
+            Head::Target(q) => Some(q),
+            _ => None,
+        }
+    }
+}
+
+// What it heads, whether it is a marker, and its width.
 #[derive(Clone, Copy)]
 pub struct Glance {
-    pub head: u8,
+    pub head: Head,
     pub marker: bool,
-    pub order: u16,
     pub width: usize,
 }
 
@@ -18,9 +64,8 @@ fn part_glance(width: usize) -> Glance
     ensures { result ≡ part_glance width }
 {
     Glance {
-        head: 0,
+        head: Head::Part,
         marker: false,
-        order: 0,
         width: width,
     }
 }
@@ -29,9 +74,8 @@ fn item_glance(marker: bool, width: usize) -> Glance
     ensures { result ≡ item_glance marker width }
 {
     Glance {
-        head: 2,
+        head: Head::Other,
         marker: marker,
-        order: 0,
         width: width,
     }
 }
@@ -53,9 +97,8 @@ fn target_glance(t: &[u8]) -> Glance
         return item_glance(false, 0);
     }
     Glance {
-        head: 1,
+        head: Head::Target(marks::number_at(t, 2)),
         marker: false,
-        order: marks::number_at(t, 2),
         width: marks::TARGET_WIDTH,
     }
 }

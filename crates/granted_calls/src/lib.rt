@@ -11,22 +11,15 @@ ghost use Rattle.granted_parts.specs.Roles.{grant_of};
 ghost use Rattle.granted_calls.specs.Called.{call_granted};
 
 use answers::Answer;
-use granted_parts::Role;
+use granted_parts::{Grant, Role};
 use requests::Request;
 
 // 24, then the request `r` at the head of `s`.
-fn call_read(
-    role: Role,
-    positions: &[u8],
-    table: &[u8],
-    r: Request,
-    s: &[u8],
-    out: &mut [u8],
-) -> Answer
+fn call_read(grant: Grant, table: &[u8], r: Request, s: &[u8], out: &mut [u8]) -> Answer
     requires { (table_refusal table.now ≡ none) × (request_size r ≤ length s.now) }
-    ensures { Answers (call_granted (grant_of role positions.now) table.now s.now r (length out.old)) result out.old out.new }
+    ensures { Answers (call_granted (grant_of grant.entry.role grant.entry.positions.now) table.now s.now r (length out.old)) result out.old out.new }
 {
-    if !granted_requests::granted(role, positions, table, r) {
+    if !granted_requests::granted(grant, table, r) {
         return Answer::Refused(24, 0);
     }
     operations::perform(table, r, s, out)
@@ -54,5 +47,5 @@ pub fn granted_call(
     if requests::size_of(r) != request.len() {
         return Answer::Refused(2, 0);
     }
-    call_read(role, positions, table, r, request, out)
+    call_read(Grant { role, positions }, table, r, request, out)
 }

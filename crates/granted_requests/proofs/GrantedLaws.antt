@@ -5,17 +5,17 @@ use mathlib.Core.Bool.{Bool, true, false, ◌&&◌, ◌||◌}
 use mathlib.Core.List.{List, [], ◌∷◌}
 use mathlib.Core.Option.{Option, none, some}
 use lib.Dec.{eqb}
+use Rattle.std.specs.Prelude.{Option as RustOption, is_some, is_none}
 use Rattle.xliff.specs.Bytes.{'S', 'T', among}
 use Rattle.xliff.specs.Unit.{Part}
 use Rattle.xliff.specs.Rewrite.{Whole, side_sequence, find_whole}
 use Rattle.xliff.proofs.lists.Tests.{or_none}
-use Rattle.whole_pair.specs.declared.FoundPair.{FoundPair}
+use Rattle.whole_pair.specs.declared.WholePair.{WholePair}
 use Rattle.whole_pair.specs.Pairs.{pair_of}
 use Rattle.grants.specs.Grant.{Grant, is_whole, halves_within, whole_granted, rewrite_granted}
 use Rattle.granted_parts.specs.declared.Role.{Role}
 use Rattle.granted_parts.specs.declared.Role.TheVariants.{Reviewer}
 use Rattle.granted_parts.specs.Roles.{role_meaning}
-use Rattle.granted_requests.specs.Granted.{is_complete}
 
 -- a reviewer's is granted exactly if the whole is
 pub reviewer_granted : (r : Role) (whole : Bool) → r ≡ Reviewer → rewrite_granted (role_meaning r) whole ≡ whole
@@ -23,10 +23,10 @@ unfolding rewrite_granted
 reviewer_granted r whole e = ap (λ (x : Role). rewrite_granted (role_meaning x) whole) e
 
 -- a pair is found where there is one
-complete_is : (o : Option Whole) → is_complete (pair_of o) ≡ is_whole o
+found_is : (o : Option Whole) → is_some (pair_of o) ≡ is_whole o
 unfolding pair_of is_whole
-complete_is none = refl
-complete_is (some p) = refl
+found_is none = refl
+found_is (some p) = refl
 
 module _ (g : Grant) (ps : List Part) (side i : ℕ) where
   abbrev halves : Bool
@@ -42,17 +42,17 @@ module _ (g : Grant) (ps : List Part) (side i : ℕ) where
   by_side h =
       ap (λ (b : Bool). b && (is_whole (find_whole i (side_sequence side ps)) && halves)) (sides_are ∙ h)
 
-  module _ (h : eqb side 'S' || eqb side 'T' ≡ true) (found : FoundPair)
+  module _ (h : eqb side 'S' || eqb side 'T' ≡ true) (found : RustOption WholePair)
       (f : found ≡ pair_of (find_whole i (side_sequence side ps))) where
-    sided : whole_granted g ps side i ≡ is_complete found && halves
+    sided : whole_granted g ps side i ≡ is_some found && halves
     unfolding whole_granted
     sided =
-        let complete = ap is_complete f ∙ complete_is (find_whole i (side_sequence side ps)) in
+        let whole = ap is_some f ∙ found_is (find_whole i (side_sequence side ps)) in
         ap (λ (b : Bool). b && (is_whole (find_whole i (side_sequence side ps)) && halves)) (sides_are ∙ h)
-        ∙ ap (λ (b : Bool). b && halves) (sym complete)
+        ∙ ap (λ (b : Bool). b && halves) (sym whole)
 
-    pub by_missing : is_complete found ≡ false → whole_granted g ps side i ≡ false
+    pub by_missing : is_some found ≡ false → whole_granted g ps side i ≡ false
     by_missing k = sided ∙ ap (λ (b : Bool). b && halves) k
 
-    pub by_halves : is_complete found ≡ true → whole_granted g ps side i ≡ halves
+    pub by_halves : is_some found ≡ true → whole_granted g ps side i ≡ halves
     by_halves k = sided ∙ ap (λ (b : Bool). b && halves) k

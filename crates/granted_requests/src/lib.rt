@@ -7,19 +7,15 @@ ghost use Rattle.xliff.specs.Check.{table_refusal};
 ghost use Rattle.xliff.specs.Parse.{unit};
 ghost use Rattle.grants.specs.Grant.{is_engineer, whole_granted, rewrite_granted};
 ghost use Rattle.granted_parts.specs.Roles.{role_meaning, grant_of};
-ghost use Rattle.granted_requests.specs.Granted.{is_complete, GrantedIs};
+ghost use Rattle.granted_requests.specs.Granted.{GrantedIs};
 
 use granted_parts::{Grant, Role};
 use requests::Request;
-use whole_pair::FoundPair;
 
-fn is_complete(found: FoundPair) -> bool
-    ensures { result ≡ is_complete found }
+fn is_engineer(role: Role) -> bool
+    ensures { result ≡ is_engineer (role_meaning role) }
 {
-    match found {
-        FoundPair::Complete(_, _) => true,
-        FoundPair::Missing => false,
-    }
+    matches!(role, Role::Engineer)
 }
 
 // Whether the side has a complete pair or annotation of the id, both halves in granted parts.
@@ -31,7 +27,7 @@ fn whole_granted(grant: Grant, table: &[u8], side: u8, id: u16) -> bool
     if !((side == b'S') | (side == b'T')) {
         return false;
     }
-    if !is_complete(whole_pair::find(table, side, id)) {
+    if whole_pair::find(table, side, id).is_none() {
         return false;
     }
     granted_halves::halves_within(table, grant, side, id)
@@ -58,8 +54,10 @@ pub fn granted(grant: Grant, table: &[u8], r: Request) -> bool
     ensures { GrantedIs (grant_of grant.entry.role grant.entry.positions.now) table.now r result }
 {
     match r {
-        Request::Split(_, _, _, _) | Request::Join(_) => grant.role == Role::Engineer,
-        Request::SetTarget(part, _, _) | Request::RemoveTarget(part) => grant.has_part(usize::from(part)),
+        Request::Split(_, _, _, _) => is_engineer(grant.role),
+        Request::Join(_) => is_engineer(grant.role),
+        Request::SetTarget(part, _, _) => grant.has_part(usize::from(part)),
+        Request::RemoveTarget(part) => grant.has_part(usize::from(part)),
         Request::Rewrite(side, id, _) => rewrite_granted(grant, table, side, id),
     }
 }

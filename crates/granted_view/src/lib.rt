@@ -19,7 +19,7 @@ ghost use Rattle.granted_view.specs.Shown.{PutHead, PutPart};
 
 use answers::Answer;
 use draft::Draft;
-use granted_parts::Role;
+use granted_parts::{Grant, Role};
 use marks::SEGMENT_WIDTH;
 use part_at::PartPlace;
 
@@ -60,7 +60,7 @@ fn put_parts(out: &mut [u8], draft: Draft, t: &[u8], role: Role, positions: &[u8
     let mut n: usize = 1;
     while part_at::starts_part(t, at) {
         let place = part_at::part_from(t, at);
-        let inside = granted_parts::within(role, positions, n);
+        let inside = Grant { role, positions }.has_part(n);
         behind = put_part(out, behind, t, place, inside);
         at = place.end;
         n += 1;

@@ -49,10 +49,10 @@ unfoldable pub found_at : (ℕ → Item) → ℕ → Option Item
 found_at x zero = none
 found_at x (suc j) = some (x j)
 
-pub found_some : (x : ℕ → Item) (r : ℕ) → 0 < r → found_at x r ≡ some (x (r - 1))
+pub found_some : (x : ℕ → Item) (r j : ℕ) → r ≡ j + 1 → found_at x r ≡ some (x j)
 unfolding found_at
-found_some x zero h = absurd (omega arith)
-found_some x (suc j) h = ap (λ (k : ℕ). some (x k)) (let z : j ≡ suc j - 1 = omega arith in z)
+found_some x zero j h = absurd (omega (arith, h))
+found_some x (suc k) j h = ap (λ (n : ℕ). some (x n)) (let z : k ≡ j = omega (arith, h) in z)
 
 module _ (p : Item → Bool) (x : ℕ → Item) where
   -- the nearest one before

@@ -1,5 +1,5 @@
 -- The nearest other half of a marker, before and after it in its sequence, by the keys of the markers.
-use Rattle.std.specs.Prelude.{ℕ, zero, suc, ◌-◌, Bool, List, [], ◌∷◌, length, get_or}
+use Rattle.std.specs.Prelude.{ℕ, zero, suc, ◌+◌, ◌-◌, ◌<◌, ◌≡◌, Bool, List, [], ◌∷◌, Option, None, Some, length, get_or}
 use Rattle.xliff.specs.Item.{Item}
 use Rattle.places.specs.Markers.{item_at}
 use Rattle.keys.specs.Keys.{is_other_key}
@@ -16,6 +16,15 @@ half_after keys i = next (others keys i) (suc i) (length keys - suc i)
 -- the index of the nearest other half before i's, plus one; 0 where there is none
 unfoldable pub half_before : List ℕ → ℕ → ℕ
 half_before keys i = previous (others keys i) i
+
+-- the same as options: the index alone, where there is one
+abbrev pub ToldBefore : List ℕ → ℕ → Option ℕ → Type 0
+ToldBefore keys i None = half_before keys i ≡ 0
+ToldBefore keys i (Some j) = (half_before keys i ≡ j + 1) × (j < i)
+
+abbrev pub ToldAfter : List ℕ → ℕ → Option ℕ → Type 0
+ToldAfter keys i None = half_after keys i ≡ length keys
+ToldAfter keys i (Some j) = (half_after keys i ≡ j) × (i < j) × (j < length keys)
 
 -- the marker of an index
 abbrev pub marker_at : List ℕ → List ℕ → ℕ → Item

@@ -10,6 +10,14 @@ ghost use Rattle.keys.specs.Keys.{key, keys_at, alike_keys, is_other_key, id_key
 
 use views::View;
 
+// Markers of a table in sequence: their offsets, and their keys.
+#[derive(Clone, Copy)]
+pub struct Sequence<'a> {
+    pub markers: &'a [u16],
+    pub keys: &'a [u32],
+    pub ghost paired: { length keys.now ≡ length markers.now },
+}
+
 // What the mark of `t` says of the key: 8 times the class, twice the half, 1 for PO PC MO MC; 0 where it is no
 // marker's. First of annotations alone, then of all markers.
 fn annotation_low(t: &[u8]) -> u32
@@ -148,16 +156,13 @@ pub fn view_at(t: &[u8], at: usize, k: u32) -> View
 }
 
 // The keys of the items at some offsets, at the front of `out`.
-pub fn keys_at(t: &[u8], markers: &[u16], out: &mut [u32]) -> usize
+pub fn keys_at(t: &[u8], markers: &[u16], out: &mut [u32])
     requires { length markers.now ≤ length out.old }
-    ensures { (result ≡ length markers.now) × (take result out.new ≡ keys_at t.now markers.now) × (length out.new ≡ length out.old) }
+    ensures { (take (length markers.now) out.new ≡ keys_at t.now markers.now) × (length out.new ≡ length out.old) }
 {
-    let mut i: usize = 0;
-    while i < markers.len() {
+    for i in 0..markers.len() {
         out[i] = key_at(t, marks::wide(markers[i]));
-        i += 1;
     }
-    i
 }
 
 // The parts of a key: id, half, class and form.

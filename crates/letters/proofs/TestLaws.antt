@@ -1,5 +1,5 @@
 -- The tests of rule 8 on views are the specification's.
-use Prim.Native.Nat.{ℕ, suc, ◌+◌, ◌-◌, ◌<◌}
+use Prim.Native.Nat.{ℕ, suc, ◌+◌, ◌<◌}
 use mathlib.Core.Path.{◌≡◌, refl, sym, ap, ap₂, ◌∙◌}
 use mathlib.Core.Bool.{Bool, true, false, not, ◌&&◌, ◌||◌}
 use mathlib.Core.List.{List}
@@ -69,20 +69,20 @@ module _ (t markers : List ℕ) (i : ℕ) (v : View) (e : v ≡ view_of (marker_
   unfolding view_of
   no_end h = let k : eqb (class (marker_at t markers i)) 2 && eqb (half (marker_at t markers i)) 2 ≡ false = rw e at h in rw k
 
-  module _ (h : i < length markers) (r : ℕ) (f : r ≡ half_before (keys_at t markers) i) where
-    start_is : nearest (other_half (marker_at t markers i)) (earlier (marker_at t markers) i) ≡ found_at (marker_at t markers) r
-    start_is = nearest_previous (other_half (marker_at t markers i)) (marker_at t markers) i ∙ ap (found_at (marker_at t markers)) (sym (before_is t markers i h) ∙ sym f)
+  module _ (h : i < length markers) where
+    start_is : nearest (other_half (marker_at t markers i)) (earlier (marker_at t markers) i) ≡ found_at (marker_at t markers) (half_before (keys_at t markers) i)
+    start_is = nearest_previous (other_half (marker_at t markers i)) (marker_at t markers) i ∙ ap (found_at (marker_at t markers)) (sym (before_is t markers i h))
 
-    pub no_start : r ≡ 0 → false ≡ ill_end (earlier (marker_at t markers) i) (marker_at t markers i)
+    pub no_start : half_before (keys_at t markers) i ≡ 0 → false ≡ ill_end (earlier (marker_at t markers) i) (marker_at t markers i)
     unfolding ill_ended found_at
     no_start z = rw (start_is, z, and_false)
 
-    pub with_start : 0 < r → eqb v.class 2 && eqb v.half 2 ≡ true → (y : View) (m : Bool) → y ≡ view_of (marker_at t markers (r - 1)) → m ≡ ill_matched_views y v
-        → m ≡ ill_end (earlier (marker_at t markers) i) (marker_at t markers i)
+    pub with_start : (j : ℕ) → half_before (keys_at t markers) i ≡ j + 1 → eqb v.class 2 && eqb v.half 2 ≡ true → (y : View) (m : Bool) → y ≡ view_of (marker_at t markers j)
+        → m ≡ ill_matched_views y v → m ≡ ill_end (earlier (marker_at t markers) i) (marker_at t markers i)
     unfolding view_of
-    with_start z h y m q u =
+    with_start j z h y m q u =
         let k : eqb (class (marker_at t markers i)) 2 && eqb (half (marker_at t markers i)) 2 ≡ true = rw e at h in
         u ∙ ap (λ (x : View). ill_matched_views x v) q
-        ∙ ap (ill_matched_views (view_of (marker_at t markers (r - 1)))) e
-        ∙ matched_is (marker_at t markers i) (marker_at t markers (r - 1))
-        ∙ ap₂ (λ (b : Bool) (o : Option Item). b && ill_ended (marker_at t markers i) o) (sym k) (sym (start_is ∙ found_some (marker_at t markers) r z))
+        ∙ ap (ill_matched_views (view_of (marker_at t markers j))) e
+        ∙ matched_is (marker_at t markers i) (marker_at t markers j)
+        ∙ ap₂ (λ (b : Bool) (o : Option Item). b && ill_ended (marker_at t markers i) o) (sym k) (sym (start_is ∙ found_some (marker_at t markers) _ j z))

@@ -1,6 +1,5 @@
 // Rule 8: the letters of partners agree, and a fixed code is neither copied nor deleted.
-// Throughout, `t` is the table, `source_markers` and `target_markers` the offsets of the markers of the source and the
-// target sequence, `source_keys` and `target_keys` their keys.
+// Throughout, `t` is the table, `source` and `target` the markers of the source and the target sequence.
 #![tactic(auto)]
 
 ghost use Rattle.std.specs.Prelude.{◌≡◌, true, false, [], ◌-◌, ◌<◌, length};
@@ -12,9 +11,10 @@ ghost use Rattle.letters.specs.Eight.{bad_8, ill_end, end_letter_of, ill_matched
 ghost use Rattle.xliff.specs.Sequences.{blamed};
 ghost use Rattle.xliff.specs.Rules.{fault_8};
 ghost use Rattle.xliff.specs.Parse.{unit};
-ghost use Rattle.sequences.specs.Markers.{Markers};
+ghost use Rattle.sequences.specs.Markers.{Sequences};
 ghost use Rattle.places.specs.Markers.{placed_at};
 
+use keys::Sequence;
 use views::View;
 
 // canReorder of the end whose start has `c`: "N for F and else equal".
@@ -54,52 +54,44 @@ fn bad_alone(source: bool, led: bool, x: View) -> bool
 
 // Whether the marker at `i` is the end of a pair and does not match its start, the nearest other half before it.
 // Linear in the markers before `i`.
-fn ill_ended(t: &[u8], markers: &[u16], keys: &[u32], i: usize, x: View) -> bool
-    requires { (keys.now ≡ keys_at t.now markers.now) × (i < length markers.now) × (x ≡ view_of (marker_at t.now markers.now i)) }
-    ensures { result ≡ ill_end (earlier (marker_at t.now markers.now) i) (marker_at t.now markers.now i) }
+fn ill_ended(t: &[u8], s: Sequence, i: usize, x: View) -> bool
+    requires { (s.keys.now ≡ keys_at t.now s.markers.now) × (i < length s.markers.now) × (x ≡ view_of (marker_at t.now s.markers.now i)) }
+    ensures { result ≡ ill_end (earlier (marker_at t.now s.entry.markers.now) i) (marker_at t.now s.entry.markers.now i) }
 {
     if !((x.class == 2) & (x.half == 2)) {
         return false;
     }
-    let start = halves::half_before(keys, i);
-    if start == 0 {
+    let Some(start) = halves::half_before(s.keys, i) else {
         return false;
-    }
+    };
     ill_matched(
-        keys::view_at(t, marks::wide(markers[start - 1]), keys[start - 1]),
+        keys::view_at(t, marks::wide(s.markers[start]), s.keys[start]),
         x,
     )
 }
 
 // Rule 8 over the markers of a sequence, below `start`.
 // Quadratic in the markers: each end looks for its start among the keys before it.
-fn eight_in(t: &[u8], source: bool, markers: &[u16], keys: &[u32], start: Option<usize>) -> Option<usize>
-    requires { keys.now ≡ keys_at t.now markers.now }
-    ensures { refusal_at 8 result ≡ toward 8 start (blamed (bad_8 source) [] (placed_at t.now markers.now)) }
+fn eight_in(t: &[u8], source: bool, s: Sequence, start: Option<usize>) -> Option<usize>
+    requires { s.keys.now ≡ keys_at t.now s.markers.now }
+    ensures { refusal_at 8 result ≡ toward 8 start (blamed (bad_8 source) [] (placed_at t.now s.entry.markers.now)) }
 {
     let mut best = start;
     let mut led = false;
-    for i in 0..markers.len() {
-        let at = marks::wide(markers[i]);
-        let x = keys::view_at(t, at, keys[i]);
-        let bad = ill_ended(t, markers, keys, i, x) | bad_alone(source, led, x);
+    for i in 0..s.markers.len() {
+        let at = marks::wide(s.markers[i]);
+        let x = keys::view_at(t, at, s.keys[i]);
+        let bad = ill_ended(t, s, i, x) | bad_alone(source, led, x);
         best = answers::lower_if(bad, best, at);
         led = is_leading(x) | led;
     }
     best
 }
 
-// Rule 8, by the offsets and the keys of the markers of both sequences.
-pub fn rule_8(
-    t: &[u8],
-    source_markers: &[u16],
-    source_keys: &[u32],
-    target_markers: &[u16],
-    target_keys: &[u32],
-) -> Option<usize>
-    requires { Markers t.now source_markers.now source_keys.now target_markers.now target_keys.now }
+// Rule 8, by the markers of both sequences.
+pub fn rule_8(t: &[u8], source: Sequence, target: Sequence) -> Option<usize>
+    requires { Sequences t.now source target }
     ensures { refusal_at 8 result ≡ fault_8 (unit t.now).parts }
 {
-    let source = eight_in(t, true, source_markers, source_keys, None);
-    eight_in(t, false, target_markers, target_keys, source)
+    eight_in(t, false, target, eight_in(t, true, source, None))
 }

@@ -51,17 +51,11 @@ pub enum Mark {
     Unknown,
 }
 
-fn wide_byte(x: u8) -> u16
-    ensures { (result ≡ x) × (result < 256) }
-{
-    x as u16
-}
-
 // The number of two bytes, the high one first.
 fn two_bytes(high: u8, low: u8) -> u16
     ensures { (result ≡ high * 256 + low) × (low < 256) }
 {
-    wide_byte(high) * 256 + wide_byte(low)
+    u16::from_be_bytes([high, low])
 }
 
 // Whether `t` begins with the mark `m`. The two strings are compared as numbers: many such tests in a row become one
@@ -176,10 +170,10 @@ pub fn fixed_width(m: Mark) -> usize
 pub fn wide(x: u16) -> usize
     ensures { (result ≡ x) × (result < 65536) }
 {
-    x as usize
+    usize::from(x)
 }
 
-// The same back.
+// The same back. `u16::try_from` would give a `Result`, whose error cannot come.
 pub fn narrow(x: usize) -> u16
     requires { x < 65536 }
     ensures { result ≡ x }
@@ -191,7 +185,7 @@ pub fn narrow(x: usize) -> u16
 pub fn wide_to_u32(x: u16) -> u32
     ensures { (result ≡ x) × (result < 65536) }
 {
-    x as u32
+    u32::from(x)
 }
 
 // The two-byte number at `at`, high byte first.

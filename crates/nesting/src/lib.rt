@@ -13,6 +13,7 @@ ghost use Rattle.contents.specs.Contents.{barred, bar_keys, run};
 ghost use Rattle.contents.specs.Nesting.{meet_keys, all_met_keys, lone_p_Key};
 ghost use Rattle.nesting.specs.Scan.{steps_away, index_away, away, is_apart, depth_after_half, is_halfP};
 
+use keys::Sequence;
 use limits::MOST_RECORDS;
 
 // How many keys stand before the one at `i`, or after it, of `n`.
@@ -103,15 +104,16 @@ pub fn is_lone(keys: &[u32], i: usize, stack: &mut [u32]) -> bool
 // The first half of pc or mrk without partner, over all contents.
 // Work: for each half the steps to its partner, or to the end of its content: at most the square of the number of
 // markers.
-pub fn first_lone(t: &[u8], markers: &[u16], keys: &[u32]) -> Option<usize>
-    requires { Passes t.now × (markers.now ≡ barred true t.now) × (keys.now ≡ bar_keys t.now markers.now) × (length markers.now ≤ most_records) }
+pub fn first_lone(t: &[u8], bars: Sequence) -> Option<usize>
+    requires { Passes t.now × (bars.markers.now ≡ barred true t.now) × (bars.keys.now ≡ bar_keys t.now bars.markers.now)
+        × (length bars.markers.now ≤ most_records) }
     ensures { refusal_at 7 result ≡ first_of 7 (gather (blamed lone_P []) (placed_contents (located (unit t.now).parts))) }
 {
     let mut stack: [u32; MOST_RECORDS] = [0; MOST_RECORDS];
     let mut best = None;
-    for i in 0..markers.len() {
-        let lone = is_lone(keys, i, &mut stack);
-        best = answers::lower_if(lone, best, marks::wide(markers[i]));
+    for i in 0..bars.markers.len() {
+        let lone = is_lone(bars.keys, i, &mut stack);
+        best = answers::lower_if(lone, best, marks::wide(bars.markers[i]));
     }
     best
 }

@@ -27,7 +27,7 @@ use Rattle.table.specs.declared.Record.TheVariants.{Unit as UnitStart, UnitEnd, 
 use Rattle.table.specs.declared.Read.{Read}
 use Rattle.table.specs.declared.Read.TheVariants.{Good, Ill, Broken}
 use Rattle.glance.specs.declared.Glance.{Glance}
-use Rattle.glance.specs.Glances.{head_kind_in, order_number}
+use Rattle.glance.specs.Glances.{head_in, order_set}
 use Rattle.orders.specs.Heads.{order_in, order_of, order_by}
 use Rattle.std.specs.Prelude.{Some, None}
 use Rattle.orders.proofs.WalkLaws.{Stepped, Walked}
@@ -62,7 +62,7 @@ order_none cs (Good (Inline i) w) at qs e = refl
 order_none cs Ill at qs e = refl
 order_none cs (Broken b) at qs e = refl
 
-order_in_lem : (x : Record) → order_in x ≡ cond (eqb (head_kind_in x) 1) (Some (order_number x)) None
+order_in_lem : (x : Record) → order_in x ≡ order_set (head_in x)
 order_in_lem (UnitStart c) = refl
 order_in_lem UnitEnd = refl
 order_in_lem (Segment f) = refl

@@ -22,7 +22,7 @@ use Rattle.table.specs.declared.Read.TheVariants.{Good}
 use Rattle.table.specs.Known.{Known}
 use Rattle.table.proofs.ReadLaws.{known_same}
 use Rattle.glance.specs.declared.Glance.{Glance}
-use Rattle.glance.specs.Glances.{head_kind_in, glance_in, Agrees, on_good, on_ill, on_broken, Glanced}
+use Rattle.glance.specs.Glances.{kind_of, head_kind_in, glance_in, Agrees, on_good, on_ill, on_broken, Glanced}
 use Rattle.syntax.specs.Stages.{is_head, is_part_read}
 use Rattle.syntax.proofs.StepLaws.{part_same}
 
@@ -118,10 +118,10 @@ unfolding part_heads
 parts_on t at rs r s = ap part_heads s.split ∙ ap (λ (b : Bool). cond b 1 0 + part_heads s.others) (sym (part_same (body (drop at t)) r ∙ ap is_part s.means))
 
 pub parts_walked : (t : List ℕ) (at : ℕ) (rs : List encode.Record) (g : Glance) (v : Walked t at rs g)
-    → part_heads rs ≡ cond (eqb g.head 0) 1 0 + part_heads v.step.others
+    → part_heads rs ≡ cond (eqb (kind_of g.head) 0) 1 0 + part_heads v.step.others
 parts_walked t at rs g v =
     parts_on t at rs (Good v.the v.size) v.step
-    ∙ ap (λ (b : Bool). cond b 1 0 + part_heads v.step.others) (head_part v.the ∙ ap (λ (h : Glance). eqb h.head 0) (sym v.is))
+    ∙ ap (λ (b : Bool). cond b 1 0 + part_heads v.step.others) (head_part v.the ∙ ap (λ (h : Glance). eqb (kind_of h.head) 0) (sym v.is))
 
 pub parts_end : (t : List ℕ) (at n : ℕ) (rs : List encode.Record) → At t at rs → length t ≤ at → n + part_heads rs ≡ part_heads (unit_records (unit t)) → n ≡ length (unit t).parts
 unfolding part_heads

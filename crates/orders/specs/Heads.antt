@@ -1,5 +1,6 @@
 -- The order that a record sets, by the code's cases.
-use Rattle.std.specs.Prelude.{ℕ, cond, eqb, Option, Some, None}
+use Rattle.std.specs.Prelude.{ℕ, Option, Some, None}
+use Rattle.glance.specs.Glances.{order_set}
 use Rattle.glance.specs.declared.Glance.{Glance}
 use Rattle.table.specs.declared.Record.{Record}
 use Rattle.table.specs.declared.Record.TheVariants.{Unit as UnitStart, UnitEnd, Segment, Ignorable, Target, Text, Inline}
@@ -21,4 +22,4 @@ order_of Ill = None
 order_of (Broken b) = None
 
 abbrev pub order_by : Glance → Option ℕ
-order_by g = cond (eqb g.head 1) (Some g.order) None
+order_by g = order_set g.head

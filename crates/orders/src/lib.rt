@@ -1,23 +1,13 @@
 // The number of parts, and rule 5.
 #![tactic(auto)]
 
-ghost use Rattle.std.specs.Prelude.{◌≡◌, true, cond, ◌||◌, ◌+◌, ◌-◌, ◌<◌, ◌≤◌, length, get_or, eqb, ltb};
+ghost use Rattle.std.specs.Prelude.{◌≡◌, true, ◌||◌, ◌+◌, ◌-◌, ◌<◌, ◌≤◌, length, get_or, eqb, ltb};
 ghost use Rattle.answers.specs.Answers.{refusal_at};
 ghost use Rattle.xliff.specs.Parse.{unit, most_parts};
 ghost use Rattle.xliff.specs.Rules.{fault_5};
 ghost use Rattle.places.specs.Passes.{Passes};
-ghost use Rattle.orders.specs.Heads.{order_by};
 
-use glance::Glance;
-
-fn plus_if(b: bool, n: usize) -> usize
-    requires { n < 65536 }
-    ensures { result ≡ cond b 1 0 + n }
-{
-    if b { 1 + n } else { n }
-}
-
-// The number of parts.
+// The number of parts. Here and below the lent table is read record by record through the walker.
 pub fn count_parts(t: &[u8]) -> usize
     requires { Passes t.now }
     ensures { result ≡ length (unit t.now).parts }
@@ -26,20 +16,10 @@ pub fn count_parts(t: &[u8]) -> usize
     let mut n = 0;
     while at < t.len() {
         let g = walker::glance_at(t, at);
-        n = plus_if(g.head == 0, n);
+        n += usize::from(g.head.is_part());
         at += g.width;
     }
     n
-}
-
-// The order that a record sets.
-fn order_of(g: Glance) -> Option<u16>
-    ensures { result ≡ order_by g }
-{
-    if g.head == 1 {
-        return Some(g.order);
-    }
-    None
 }
 
 fn bad_order(n: usize, used: &[u8; 65], k: usize) -> bool
@@ -62,9 +42,9 @@ pub fn rule_5(t: &[u8], n: usize) -> Option<usize>
     while at < t.len() {
         let g = walker::glance_at(t, at);
         let w = g.width;
-        match order_of(g) {
+        match g.head.order() {
             Some(q) => {
-                let k = q as usize;
+                let k = usize::from(q);
                 if bad_order(n, &used, k) {
                     return Some(at);
                 }

@@ -12,7 +12,6 @@ use Rattle.xliff.specs.Sequences.{items}
 use Rattle.xliff.specs.Rules.{enclosed, stray, any_stray, bad_9}
 use Rattle.xliff.proofs.lists.Tests.{any_append, and_false}
 use Rattle.places.specs.Markers.{placed_at}
-use Rattle.views.specs.declared.View.{View}
 use Rattle.views.specs.Views.{view_of}
 use Rattle.keys.specs.Keys.{key, keys_at, class_key}
 use Rattle.keys.proofs.KeyLaws.{class_key_lem, half_key_lem}
@@ -105,22 +104,33 @@ module _ (t markers : List ℕ) (i : ℕ) (h : i < length markers) where
       (let z : suc i + (e - suc i) ≡ e = omega (arith, g, after_is t markers i h, next_low (λ k. other_half (marker_at t markers i) (marker_at t markers k)) (suc i) (length markers - suc i)) in z)
 
   -- the key tells that it is not the start of a pair
-  pub not_start : (before : Content) → is_pair_start (get_or (keys_at t markers) i 0) ≡ false → false ≡ bad_9 before (marker_at t markers i) (items (placed_at t (drop (suc i) markers)))
-  not_start before f = sym (bad_is before ∙ ap (λ (b : Bool). b && encloses) (closed_start_lem (marker_at t markers i) (ap is_pair_start (sym (key_at t markers i h)) ∙ f)))
+  pub not_start : (keys : List ℕ) → keys ≡ keys_at t markers → is_pair_start (get_or keys i 0) ≡ false → false ≡ closed_start (view_of (marker_at t markers i))
+  not_start keys k f =
+      sym
+      (closed_start_lem (marker_at t markers i)
+      (ap is_pair_start (sym (ap (λ (l : List ℕ). get_or l i 0) k ∙ key_at t markers i h)) ∙ f))
 
-  module _ (before : Content) (v : View) (q : v ≡ view_of (marker_at t markers i)) where
+  module _ (before : Content) where
     abbrev test : Bool
     test = bad_9 before (marker_at t markers i) (items (placed_at t (drop (suc i) markers)))
 
-    pub not_closed : closed_start v ≡ false → false ≡ test
-    not_closed f = sym (bad_is before ∙ ap (λ (b : Bool). b && encloses) (ap closed_start (sym q) ∙ f))
+    abbrev closed : Bool
+    closed = closed_start (view_of (marker_at t markers i))
+
+    pub not_closed : closed ≡ false → false ≡ test
+    not_closed f = sym (bad_is before ∙ ap (λ (b : Bool). b && encloses) f)
 
     pub no_end : length markers ≤ half_after (keys_at t markers) i → false ≡ test
-    no_end f = sym (bad_is before ∙ ap (λ (b : Bool). closed_start (view_of (marker_at t markers i)) && b) (no_stray f) ∙ and_false (closed_start (view_of (marker_at t markers i))))
+    no_end f = sym (bad_is before ∙ ap (λ (b : Bool). closed && b) (no_stray f) ∙ and_false closed)
 
-    pub with_end : closed_start v ≡ true → (e r : ℕ) → e ≡ half_after (keys_at t markers) i → e < length markers
-        → r ≡ next (stray_at (keys_at t markers) (i + 1) e) (i + 1) (e - (i + 1)) → ltb r e ≡ test
-    with_end c e r g l s = sym (bad_is before ∙ ap₂ ◌&&◌ (ap closed_start (sym q) ∙ c) (stray_inside e r g l s))
+    pub with_end : closed ≡ true → (keys : List ℕ) → keys ≡ keys_at t markers → (e : ℕ) → e ≡ half_after (keys_at t markers) i → e < length markers
+        → ltb (next (stray_at keys (i + 1) e) (i + 1) (e - (i + 1))) e ≡ test
+    with_end c keys k e g l =
+        sym
+        (bad_is before
+        ∙ ap₂ ◌&&◌ c
+        (stray_inside e (next (stray_at keys (i + 1) e) (i + 1) (e - (i + 1))) g l
+        (ap (λ (l : List ℕ). next (stray_at l (i + 1) e) (i + 1) (e - (i + 1))) k)))
 
 -- arrays that hold the nearest other halves: the end of a start, and the test of one marker
 pub end_there : (t markers keys starts ends : List ℕ) → keys ≡ keys_at t markers → Halves keys starts ends → (i e : ℕ) → i < length markers → e ≡ get_or ends i 0

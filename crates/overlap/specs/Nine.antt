@@ -1,11 +1,10 @@
 -- Rule 9 on keys.
-use Rattle.std.specs.Prelude.{ℕ, suc, ◌<◌, ◌≡◌, Bool, true, false, not, ◌&&◌, ◌||◌, List, [], eqb, ltb, length, get_or, drop, Option}
+use Rattle.std.specs.Prelude.{ℕ, ◌<◌, ◌≡◌, Bool, true, not, ◌&&◌, ◌||◌, List, [], eqb, ltb, length, get_or, Option}
 use Rattle.views.specs.declared.View.{View}
 use Rattle.keys.specs.Keys.{class_key, half_key}
-use Rattle.halves.specs.Nearest.{half_before, half_after, marker_at}
+use Rattle.halves.specs.Nearest.{half_before, half_after}
 use Rattle.answers.specs.Answers.{refusal_at, toward}
-use Rattle.xliff.specs.Item.{Content}
-use Rattle.xliff.specs.Sequences.{blamed, items}
+use Rattle.xliff.specs.Sequences.{blamed}
 use Rattle.xliff.specs.Rules.{bad_9}
 use Rattle.places.specs.Markers.{placed_at}
 
@@ -34,10 +33,6 @@ is_pair_start key = eqb (class_key key) 2 && eqb (half_key key) 1
 abbrev pub closed_start : View → Bool
 closed_start x = eqb x.class 2 && (eqb x.half 1 && eqb x.overlap 78)
 
--- where the test fails of a marker, rule 9 has nothing against it
-abbrev pub OpenAt : List ℕ → List ℕ → ℕ → Bool → Type 0
-OpenAt t markers i r = (before : Content) → r ≡ false → false ≡ bad_9 before (marker_at t markers i) (items (placed_at t (drop (suc i) markers)))
-
--- where it fails of all markers, rule 9 leaves any place as it is
+-- where no marker is the start of such a pair, rule 9 leaves any place as it is
 abbrev pub AllOpen : List ℕ → List ℕ → Bool → Type 0
 AllOpen t markers r = (p : Option ℕ) → r ≡ true → refusal_at 9 p ≡ toward 9 p (blamed bad_9 [] (placed_at t markers))

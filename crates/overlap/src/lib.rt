@@ -1,23 +1,57 @@
 // Rule 9: a pair with canOverlap N encloses neither an isolated code nor one half alone of another pair.
-// Throughout, `t` is the table, `source_markers` and `target_markers` the offsets of the markers of the source and the
-// target sequence, `source_keys` and `target_keys` their keys.
+// Throughout, `t` is the table, `source` and `target` the markers of the source and the target sequence.
 #![tactic(auto)]
 
-ghost use Rattle.std.specs.Prelude.{◌≡◌, true, [], suc, ◌+◌, ◌-◌, ◌<◌, ◌≤◌, length, drop};
+ghost use Rattle.std.specs.Prelude.{◌≡◌, true, [], suc, ◌+◌, ◌-◌, ◌<◌, ◌≤◌, length, drop, ltb};
 ghost use Rattle.answers.specs.Answers.{refusal_at, toward};
+ghost use Rattle.views.specs.Views.{view_of};
 ghost use Rattle.keys.specs.Keys.{keys_at};
 ghost use Rattle.halves.specs.Nearest.{half_before, half_after, marker_at, earlier};
 ghost use Rattle.id_links.specs.Nearest.{next};
 ghost use Rattle.id_links.specs.Links.{Linked, LinkedAfter};
-ghost use Rattle.overlap.specs.Nine.{Filled, Halves, stray_key, stray_at, is_pair_start, closed_start, OpenAt, AllOpen};
+ghost use Rattle.overlap.specs.Nine.{Filled, Halves, stray_key, stray_at, is_pair_start, closed_start, AllOpen};
 ghost use Rattle.xliff.specs.Sequences.{blamed, items};
 ghost use Rattle.xliff.specs.Rules.{bad_9, fault_9};
 ghost use Rattle.xliff.specs.Parse.{unit, most_records};
-ghost use Rattle.sequences.specs.Markers.{Markers};
+ghost use Rattle.sequences.specs.Markers.{Sequences};
 ghost use Rattle.places.specs.Markers.{placed_at};
 
+use keys::Sequence;
 use limits::MOST_RECORDS;
 use views::View;
+
+// Markers in sequence with the nearest other half of each: before it in `starts`, after it in `ends`.
+#[derive(Clone, Copy)]
+struct Halved<'a> {
+    sequence: Sequence<'a>,
+    starts: &'a [u16],
+    ends: &'a [u16],
+    ghost few: { length sequence.keys.now ≤ most_records },
+    ghost room: { (length starts.now ≡ most_records) × (length ends.now ≡ most_records) },
+    ghost halves: { Halves sequence.keys.now starts.now ends.now },
+}
+
+// The nearest other halves of the marker at `i`, as arrays of two-byte numbers hold them: that before as its index plus
+// one, or 0; that after as its index, or the number of markers.
+fn number_before(keys: &[u32], links: &[u16], i: usize) -> u16
+    requires { Linked keys.now links.now × (length keys.now ≤ most_records) × (length links.now ≡ most_records) × (i < length keys.now) }
+    ensures { result ≡ half_before keys.now i }
+{
+    match halves::linked_before(keys, links, i) {
+        Some(j) => (j + 1) as u16,
+        None => 0,
+    }
+}
+
+fn number_after(keys: &[u32], links: &[u16], i: usize) -> u16
+    requires { LinkedAfter keys.now links.now × (length keys.now ≤ most_records) × (length links.now ≡ most_records) × (i < length keys.now) }
+    ensures { result ≡ half_after keys.now i }
+{
+    match halves::linked_after(keys, links, i) {
+        Some(j) => j as u16,
+        None => keys.len() as u16,
+    }
+}
 
 // The nearest other half before each marker, of keys that are linked to those before them.
 // Linear in the markers where few of them are of one group, quadratic where all are.
@@ -26,7 +60,7 @@ fn fill_starts(keys: &[u32], links: &[u16], starts: &mut [u16])
     ensures { (length starts.new ≡ most_records) × Filled (half_before keys.now) (length keys.now) starts.new }
 {
     for i in 0..keys.len() {
-        starts[i] = halves::linked_before(keys, links, i) as u16;
+        starts[i] = number_before(keys, links, i);
     }
 }
 
@@ -37,7 +71,7 @@ fn fill_ends(keys: &[u32], links: &[u16], ends: &mut [u16])
     ensures { (length ends.new ≡ most_records) × Filled (half_after keys.now) (length keys.now) ends.new }
 {
     for i in 0..keys.len() {
-        ends[i] = halves::linked_after(keys, links, i) as u16;
+        ends[i] = number_after(keys, links, i);
     }
 }
 
@@ -64,27 +98,21 @@ fn is_stray(key: u32, first: usize, end: usize, before: usize, after: usize) -> 
     ((class == 3) | (class == 4)) | ((class == 2) & !((first < before) | (after < end)))
 }
 
-// The index of the first stray marker from `first` up to `end`, or the end.
-// Linear in the markers between them.
-fn first_stray(keys: &[u32], starts: &[u16], ends: &[u16], first: usize, end: usize) -> usize
-    requires { Halves keys.now starts.now ends.now × (length starts.now ≡ most_records) × (length ends.now ≡ most_records)
-        × (end ≤ length keys.now) × (length keys.now ≤ most_records) }
-    ensures { result ≡ next (stray_at keys.now first end) first (end - first) }
-{
-    let mut j = first;
-    while j < end {
-        if is_stray(
-            keys[j],
-            first,
-            end,
-            marks::wide(starts[j]),
-            marks::wide(ends[j]),
-        ) {
-            return j;
+impl Halved<'_> {
+    // Whether a marker from `first` on and before `end` is stray. Linear in the markers between them.
+    fn has_stray(self, first: usize, end: usize) -> bool
+        requires { end < length self.sequence.keys.now }
+        ensures { result ≡ ltb (next (stray_at self.entry.sequence.keys.now first end) first (end - first)) end }
+    {
+        for j in first..end {
+            let before = marks::wide(self.starts[j]);
+            let after = marks::wide(self.ends[j]);
+            if is_stray(self.sequence.keys[j], first, end, before, after) {
+                return true;
+            }
         }
-        j += 1;
+        false
     }
-    j
 }
 
 // The start of a pair, by its key.
@@ -101,74 +129,54 @@ fn is_closed_start(x: View) -> bool
     (x.class == 2) & ((x.half == 1) & (x.overlap == b'N'))
 }
 
-// Rule 9 of the marker at `i`. The table is read only at the start of a pair.
-// Linear in the markers that it encloses.
-fn encloses_stray(
-    t: &[u8],
-    markers: &[u16],
-    keys: &[u32],
-    starts: &[u16],
-    ends: &[u16],
-    i: usize,
-) -> bool
-    requires { (keys.now ≡ keys_at t.now markers.now) × (length markers.now ≤ most_records) × Halves keys.now starts.now ends.now
-        × (length starts.now ≡ most_records) × (length ends.now ≡ most_records) × (i < length markers.now) }
-    ensures { result ≡ bad_9 (earlier (marker_at t.now markers.now) i) (marker_at t.now markers.now i)
-        (items (placed_at t.now (drop (suc i) markers.now))) }
+// Whether the marker at `i` is the start of a pair with canOverlap N. The table is read only at the start of a pair.
+fn is_closed(t: &[u8], s: Sequence, i: usize) -> bool
+    requires { (s.keys.now ≡ keys_at t.now s.markers.now) × (i < length s.markers.now) }
+    ensures { result ≡ closed_start (view_of (marker_at t.now s.entry.markers.now i)) }
 {
-    if !is_pair_start(keys[i]) {
+    if !is_pair_start(s.keys[i]) {
         return false;
     }
-    if !is_closed_start(keys::view_at(t, marks::wide(markers[i]), keys[i])) {
-        return false;
-    }
-    let end = marks::wide(ends[i]);
-    if markers.len() <= end {
-        return false;
-    }
-    first_stray(keys, starts, ends, i + 1, end) < end
+    is_closed_start(keys::view_at(t, marks::wide(s.markers[i]), s.keys[i]))
 }
 
-// Rule 9 over the markers of a sequence with these nearest other halves, below `start`.
+// Rule 9 of the marker at `i`. Linear in the markers that it encloses.
+fn encloses_stray(t: &[u8], h: Halved, i: usize) -> bool
+    requires { (h.sequence.keys.now ≡ keys_at t.now h.sequence.markers.now) × (i < length h.sequence.markers.now) }
+    ensures { result ≡ bad_9 (earlier (marker_at t.now h.entry.sequence.markers.now) i) (marker_at t.now h.entry.sequence.markers.now i)
+        (items (placed_at t.now (drop (suc i) h.entry.sequence.markers.now))) }
+{
+    if !is_closed(t, h.sequence, i) {
+        return false;
+    }
+    let end = marks::wide(h.ends[i]);
+    if h.sequence.markers.len() <= end {
+        return false;
+    }
+    h.has_stray(i + 1, end)
+}
+
+// Rule 9 over the markers of a sequence, below `start`.
 // Quadratic in the markers: each start looks at those that it encloses.
-fn overlapping(
-    t: &[u8],
-    markers: &[u16],
-    keys: &[u32],
-    starts: &[u16],
-    ends: &[u16],
-    start: Option<usize>,
-) -> Option<usize>
-    requires { (keys.now ≡ keys_at t.now markers.now) × (length markers.now ≤ most_records) × Halves keys.now starts.now ends.now
-        × (length starts.now ≡ most_records) × (length ends.now ≡ most_records) }
-    ensures { refusal_at 9 result ≡ toward 9 start (blamed bad_9 [] (placed_at t.now markers.now)) }
+fn overlapping(t: &[u8], h: Halved, start: Option<usize>) -> Option<usize>
+    requires { h.sequence.keys.now ≡ keys_at t.now h.sequence.markers.now }
+    ensures { refusal_at 9 result ≡ toward 9 start (blamed bad_9 [] (placed_at t.now h.entry.sequence.markers.now)) }
 {
     let mut best = start;
-    for i in 0..markers.len() {
-        let bad = encloses_stray(t, markers, keys, starts, ends, i);
-        best = answers::lower_if(bad, best, marks::wide(markers[i]));
+    for i in 0..h.sequence.markers.len() {
+        let bad = encloses_stray(t, h, i);
+        best = answers::lower_if(bad, best, marks::wide(h.sequence.markers[i]));
     }
     best
 }
 
-// Whether the marker at `i` is the start of a pair with canOverlap N.
-fn is_closed(t: &[u8], markers: &[u16], keys: &[u32], i: usize) -> bool
-    requires { (keys.now ≡ keys_at t.now markers.now) × (i < length markers.now) }
-    ensures { OpenAt t.now markers.now i result }
-{
-    if !is_pair_start(keys[i]) {
-        return false;
-    }
-    is_closed_start(keys::view_at(t, marks::wide(markers[i]), keys[i]))
-}
-
 // Whether no marker is the start of a pair with canOverlap N. Linear.
-fn all_open(t: &[u8], markers: &[u16], keys: &[u32]) -> bool
-    requires { keys.now ≡ keys_at t.now markers.now }
-    ensures { AllOpen t.now markers.now result }
+fn all_open(t: &[u8], s: Sequence) -> bool
+    requires { s.keys.now ≡ keys_at t.now s.markers.now }
+    ensures { AllOpen t.now s.entry.markers.now result }
 {
-    for i in 0..markers.len() {
-        if is_closed(t, markers, keys, i) {
+    for i in 0..s.markers.len() {
+        if is_closed(t, s, i) {
             return false;
         }
     }
@@ -177,42 +185,36 @@ fn all_open(t: &[u8], markers: &[u16], keys: &[u32]) -> bool
 
 // Rule 9 over the markers of a sequence, below `start`. Where no pair is closed, other halves are not looked for.
 // Quadratic in the markers: `overlapping`.
-fn nine_in(t: &[u8], markers: &[u16], keys: &[u32], start: Option<usize>) -> Option<usize>
-    requires { (keys.now ≡ keys_at t.now markers.now) × (length markers.now ≤ most_records) }
-    ensures { refusal_at 9 result ≡ toward 9 start (blamed bad_9 [] (placed_at t.now markers.now)) }
+fn nine_in(t: &[u8], s: Sequence, start: Option<usize>) -> Option<usize>
+    requires { (s.keys.now ≡ keys_at t.now s.markers.now) × (length s.markers.now ≤ most_records) }
+    ensures { refusal_at 9 result ≡ toward 9 start (blamed bad_9 [] (placed_at t.now s.entry.markers.now)) }
 {
-    if all_open(t, markers, keys) {
+    if all_open(t, s) {
         return start;
     }
-    nine_by_halves(t, markers, keys, start)
+    nine_by_halves(t, s, start)
 }
 
 // The same with the nearest other halves of all markers.
-fn nine_by_halves(t: &[u8], markers: &[u16], keys: &[u32], start: Option<usize>) -> Option<usize>
-    requires { (keys.now ≡ keys_at t.now markers.now) × (length markers.now ≤ most_records) }
-    ensures { refusal_at 9 result ≡ toward 9 start (blamed bad_9 [] (placed_at t.now markers.now)) }
+fn nine_by_halves(t: &[u8], s: Sequence, start: Option<usize>) -> Option<usize>
+    requires { (s.keys.now ≡ keys_at t.now s.markers.now) × (length s.markers.now ≤ most_records) }
+    ensures { refusal_at 9 result ≡ toward 9 start (blamed bad_9 [] (placed_at t.now s.entry.markers.now)) }
 {
     let mut starts = [0u16; MOST_RECORDS];
     let mut ends = [0u16; MOST_RECORDS];
-    fill(keys, &mut starts, &mut ends);
-    overlapping(t, markers, keys, &starts, &ends, start)
+    fill(s.keys, &mut starts, &mut ends);
+    let h = Halved {
+        sequence: s,
+        starts: &starts,
+        ends: &ends,
+    };
+    overlapping(t, h, start)
 }
 
-// Rule 9, by the offsets and the keys of the markers of both sequences.
-pub fn rule_9(
-    t: &[u8],
-    source_markers: &[u16],
-    source_keys: &[u32],
-    target_markers: &[u16],
-    target_keys: &[u32],
-) -> Option<usize>
-    requires { Markers t.now source_markers.now source_keys.now target_markers.now target_keys.now }
+// Rule 9, by the markers of both sequences.
+pub fn rule_9(t: &[u8], source: Sequence, target: Sequence) -> Option<usize>
+    requires { Sequences t.now source target }
     ensures { refusal_at 9 result ≡ fault_9 (unit t.now).parts }
 {
-    nine_in(
-        t,
-        target_markers,
-        target_keys,
-        nine_in(t, source_markers, source_keys, None),
-    )
+    nine_in(t, target, nine_in(t, source, None))
 }

@@ -1,4 +1,5 @@
 pub mod ScanLaws
+pub mod Found
 pub mod KeyTests
 pub mod WaitingLaws
 pub mod BarLaws

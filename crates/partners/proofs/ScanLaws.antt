@@ -1,5 +1,5 @@
 -- The loops over keys, one key further.
-use Prim.Native.Nat.{ℕ, suc, ◌+◌, ◌-◌, ◌≤◌, ◌<◌}
+use Prim.Native.Nat.{ℕ, suc, ◌+◌, ◌≤◌, ◌<◌}
 use mathlib.Core.Path.{◌≡◌, refl, sym, ap, ap₂, ◌∙◌}
 use mathlib.Core.Bool.{Bool, true, false, not, ◌&&◌, ◌||◌, cond, true≢false, false≢true}
 use mathlib.Core.List.{List, [], ◌∷◌, reverse, reverse-append}
@@ -12,8 +12,7 @@ use Rattle.xliff.specs.Sequences.{first_of, least}
 use Rattle.xliff.proofs.lists.Tests.{any_append, or_none, or_left, or_right}
 use Rattle.answers.specs.Answers.{refusal_at, lower, toward}
 use Rattle.std.specs.Prelude.{Option, None, Some}
-use Rattle.keys.specs.Keys.{half_key, form_key, alike_keys, is_other_key}
-use Rattle.contents.specs.Contents.{is_bar, targeted}
+use Rattle.keys.specs.Keys.{half_key, form_key}
 use Rattle.partners.specs.Partners.{partner_s_Key, lone_s_Key, some_key, lone_among_keys, blamed_keys}
 use Rattle.answers.proofs.Places.{toward_if}
 
@@ -26,37 +25,6 @@ key_before keys i h =
     ap (λ (n : ℕ). reverse (take n keys)) (let z : i + 1 ≡ suc i = omega arith in z)
     ∙ ap reverse (take-suc keys i 0 h)
     ∙ reverse-append (take i keys) (get_or keys i 0 ∷ [])
-
--- the nearest of the marks of start and end alike to a key, after an index and before it
-module _ (k : ℕ) (keys : List ℕ) where
-  pub after_met : (i : ℕ) → i < length keys → alike_keys k (get_or keys i 0) && not (form_key (get_or keys i 0)) ≡ true → partner_s_Key k (drop i keys) ≡ is_other_key k (get_or keys i 0)
-  unfolding partner_s_Key
-  after_met i h e = ap (partner_s_Key k) (next_key keys i h) ∙ rw e
-
-  pub after_passed : (i : ℕ) → i < length keys → alike_keys k (get_or keys i 0) && not (form_key (get_or keys i 0)) ≡ false → partner_s_Key k (drop i keys) ≡ partner_s_Key k (drop (i + 1) keys)
-  unfolding partner_s_Key
-  after_passed i h e = ap (partner_s_Key k) (next_key keys i h) ∙ rw e
-
-  pub after_none : (i : ℕ) → length keys ≤ i → partner_s_Key k (drop i keys) ≡ false
-  unfolding partner_s_Key
-  after_none i h = rw (drop_of_length-le keys h)
-
-  last_first : (n : ℕ) → 0 < n → n ≤ length keys → reverse (take n keys) ≡ get_or keys (n - 1) 0 ∷ reverse (take (n - 1) keys)
-  last_first n p h = ap (λ (m : ℕ). reverse (take m keys)) (let z : n ≡ n - 1 + 1 = omega arith in z) ∙ key_before keys (n - 1) (omega arith)
-
-  pub before_met : (n : ℕ) → 0 < n → n ≤ length keys → alike_keys k (get_or keys (n - 1) 0) && not (form_key (get_or keys (n - 1) 0)) ≡ true
-      → partner_s_Key k (reverse (take n keys)) ≡ is_other_key k (get_or keys (n - 1) 0)
-  unfolding partner_s_Key
-  before_met n p h e = ap (partner_s_Key k) (last_first n p h) ∙ rw e
-
-  pub before_passed : (n : ℕ) → 0 < n → n ≤ length keys → alike_keys k (get_or keys (n - 1) 0) && not (form_key (get_or keys (n - 1) 0)) ≡ false
-      → partner_s_Key k (reverse (take n keys)) ≡ partner_s_Key k (reverse (take (n - 1) keys))
-  unfolding partner_s_Key
-  before_passed n p h e = ap (partner_s_Key k) (last_first n p h) ∙ rw e
-
-  pub before_none : (n : ℕ) → n ≤ 0 → partner_s_Key k (reverse (take n keys)) ≡ false
-  unfolding partner_s_Key
-  before_none n h = ap (λ (m : ℕ). partner_s_Key k (reverse (take m keys))) (let z : n ≡ 0 = omega arith in z)
 
 -- a key that is no half with the mark of a start or an end; a start; an end
 module _ (before : List ℕ) (k : ℕ) (after : List ℕ) where
@@ -84,20 +52,6 @@ module _ (before : List ℕ) (k : ℕ) (after : List ℕ) where
   pub lone_end : eqb (half_key k) 0 || form_key k ≡ false → eqb (half_key k) 1 ≡ false → lone_s_Key before k after ≡ not (partner_s_Key k before)
   lone_end e f = lone_looks e ∙ ap (λ (b : Bool). not (partner_s_Key k (cond b after before))) f
 
--- some key from an index on passes a test
-module _ (p : ℕ → Bool) (keys : List ℕ) (i : ℕ) where
-  pub any_on : i < length keys → p (get_or keys i 0) ≡ true → any p (drop i keys) ≡ true
-  unfolding any
-  any_on h e = ap (any p) (next_key keys i h) ∙ rw e
-
-  pub any_off : i < length keys → p (get_or keys i 0) ≡ false → any p (drop i keys) ≡ any p (drop (i + 1) keys)
-  unfolding any
-  any_off h e = ap (any p) (next_key keys i h) ∙ rw e
-
-  pub any_end : length keys ≤ i → any p (drop i keys) ≡ false
-  unfolding any
-  any_end h = rw (drop_of_length-le keys h)
-
 or_swap : (a b : Bool) → a || b ≡ b || a
 or_swap true true = refl
 or_swap true false = refl
@@ -113,23 +67,9 @@ any_reverse p (k ∷ keys) =
     ∙ ap₂ ◌||◌ (any_reverse p keys) (or_none (p k))
     ∙ or_swap (any p keys) (p k)
 
--- the next bar is a TG
-module _ (keys : List ℕ) (i : ℕ) where
-  pub targeted_on : i < length keys → is_bar (get_or keys i 0) ≡ true → targeted (drop i keys) ≡ eqb (get_or keys i 0) 1
-  unfolding targeted
-  targeted_on h e = ap targeted (next_key keys i h) ∙ rw e
-
-  pub targeted_off : i < length keys → is_bar (get_or keys i 0) ≡ false → targeted (drop i keys) ≡ targeted (drop (i + 1) keys)
-  unfolding targeted
-  targeted_off h e = ap targeted (next_key keys i h) ∙ rw e
-
-  pub targeted_end : length keys ≤ i → targeted (drop i keys) ≡ false
-  unfolding targeted
-  targeted_end h = rw (drop_of_length-le keys h)
-
 -- a key that waits for x
 module _ (p : List ℕ → ℕ → List ℕ → Bool) (keys : List ℕ) (i : ℕ) where
-  some_first : i < length keys
+  pub some_first : i < length keys
       → some_key p (reverse (take i keys)) (drop i keys)
       ≡ p (reverse (take i keys)) (get_or keys i 0) (drop (i + 1) keys) || some_key p (reverse (take (i + 1) keys)) (drop (i + 1) keys)
   unfolding some_key

@@ -1,14 +1,12 @@
 -- Rule 7 whole.
-use Prim.Native.Nat.{ℕ, ◌≤◌}
+use Prim.Native.Nat.{ℕ}
 use mathlib.Core.Path.{◌≡◌, sym, ap, ap₂, ◌∙◌}
 use mathlib.Core.Bool.{true, false}
 use mathlib.Core.List.{List, [], ◌++◌}
-use native.Mathlib.Omega.{arith}
-use lib.ListN.{length, take, length-map}
-use lib.Seq.{length-take-le}
+use lib.ListN.{length}
 use Rattle.xliff.specs.Bytes.{any, gather}
 use Rattle.xliff.specs.Item.{Item, Content, other_half}
-use Rattle.xliff.specs.Parse.{unit, most_records}
+use Rattle.xliff.specs.Parse.{unit}
 use Rattle.xliff.specs.Sequences.{located, blamed, first_of, placed_contents, placed_source_sequence, placed_target_sequence}
 use Rattle.xliff.specs.Rules.{lone_P, lone_S, lone_in_target, waiting, fault_7}
 use Rattle.answers.specs.Answers.{refusal_at, toward}
@@ -18,17 +16,12 @@ use Rattle.places.specs.Passes.{Passes}
 use Rattle.places.specs.Markers.{placed_at, target_offsets}
 use Rattle.places.proofs.Tests.{source_blamed, target_blamed, length_located}
 use Rattle.sequences.specs.Marks.{offsets}
-use Rattle.views.specs.Views.{items_of_markers}
 use Rattle.keys.specs.Keys.{key, keys_at}
 use Rattle.contents.specs.Contents.{barred, bar_keys}
 use Rattle.partners.specs.Partners.{lone_s_Key, waits_for_key, lone_among_keys, blamed_keys}
 use Rattle.partners.proofs.KeyTests.{lone_keys, lone_target_keys, on_marks_source, on_marks_target, blamed_keys_lem}
 use Rattle.partners.proofs.WaitingLaws.{waiting_keys}
 use Rattle.partners.proofs.BarLaws.{bars_are}
-
-pub keys_length : (t markers : List ℕ) → length (keys_at t markers) ≡ length markers
-unfolding keys_at items_of_markers
-keys_length t markers = length-map (items_of_markers t markers) key ∙ length-map markers _
 
 module _ (t : List ℕ) (p : Passes t) where
   -- which halves wait, by the keys of the source contents
@@ -70,14 +63,3 @@ module _ (t : List ℕ) (p : Passes t) where
       m
       ∙ sym (first_two 7 b (X ++ Y) Z (l ∙ sym (first_two 7 a X Y k)))
       ∙ ap₂ (λ (y z : List ℕ). first_of 7 (X ++ y ++ z)) (sym (source_part source_markers source_keys e f)) (sym (target_part target_markers target_keys g h))
-
--- the keys of the offsets at the front of an array, at the front of another
-module _ (n : ℕ) (markers : List ℕ) (h : n ≤ most_records) (l : length markers ≡ most_records) where
-  pub front_length : length (take n markers) ≡ n
-  front_length = length-take-le n markers (omega arith)
-
-  pub front_few : length (take n markers) ≤ most_records
-  front_few = omega (arith, front_length)
-
-  pub front_keys : (t bars : List ℕ) → take (length (take n markers)) bars ≡ bar_keys t (take n markers) → take n bars ≡ bar_keys t (take n markers)
-  front_keys t bars e = ap (λ (k : ℕ). take k bars) (sym front_length) ∙ e

@@ -8,10 +8,14 @@ use Rattle.places.specs.Markers.{only_markers}
 use Rattle.contents.specs.Contents.{run, targeted}
 use Rattle.contents.specs.Nesting.{lone_p_Key}
 
+-- a mark of a start or an end of its class and id
+abbrev pub is_mark_alike : ℕ → ℕ → Bool
+is_mark_alike k y = alike_keys k y && not (form_key y)
+
 -- of the marks of start and end of its class and id, the nearest is the other half
 unfoldable pub partner_s_Key : ℕ → List ℕ → Bool
 partner_s_Key k [] = false
-partner_s_Key k (y ∷ ys) = cond (alike_keys k y && not (form_key y)) (is_other_key k y) (partner_s_Key k ys)
+partner_s_Key k (y ∷ ys) = cond (is_mark_alike k y) (is_other_key k y) (partner_s_Key k ys)
 
 -- a half with the mark of a start or an end without partner; what stands before it in its sequence, the nearest first,
 -- and after it

@@ -21,11 +21,10 @@ fn remove_ended(table: &[u8], place: PartPlace, out: &mut [u8]) -> Answer
     if out.len() < n {
         return Answer::Refused(15, 0);
     }
-    let k = result_rules::rules_7_and_9(&work[..n]);
-    if k == 0 {
-        return Answer::Accepted(writer::put(out, &work[..n]));
+    if let Some(k) = result_rules::rules_7_and_9(&work[..n]) {
+        return Answer::Refused(k, 0);
     }
-    Answer::Refused(k, 0)
+    Answer::Accepted(writer::put(out, &work[..n]))
 }
 
 // Accepted: the output's first bytes are the table without the target, the rest is unchanged. Refused: the whole output

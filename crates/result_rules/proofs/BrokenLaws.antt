@@ -1,64 +1,63 @@
--- Rules 7 and 9, one after the other, and the number of the first that is broken.
-use borrow.Author.Tests.{not-true, not-false}
+-- The first of some rules that is broken.
 use Prim.Native.Nat.{ℕ}
 use mathlib.Core.Path.{◌≡◌, refl, sym, ap, ◌∙◌}
-use mathlib.Core.Bool.{Bool, true, false, not, cond, true≢false}
+use mathlib.Core.Bool.{Bool, true, false, true≢false}
+use mathlib.Core.List.{List}
 use mathlib.Core.Option.{Option, none, some}
-use lib.Dec.{eqb}
-use Rattle.xliff.specs.Answer.{Refusal, refusal, ◌then◌, is_fault, of_result}
-use Rattle.xliff.proofs.lists.Tests.{none_some}
+use native.Mathlib.Omega.{arith}
+use Rattle.xliff.specs.Answer as spec
+use Rattle.xliff.specs.Answer.{Refusal, refusal, ◌then◌, is_fault, of_result, unless, answer}
 use Rattle.answers.specs.Answers.{refusal_at}
 use Rattle.std.specs.Prelude.{Option as RustOption, None, Some}
-use Rattle.result_rules.specs.Broken.{is_place, broken}
+use Rattle.std.specs.Option.{is_some}
+use Rattle.result_rules.specs.Broken.{broken}
 
--- a rule that is broken is the first, one that is met leaves it to the rest
-first_is : (n : ℕ) (p : RustOption ℕ) (f g : Option Refusal) → refusal_at n p ≡ f → is_place p ≡ true → refusal n 0 ≡ of_result (f then g)
-unfolding ◌then◌ of_result
-first_is n None f g e h = absurd (true≢false (sym h))
-first_is n (Some at) f g e h = ap (λ (o : Option Refusal). of_result (o then g)) e
+module _ (n : ℕ) (p : RustOption ℕ) (f : Option Refusal) (e : refusal_at n p ≡ f) where
+  -- a rule that is broken is the first, one that is met leaves it to the rest
+  pub first_is : (g : Option Refusal) → is_some p ≡ true → broken (Some n) ≡ of_result (f then g)
+  unfolding ◌then◌ of_result
+  first_is g h = by p e h
+    where
+      by : (o : RustOption ℕ) → refusal_at n o ≡ f → is_some o ≡ true → refusal n 0 ≡ of_result (f then g)
+      by None d k = absurd (true≢false (sym k))
+      by (Some at) d k = ap (λ (o : Option Refusal). of_result (o then g)) d
 
-met : (n : ℕ) (p : RustOption ℕ) (f g : Option Refusal) → refusal_at n p ≡ f → is_place p ≡ false → of_result g ≡ of_result (f then g)
+  pub met_is : is_some p ≡ false → none ≡ f
+  met_is h = by p e h
+    where
+      by : (o : RustOption ℕ) → refusal_at n o ≡ f → is_some o ≡ false → none ≡ f
+      by None d k = d
+      by (Some at) d k = absurd (true≢false k)
+
+  -- whether it is broken
+  pub fault_is : is_some p ≡ is_fault f
+  unfolding is_fault
+  fault_is = by p e
+    where
+      by : (o : RustOption ℕ) → refusal_at n o ≡ f → is_some o ≡ is_fault f
+      by None d = ap is_fault d
+      by (Some at) d = ap is_fault d
+
+pub next_is : (f g o : Option Refusal) → none ≡ f → o ≡ of_result g → o ≡ of_result (f then g)
 unfolding ◌then◌
-met n None f g e h = ap (λ (o : Option Refusal). of_result (o then g)) e
-met n (Some at) f g e h = absurd (true≢false h)
+next_is f g o e h = h ∙ ap (λ (o : Option Refusal). of_result (o then g)) e
 
-no_more : (f : Option Refusal) → of_result (f then none) ≡ of_result f
-unfolding ◌then◌
-no_more none = refl
-no_more (some r) = refl
+pub last_is : (n : ℕ) (p : RustOption ℕ) (g : Option Refusal) → refusal_at n p ≡ g → is_some p ≡ true → broken (Some n) ≡ of_result g
+unfolding of_result
+last_is n None g e h = absurd (true≢false (sym h))
+last_is n (Some at) g e h = ap of_result e
 
-module _ (p : RustOption ℕ) (f g : Option Refusal) (e : refusal_at 7 p ≡ f) where
-  pub seven_broken : is_place p ≡ true → broken 7 ≡ of_result (f then g)
-  unfolding broken
-  seven_broken h = first_is 7 p f g e h
+-- the number of an answer
+clash : {A : Type 0} {n m k : ℕ} → spec.accepted n ≡ spec.refused m k → A
+clash e = absurd (let z : ◌≡◌ {A = ℕ} 0 1 = cc in omega arith)
 
-  module _ (h : is_place p ≡ false) (also : Bool) where
-    pub not_asked : not also ≡ true → broken 0 ≡ of_result (f then cond also g none)
-    unfolding broken of_result
-    not_asked k = ap (λ (b : Bool). of_result (cond b g none)) (sym (not-true also k)) ∙ met 7 p f (cond also g none) e h
+module _ (t : List ℕ) where
+  pub accepted_is : (n : ℕ) (f : Option Refusal) → spec.accepted n ≡ answer (unless f t) → broken None ≡ of_result f
+  unfolding of_result unless answer
+  accepted_is n none e = refl
+  accepted_is n (some r) e = clash e
 
-    asked : not also ≡ false → of_result g ≡ of_result (f then cond also g none)
-    asked k = ap (λ (b : Bool). of_result (cond b g none)) (sym (not-false also k)) ∙ met 7 p f (cond also g none) e h
-
-    module _ (k : not also ≡ false) (q : RustOption ℕ) (d : refusal_at 9 q ≡ g) where
-      pub nine_broken : is_place q ≡ true → broken 9 ≡ of_result (f then cond also g none)
-      unfolding broken
-      nine_broken z = first_is 9 q g none d z ∙ no_more g ∙ asked k
-
-      pub none_broken : is_place q ≡ false → broken 0 ≡ of_result (f then cond also g none)
-      unfolding broken of_result
-      none_broken z = met 9 q g none d z ∙ no_more g ∙ asked k
-
--- a number other than 0 says that there is a fault
-pub told : (n : ℕ) (f : Option Refusal) → broken n ≡ of_result (f then none) → not (eqb n 0) ≡ is_fault f
-unfolding broken ◌then◌ of_result is_fault
-told n none e = by (eqb n 0) e
-  where
-    by : (b : Bool) → cond b none (refusal n 0) ≡ none → not b ≡ false
-    by true h = refl
-    by false h = absurd (none_some (sym h))
-told n (some r) e = by (eqb n 0) e
-  where
-    by : (b : Bool) → cond b none (refusal n 0) ≡ refusal r.number 0 → not b ≡ true
-    by true h = absurd (none_some h)
-    by false h = refl
+  pub refused_is : (n at : ℕ) (f : Option Refusal) → spec.refused n at ≡ answer (unless f t) → broken (Some n) ≡ of_result f
+  unfolding of_result unless answer
+  refused_is n at none e = clash (sym e)
+  refused_is n at (some r) e = let z : n ≡ r.number = cc in ap (λ (m : ℕ). refusal m 0) z

@@ -1,5 +1,4 @@
 pub mod BrokenLaws
 pub mod EndLaws
 pub mod GoodLaws
-pub mod NumberLaws
 pub mod WorkLaws

@@ -13,20 +13,21 @@ use Rattle.outcomes.specs.Outcomes.{Answers}
 use Rattle.outcomes.proofs.OutcomeLaws.{answers_refused, answers_result}
 use Rattle.rewrite_refusals.specs.Asked.{fails_to_P}
 use Rattle.rewrite_refusals.proofs.ChainLaws.{refused_20, refused_21, refused_15, done}
+use Rattle.whole_pair.specs.declared.WholePair.{WholePair}
 use Rattle.rewrite.specs.Paired.{Paired, already_in}
 use Rattle.rewrite.proofs.PairLaws.{already_is, no_room, enough_room}
 
 abbrev rewritten : List ℕ → ℕ → ℕ → ℕ → List ℕ
 rewritten t side i w = encode (rewrite_unit (unit t) side i (form_of w))
 
-module _ {t : List ℕ} {side i w : ℕ} {formP unfit : Bool} (q : Paired t side i w formP unfit) (out : List ℕ) where
+module _ {t : List ℕ} {side i w : ℕ} {v : WholePair} (q : Paired t side i w v) (out : List ℕ) where
   -- "already so"
-  pub answers_20 : already_in w formP ≡ true → Answers (rewrite t side i w (length out)) (Refused 20 0) out out
+  pub answers_20 : already_in w v.form_p ≡ true → Answers (rewrite t side i w (length out)) (Refused 20 0) out out
   answers_20 h =
       answers_refused _ 20 0 out
       (refused_20 t side i w (length out) q.ready.0 q.ready.1 q.pair q.found (sym (already_is q) ∙ h))
 
-  module _ (h : already_in w formP ≡ false) where
+  module _ (h : already_in w v.form_p ≡ false) where
     -- to pc or mrk, and it cannot be
     pub answers_21 : fails_to_P (unit t) side i (form_of w) q.pair ≡ true → Answers (rewrite t side i w (length out)) (Refused 21 0) out out
     answers_21 k =

@@ -6,16 +6,16 @@ use mathlib.Core.List.{List}
 use mathlib.Core.Option.{Option, none, some}
 use native.Mathlib.Omega.{arith}
 use lib.ListN.{length}
+use Rattle.std.specs.Prelude.{Option as RustOption, Some, None}
 use lib.Dec.{eqb}
 use borrow.Author.Tests.{lt-ltb, le-ltb, not-false}
 use Rattle.xliff.specs.Bytes.{'P', 'S', 'T', Bytes, among}
 use Rattle.xliff.specs.Item.{form_P, form_S, is_form_P}
 use Rattle.xliff.specs.Parse.{unit}
 use Rattle.xliff.specs.Check.{too_large}
-use Rattle.xliff.specs.Rewrite.{form_of, rewrite_unit, side_sequence, Whole, find_whole, already}
+use Rattle.xliff.specs.Rewrite.{form_of, rewrite_unit, side_sequence, Whole, find_whole, unfit_letter, already}
 use Rattle.xliff.proofs.lists.Tests.{or_none, or_left}
-use Rattle.whole_pair.specs.declared.FoundPair.{FoundPair}
-use Rattle.whole_pair.specs.declared.FoundPair.TheVariants.{Complete, Missing}
+use Rattle.whole_pair.specs.declared.WholePair.{WholePair}
 use Rattle.whole_pair.specs.Pairs.{pair_of}
 use Rattle.rewrite_refusals.specs.Asked.{bad_letters, SomeAsked}
 use Rattle.rewrite_refusals.proofs.ResultLaws.{room_only}
@@ -26,40 +26,28 @@ unfolding among
 letters_are side w =
     ap₂ (λ (a b : Bool). not (eqb side 'S' || a) || not (eqb w 'P' || b)) (sym (or_none (eqb side 'T'))) (sym (or_none (eqb w 'S')))
 
-abbrev is_complete : FoundPair → ℕ
-is_complete (Complete a b) = 1
-is_complete Missing = 0
-
-clash : {A : Type 0} {a b : Bool} → Complete a b ≡ Missing → A
-clash e = absurd (let z : ◌≡◌ {A = ℕ} 1 0 = ap is_complete e in let y : ⊥ = omega (arith, z) in y)
-
-abbrev the_form : FoundPair → Bool
-the_form (Complete a b) = a
-the_form Missing = false
-
-abbrev the_letter : FoundPair → Bool
-the_letter (Complete a b) = b
-the_letter Missing = false
-
-module _ (t : List ℕ) (side i w : ℕ) (r : Ready t side w) where
-  pub pair_missing : Missing ≡ pair_of (find_whole i (side_sequence side (unit t).parts)) → find_whole i (side_sequence side (unit t).parts) ≡ none
+module _ (t : List ℕ) (side i w : ℕ) (r : Ready t side w) (found : RustOption WholePair)
+    (f : found ≡ pair_of (find_whole i (side_sequence side (unit t).parts))) where
+  pub pair_missing : found ≡ None → find_whole i (side_sequence side (unit t).parts) ≡ none
   unfolding pair_of
-  pair_missing e = by (find_whole i (side_sequence side (unit t).parts)) e
+  pair_missing e = by (find_whole i (side_sequence side (unit t).parts)) (sym e ∙ f)
     where
-      by : (o : Option Whole) → Missing ≡ pair_of o → o ≡ none
+      by : (o : Option Whole) → None ≡ pair_of o → o ≡ none
       by none k = refl
-      by (some p) k = clash (sym k)
+      by (some p) k = cc
 
-  pub pair_complete : (formP unfit : Bool) → Complete formP unfit ≡ pair_of (find_whole i (side_sequence side (unit t).parts)) → Paired t side i w formP unfit
+  pub pair_complete : (v : WholePair) → found ≡ Some v → Paired t side i w v
   unfolding pair_of
-  pair_complete formP unfit e = by (find_whole i (side_sequence side (unit t).parts)) refl e
+  pair_complete v e = by (find_whole i (side_sequence side (unit t).parts)) refl (sym e ∙ f)
     where
-      by : (o : Option Whole) → find_whole i (side_sequence side (unit t).parts) ≡ o → Complete formP unfit ≡ pair_of o → Paired t side i w formP unfit
-      by none h k = clash k
-      by (some p) h k = record { ready = r; pair = p; found = h; form = ap the_form k; letter = ap the_letter k }
+      by : (o : Option Whole) → find_whole i (side_sequence side (unit t).parts) ≡ o → Some v ≡ pair_of o → Paired t side i w v
+      by none h k = cc
+      by (some p) h k =
+          let same : v ≡ record { form_p = is_form_P p.start; unfit = unfit_letter p } = cc in
+          record { ready = r; pair = p; found = h; form = ap (λ (x : WholePair). x.form_p) same; letter = ap (λ (x : WholePair). x.unfit) same }
 
-module _ {t : List ℕ} {side i w : ℕ} {formP unfit : Bool} (q : Paired t side i w formP unfit) where
-  pub already_is : already_in w formP ≡ already (form_of w) q.pair.start
+module _ {t : List ℕ} {side i w : ℕ} {v : WholePair} (q : Paired t side i w v) where
+  pub already_is : already_in w v.form_p ≡ already (form_of w) q.pair.start
   unfolding already form_of
   already_is = ap (already_in w) q.form ∙ by (eqb w 'P')
     where
@@ -67,7 +55,7 @@ module _ {t : List ℕ} {side i w : ℕ} {formP unfit : Bool} (q : Paired t side
       by true = refl
       by false = refl
 
-  pub asked : Bytes t → already_in w formP ≡ false → SomeAsked t side i (form_of w) unfit
+  pub asked : Bytes t → already_in w v.form_p ≡ false → SomeAsked t side i (form_of w) v.unfit
   asked b a = (
     q.pair,
     record { bytes = b; valid = q.ready.0; letter = not-false _ (or_left _ _ q.ready.1); found = q.found; other_form = sym already_is ∙ a },

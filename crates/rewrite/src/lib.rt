@@ -2,15 +2,12 @@
 #![tactic(auto)]
 
 ghost use Rattle.std.specs.Prelude.{◌≡◌, length};
-ghost use Rattle.std.proofs.Math.Option.{none};
-ghost use Rattle.xliff.specs.Check.{table_refusal, check};
 ghost use Rattle.xliff.specs.Rewrite.{rewrite};
-ghost use Rattle.answers.specs.Answers.{answer_meaning};
 ghost use Rattle.outcomes.specs.Outcomes.{Answers};
-ghost use Rattle.rewrite.specs.Paired.{Searched, Paired, already_in};
+ghost use Rattle.rewrite.specs.Paired.{Paired, already_in};
 
 use answers::Answer;
-use whole_pair::FoundPair;
+use whole_pair::WholePair;
 
 // The pair has the form that is asked for; `is_p`: the marks of pc or mrk.
 fn is_already(form: u8, is_p: bool) -> bool
@@ -23,20 +20,19 @@ fn is_already(form: u8, is_p: bool) -> bool
 // only a matter of the room.
 fn rewrite_pair(
     table: &[u8],
-    is_p: bool,
-    unfit: bool,
+    pair: WholePair,
     side: u8,
     id: u16,
     form: u8,
     out: &mut [u8],
 ) -> Answer
-    requires { Paired table.now side id form is_p unfit }
+    requires { Paired table.now side id form pair }
     ensures { Answers (rewrite table.now side id form (length out.old)) result out.old out.new }
 {
-    if is_already(form, is_p) {
+    if is_already(form, pair.form_p) {
         return Answer::Refused(20, 0);
     }
-    if rewrite_refusals::is_refused_21(table, side, id, form, unfit) {
+    if rewrite_refusals::is_refused_21(table, side, id, form, pair.unfit) {
         return Answer::Refused(21, 0);
     }
     if out.len() < table.len() {
@@ -45,54 +41,20 @@ fn rewrite_pair(
     Answer::Accepted(rewrite_marks::put_rewritten(out, table, side, id, form))
 }
 
-fn rewrite_found(
-    table: &[u8],
-    found: FoundPair,
-    side: u8,
-    id: u16,
-    form: u8,
-    out: &mut [u8],
-) -> Answer
-    requires { Searched table.now side id form found }
-    ensures { Answers (rewrite table.now side id form (length out.old)) result out.old out.new }
-{
-    match found {
-        FoundPair::Complete(is_p, unfit) => rewrite_pair(table, is_p, unfit, side, id, form, out),
-        FoundPair::Missing => Answer::Refused(20, 0),
-    }
-}
-
-fn rewrite_valid(table: &[u8], side: u8, id: u16, form: u8, out: &mut [u8]) -> Answer
-    requires { table_refusal table.now ≡ none }
-    ensures { Answers (rewrite table.now side id form (length out.old)) result out.old out.new }
-{
-    if !((side == b'S') | (side == b'T')) | !((form == b'P') | (form == b'S')) {
-        return Answer::Refused(2, 0);
-    }
-    rewrite_found(
-        table,
-        whole_pair::find(table, side, id),
-        side,
-        id,
-        form,
-        out,
-    )
-}
-
-fn rewrite_checked(table: &[u8], a: Answer, side: u8, id: u16, form: u8, out: &mut [u8]) -> Answer
-    requires { answer_meaning a ≡ check table.now }
-    ensures { Answers (rewrite table.now side id form (length out.old)) result out.old out.new }
-{
-    match a {
-        Answer::Accepted(_) => rewrite_valid(table, side, id, form, out),
-        Answer::Refused(k, at) => Answer::Refused(k, at),
-    }
-}
-
 // Accepted: the output's first bytes are the rewritten table, the rest is unchanged. Refused: the whole output is
 // unchanged.
 pub fn rewrite(table: &[u8], side: u8, id: u16, form: u8, out: &mut [u8]) -> Answer
     ensures { Answers (rewrite table.now side id form (length out.old)) result out.old out.new }
 {
-    rewrite_checked(table, table_check::check(table), side, id, form, out)
+    let checked = table_check::check(table);
+    let Answer::Accepted(_) = checked else {
+        return checked;
+    };
+    if !((side == b'S') | (side == b'T')) | !((form == b'P') | (form == b'S')) {
+        return Answer::Refused(2, 0);
+    }
+    let Some(pair) = whole_pair::find(table, side, id) else {
+        return Answer::Refused(20, 0);
+    };
+    rewrite_pair(table, pair, side, id, form, out)
 }

@@ -1,9 +1,8 @@
 -- What a walk finds by glances, one record further: the markers of the source sequence, the TG records, the markers of a content.
 use Prim.Native.Nat.{ℕ, ◌+◌, ◌≤◌}
 use mathlib.Core.Path.{◌≡◌, refl, sym, ◌∙◌, ap}
-use mathlib.Core.Bool.{Bool, true, not, ◌&&◌, cond}
+use mathlib.Core.Bool.{false, Bool, true, not, ◌&&◌, cond}
 use mathlib.Core.List.{List, [], ◌∷◌, ◌++◌, map}
-use borrow.Author.Tests.{eq-eqb, ne_eqb}
 use lib.ListN.{length, drop}
 use lib.Dec.{eqb}
 use Rattle.xliff.specs.Item.{class}
@@ -20,7 +19,7 @@ use Rattle.table.specs.declared.Record.{Record}
 use Rattle.table.specs.declared.Record.TheVariants.{Unit as UnitStart, UnitEnd, Segment, Ignorable, Target as TargetRecord, Text, Inline}
 use Rattle.table.specs.declared.Read.TheVariants.{Good}
 use Rattle.glance.specs.declared.Glance.{Glance}
-use Rattle.glance.specs.Glances.{head_kind_in, is_marker, marker_in}
+use Rattle.glance.specs.Glances.{kind_of, head_kind_in, is_marker, marker_in}
 use Rattle.orders.proofs.WalkLaws.{Walked}
 use Rattle.sequences.specs.Marks.{places, ReadMarked, inside_of, inside_source}
 use Rattle.sequences.specs.Targets.{TargetHead, head_here, heads_from, content_marks}
@@ -59,11 +58,11 @@ abbrev pub source_marks : Bool → ℕ → List encode.Record → List ℕ
 source_marks inside at rs = places (marks_found true 0 inside at rs)
 
 pub sources_on : (t : List ℕ) (at : ℕ) (rs : List encode.Record) (g : Glance) (v : Walked t at rs g) (inside : Bool)
-    → source_marks inside at rs ≡ cond (inside && g.marker) (at ∷ []) [] ++ source_marks (inside_source g.head inside) (at + g.width) v.step.others
+    → source_marks inside at rs ≡ cond (inside && g.marker) (at ∷ []) [] ++ source_marks (inside_source (kind_of g.head) inside) (at + g.width) v.step.others
 sources_on t at rs g v inside =
     marks_step t at rs (Good v.the v.size) v.step true 0 inside (inside && marker_in v.the) (record_marked inside v.the v.size)
     ∙ ap (λ (b : Bool). cond (inside && marker_in v.the) (at ∷ []) [] ++ source_marks b (at + v.size) v.step.others) (inside_is inside v.the v.size)
-    ∙ ap (λ (h : Glance). cond (inside && h.marker) (at ∷ []) [] ++ source_marks (inside_source h.head inside) (at + h.width) v.step.others) (sym v.is)
+    ∙ ap (λ (h : Glance). cond (inside && h.marker) (at ∷ []) [] ++ source_marks (inside_source (kind_of h.head) inside) (at + h.width) v.step.others) (sym v.is)
 
 -- The records that a walk meets, by the reader's
 module _ {t : List ℕ} {at : ℕ} {rs : List encode.Record} {g : Glance} (v : Walked t at rs g) where
@@ -89,12 +88,12 @@ heads_by at cs Text qs = refl
 heads_by at cs (Inline i) qs = refl
 
 pub heads_on : (t : List ℕ) (at : ℕ) (rs : List encode.Record) (g : Glance) (v : Walked t at rs g)
-    → head_places at rs ≡ cond (eqb g.head 1) (at ∷ []) [] ++ head_places (at + g.width) v.step.others
+    → head_places at rs ≡ cond (eqb (kind_of g.head) 1) (at ∷ []) [] ++ head_places (at + g.width) v.step.others
 heads_on t at rs g v =
     ap (head_places at) (split_as v)
     ∙ heads_by at (body (drop at t)) v.the v.step.others
     ∙ ap (λ (n : ℕ). cond (eqb (head_kind_in v.the) 1) (at ∷ []) [] ++ head_places (at + n) v.step.others) (size_as v)
-    ∙ ap (λ (h : Glance). cond (eqb h.head 1) (at ∷ []) [] ++ head_places (at + h.width) v.step.others) (sym v.is)
+    ∙ ap (λ (h : Glance). cond (eqb (kind_of h.head) 1) (at ∷ []) [] ++ head_places (at + h.width) v.step.others) (sym v.is)
 
 pub heads_end : (t : List ℕ) (at : ℕ) (rs : List encode.Record) → At t at rs → length t ≤ at → head_places at rs ≡ []
 unfolding heads_from
@@ -114,21 +113,21 @@ content_by at cs Text qs = refl
 content_by at cs (Inline i) qs = ap (λ (l : List ℕ). l ++ content_marks (at + length (record_bytes (inline (item i)))) qs) (inline_marked true (is_marker i) i at (item_marked i))
 
 content_is : (t : List ℕ) (at : ℕ) (rs : List encode.Record) (g : Glance) (v : Walked t at rs g)
-    → content_marks at rs ≡ cond (eqb g.head 2) (cond g.marker (at ∷ []) [] ++ content_marks (at + g.width) v.step.others) []
+    → content_marks at rs ≡ cond (eqb (kind_of g.head) 2) (cond g.marker (at ∷ []) [] ++ content_marks (at + g.width) v.step.others) []
 content_is t at rs g v =
     ap (content_marks at) (split_as v)
     ∙ content_by at (body (drop at t)) v.the v.step.others
     ∙ ap (λ (n : ℕ). cond (eqb (head_kind_in v.the) 2) (cond (marker_in v.the) (at ∷ []) [] ++ content_marks (at + n) v.step.others) []) (size_as v)
-    ∙ ap (λ (h : Glance). cond (eqb h.head 2) (cond h.marker (at ∷ []) [] ++ content_marks (at + h.width) v.step.others) []) (sym v.is)
+    ∙ ap (λ (h : Glance). cond (eqb (kind_of h.head) 2) (cond h.marker (at ∷ []) [] ++ content_marks (at + h.width) v.step.others) []) (sym v.is)
 
-pub content_on : (t : List ℕ) (at : ℕ) (rs : List encode.Record) (g : Glance) (v : Walked t at rs g) → g.head ≡ 2
+pub content_on : (t : List ℕ) (at : ℕ) (rs : List encode.Record) (g : Glance) (v : Walked t at rs g) → eqb (kind_of g.head) 2 ≡ true
     → content_marks at rs ≡ cond g.marker (at ∷ []) [] ++ content_marks (at + g.width) v.step.others
 content_on t at rs g v e =
-    content_is t at rs g v ∙ ap (λ (b : Bool). cond b (cond g.marker (at ∷ []) [] ++ content_marks (at + g.width) v.step.others) []) (eq-eqb g.head 2 e)
+    content_is t at rs g v ∙ ap (λ (b : Bool). cond b (cond g.marker (at ∷ []) [] ++ content_marks (at + g.width) v.step.others) []) e
 
-pub content_off : (t : List ℕ) (at : ℕ) (rs : List encode.Record) (g : Glance) (v : Walked t at rs g) → (g.head ≡ 2 → ⊥) → content_marks at rs ≡ []
+pub content_off : (t : List ℕ) (at : ℕ) (rs : List encode.Record) (g : Glance) (v : Walked t at rs g) → eqb (kind_of g.head) 2 ≡ false → content_marks at rs ≡ []
 content_off t at rs g v e =
-    content_is t at rs g v ∙ ap (λ (b : Bool). cond b (cond g.marker (at ∷ []) [] ++ content_marks (at + g.width) v.step.others) []) (ne_eqb g.head 2 e)
+    content_is t at rs g v ∙ ap (λ (b : Bool). cond b (cond g.marker (at ∷ []) [] ++ content_marks (at + g.width) v.step.others) []) e
 
 pub content_end : (t : List ℕ) (at : ℕ) (rs : List encode.Record) → At t at rs → length t ≤ at → content_marks at rs ≡ []
 unfolding content_marks

@@ -4,7 +4,7 @@ use mathlib.Core.Path.{◌≡◌, refl, sym, ◌∙◌, ap, subst}
 use mathlib.Core.Bool.{Bool, true, false, cond}
 use mathlib.Core.List.{List, [], ◌∷◌, ◌++◌, map, append_assoc}
 use native.Mathlib.Omega.{arith}
-use borrow.Author.Tests.{eq-eqb, ne_eqb, eqb-true, eqb-false}
+use borrow.Author.Tests.{ne_eqb, eqb-true, eqb-false}
 use lib.ListN.{length, drop, get_or, set, drop_of_length-le, length-append, length-map}
 use lib.Seq.{get_or-set_same, get_or-set_other}
 use lib.Dec.{eqb}
@@ -23,7 +23,8 @@ use Rattle.table.specs.Meaning.{record_meaning, body}
 use Rattle.table.specs.declared.Record.{Record}
 use Rattle.table.specs.declared.Record.TheVariants.{Unit as UnitStart, UnitEnd, Segment, Ignorable, Target as TargetRecord, Text, Inline}
 use Rattle.glance.specs.declared.Glance.{Glance}
-use Rattle.glance.specs.Glances.{order_number, Glanced}
+use Rattle.glance.specs.declared.Head.TheVariants.{Target as TargetSet}
+use Rattle.glance.specs.Glances.{head_in, sets_order, Glanced}
 use Rattle.orders.proofs.WalkLaws.{Walked, walked, few_parts}
 use Rattle.sequences.specs.Marks.{places, offsets}
 use Rattle.sequences.specs.Targets.{TargetHead, head_here, heads_from, heads_of, head_offsets, head_number, content_marks, of_order, Ordered}
@@ -97,10 +98,10 @@ place_at (h ∷ hs) (suc i) = place_at hs i
 pub record Begun (t : List ℕ) (at : ℕ) (g : Glance) (h : TargetHead) : Type 0 where
   pub fits : at + g.width ≤ length t
   pub rest : At t (at + g.width) h.behind
-  pub order : g.order ≡ h.order
+  pub order : g.head ≡ TargetSet h.order
   pub marks : content_marks (h.at + length (record_bytes (target_head h.order))) h.behind ≡ content_marks (at + g.width) h.behind
 
-target_number : (cs : List ℕ) (x : Record) (k : ℕ) → record_meaning cs x ≡ target_head k → order_number x ≡ k
+target_number : (cs : List ℕ) (x : Record) (k : ℕ) → record_meaning cs x ≡ target_head k → head_in x ≡ TargetSet k
 target_number cs (UnitStart c) k e = absurd (let z : ◌≡◌ {A = ℕ} 0 1 = cc in omega arith)
 target_number cs UnitEnd k e = absurd (let z : ◌≡◌ {A = ℕ} 0 1 = cc in omega arith)
 target_number cs (Segment f) k e = absurd (let z : ◌≡◌ {A = ℕ} 0 1 = cc in omega arith)
@@ -122,7 +123,7 @@ begun_by t at g k rs v =
     record {
       fits = v.fits;
       rest = subst (At t (at + g.width)) (sym (others_are v.step.split)) v.rest;
-      order = ap (λ (h : Glance). h.order) v.is ∙ target_number (body (drop at t)) v.the k (v.step.means ∙ sym f);
+      order = ap (λ (h : Glance). h.head) v.is ∙ target_number (body (drop at t)) v.the k (v.step.means ∙ sym f);
       marks = ap (λ (n : ℕ). content_marks (at + n) rs) (sym w);
     }
 
@@ -157,15 +158,15 @@ module _ (t heads : List ℕ) (i : ℕ) (p : Passes t) (e : heads ≡ head_offse
       gather_at (of_order q) (heads_of t) i number_in
       ∙ ap (λ (n : ℕ). of_order q (get_or (heads_of t) i blank) ++ gather (of_order q) (drop n (heads_of t))) (let z : suc i ≡ i + 1 = omega arith in z)
 
-pub order_here : {t : List ℕ} {at q : ℕ} {g : Glance} {h : TargetHead} → Begun t at g h → q ≡ g.order → of_order q h ≡ content_marks (at + g.width) h.behind
+pub order_here : {t : List ℕ} {at : ℕ} (q : ℕ) {g : Glance} {h : TargetHead} → Begun t at g h → sets_order q g.head ≡ true → of_order q h ≡ content_marks (at + g.width) h.behind
 unfolding of_order
-order_here {t} {at} {q} {g} {h} b e =
-    ap (λ (c : Bool). cond c (content_marks (h.at + length (record_bytes (target_head h.order))) h.behind) []) (eq-eqb q h.order (e ∙ b.order)) ∙ b.marks
+order_here {t} {at} q {g} {h} b e =
+    ap (λ (c : Bool). cond c (content_marks (h.at + length (record_bytes (target_head h.order))) h.behind) []) (sym (ap (sets_order q) b.order) ∙ e) ∙ b.marks
 
-pub order_other : {t : List ℕ} {at q : ℕ} {g : Glance} {h : TargetHead} → Begun t at g h → (q ≡ g.order → ⊥) → of_order q h ≡ []
+pub order_other : {t : List ℕ} {at : ℕ} (q : ℕ) {g : Glance} {h : TargetHead} → Begun t at g h → sets_order q g.head ≡ false → of_order q h ≡ []
 unfolding of_order
-order_other {t} {at} {q} {g} {h} b e =
-    ap (λ (c : Bool). cond c (content_marks (h.at + length (record_bytes (target_head h.order))) h.behind) []) (ne_eqb q h.order (λ z. e (z ∙ sym b.order)))
+order_other {t} {at} q {g} {h} b e =
+    ap (λ (c : Bool). cond c (content_marks (h.at + length (record_bytes (target_head h.order))) h.behind) []) (sym (ap (sets_order q) b.order) ∙ e)
 
 pub heads_done : (t heads : List ℕ) (i q : ℕ) → heads ≡ head_offsets t → length heads ≤ i → gather (of_order q) (drop i (heads_of t)) ≡ []
 unfolding head_offsets gather

@@ -5,11 +5,15 @@ ghost use Rattle.std.specs.Prelude.{◌≡◌, true, false, cond, [], ◌∷◌,
 ghost use Rattle.xliff.specs.Parse.{unit, most_bytes, most_parts, most_records};
 ghost use Rattle.places.specs.Passes.{Passes};
 ghost use Rattle.places.specs.Markers.{target_offsets};
+ghost use Rattle.glance.specs.Glances.{kind_of};
+ghost use Rattle.keys.specs.Keys.{keys_at};
 ghost use Rattle.sequences.specs.Marks.{inside_source, offsets, Appended};
 ghost use Rattle.sequences.specs.Markers.{Markers};
 ghost use Rattle.sequences.specs.Targets.{head_offsets, head_number, of_order, Ordered};
 
-use limits::MOST_PARTS;
+use glance::Head;
+use keys::Sequence;
+use limits::{MOST_PARTS, MOST_RECORDS};
 
 // `at` behind the first `m` of `out`, if asked for; how many there are then.
 pub fn put_if(b: bool, out: &mut [u16], m: usize, at: u16) -> usize
@@ -24,10 +28,10 @@ pub fn put_if(b: bool, out: &mut [u16], m: usize, at: u16) -> usize
 }
 
 // Whether what follows a record is of a source content.
-fn inside_source(head: u8, inside: bool) -> bool
-    ensures { result ≡ inside_source head inside }
+fn inside_source(head: Head, inside: bool) -> bool
+    ensures { result ≡ inside_source (kind_of head) inside }
 {
-    (head == 0) | ((head == 2) & inside)
+    head.is_part() | (head.is_other() & inside)
 }
 
 // The markers of the source sequence.
@@ -56,7 +60,7 @@ fn target_heads(t: &[u8], heads: &mut [u16]) -> usize
     let mut m: usize = 0;
     while at < t.len() {
         let g = walker::glance_at(t, at);
-        m = put_if(g.head == 1, heads, m, at as u16);
+        m = put_if(g.head.is_target(), heads, m, at as u16);
         at += g.width;
     }
     m
@@ -71,14 +75,14 @@ fn target_markers(t: &[u8], heads: &[u16], i: usize, q: u16, out: &mut [u16], n:
 {
     let head = marks::wide(heads[i]);
     let first = walker::glance_at(t, head);
-    if q != first.order {
+    if !first.head.sets(q) {
         return n;
     }
     let mut at = head + first.width;
     let mut m = n;
     while at < t.len() {
         let g = walker::glance_at(t, at);
-        if g.head != 2 {
+        if !g.head.is_other() {
             return m;
         }
         m = put_if(g.marker, out, m, at as u16);
@@ -94,7 +98,9 @@ fn head_orders(t: &[u8], heads: &[u16], out: &mut [u16])
 {
     for i in 0..heads.len() {
         let g = walker::glance_at(t, marks::wide(heads[i]));
-        out[i] = g.order;
+        if let Head::Target(order) = g.head {
+            out[i] = order;
+        }
     }
 }
 
@@ -150,36 +156,69 @@ pub fn targets(t: &[u8], parts: u16, out: &mut [u16]) -> usize
     n
 }
 
-// How many markers there are in the source and in the target sequence.
-#[derive(Clone, Copy)]
-pub struct Counts {
-    pub source: usize,
-    pub target: usize,
+// Room for the markers of a sequence: their offsets and their keys, at the front of two arrays.
+#[derive(Drop)]
+pub struct MarkerRoom {
+    pub markers: [u16; MOST_RECORDS],
+    pub keys: [u32; MOST_RECORDS],
+    pub count: usize,
+    pub ghost fits: { count ≤ most_records },
 }
 
-// The markers of both sequences of a table with so many parts: their offsets at the front of `source_markers` and
-// `target_markers`, their keys at the front of `source_keys` and `target_keys`.
-pub fn markers(
-    t: &[u8],
-    parts: usize,
-    source_markers: &mut [u16],
-    source_keys: &mut [u32],
-    target_markers: &mut [u16],
-    target_keys: &mut [u32],
-) -> Counts
-    requires { Passes t.now × (length t.now ≤ most_bytes) × (parts ≡ length (unit t.now).parts) × (length source_markers.old ≡ most_records)
-        × (length source_keys.old ≡ most_records) × (length target_markers.old ≡ most_records) × (length target_keys.old ≡ most_records) }
-    ensures { Markers t.now (take result.source source_markers.new) (take result.source source_keys.new)
-        (take result.target target_markers.new) (take result.target target_keys.new)
-        × (result.source ≡ length (take result.source source_markers.new)) × (result.source ≡ length (take result.source source_keys.new))
-        × (result.target ≡ length (take result.target target_markers.new)) × (result.target ≡ length (take result.target target_keys.new)) }
-{
-    let k = sources(t, source_markers);
-    let m = targets(t, marks::narrow(parts), target_markers);
-    keys::keys_at(t, &source_markers[..k], source_keys);
-    keys::keys_at(t, &target_markers[..m], target_keys);
-    Counts {
-        source: k,
-        target: m,
+impl MarkerRoom {
+    pub fn new() -> MarkerRoom {
+        MarkerRoom {
+            markers: [0; MOST_RECORDS],
+            keys: [0; MOST_RECORDS],
+            count: 0,
+        }
     }
+
+    // The markers that it holds.
+    pub fn sequence(&self) -> Sequence<'_>
+        ensures { (result.markers.now ≡ take self.now.count self.now.markers) × (result.keys.now ≡ take self.now.count self.now.keys) }
+    {
+        Sequence {
+            markers: &self.markers[..self.count],
+            keys: &self.keys[..self.count],
+        }
+    }
+
+    // The keys of the markers whose offsets stand at the front.
+    fn read_keys(&mut self, t: &[u8])
+        ensures { (self.new.count ≡ self.old.count) × (self.new.markers ≡ self.old.markers)
+            × (take self.new.count self.new.keys ≡ keys_at t.now (take self.new.count self.new.markers)) }
+    {
+        keys::keys_at(t, &self.markers[..self.count], &mut self.keys);
+    }
+
+    // The markers of the source sequence of a table.
+    pub fn hold_source(&mut self, t: &[u8])
+        requires { Passes t.now × (length t.now ≤ most_bytes) }
+        ensures { (take self.new.count self.new.markers ≡ offsets true 0 t.now)
+            × (take self.new.count self.new.keys ≡ keys_at t.now (take self.new.count self.new.markers)) }
+    {
+        self.count = sources(t, &mut self.markers);
+        self.read_keys(t);
+    }
+
+    // The markers of the target sequence of a table with so many parts.
+    pub fn hold_target(&mut self, t: &[u8], parts: u16)
+        requires { Passes t.now × (length t.now ≤ most_bytes) × (parts ≤ most_parts) }
+        ensures { (take self.new.count self.new.markers ≡ target_offsets t.now 0 parts)
+            × (take self.new.count self.new.keys ≡ keys_at t.now (take self.new.count self.new.markers)) }
+    {
+        self.count = targets(t, parts, &mut self.markers);
+        self.read_keys(t);
+    }
+}
+
+// The markers of both sequences of a table with so many parts.
+pub fn markers(t: &[u8], parts: usize, source: &mut MarkerRoom, target: &mut MarkerRoom)
+    requires { Passes t.now × (length t.now ≤ most_bytes) × (parts ≡ length (unit t.now).parts) }
+    ensures { Markers t.now (take source.new.count source.new.markers) (take source.new.count source.new.keys)
+        (take target.new.count target.new.markers) (take target.new.count target.new.keys) }
+{
+    source.hold_source(t);
+    target.hold_target(t, marks::narrow(parts));
 }

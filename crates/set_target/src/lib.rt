@@ -31,11 +31,10 @@ fn set_ended(
     }
     let mut work = [0u8; MOST_BYTES];
     let n = set_result::put_set(&mut work, table, place, order, state, content);
-    let k = result_rules::rules_6_to_10(&work[..n]);
-    if k == 0 {
-        return Answer::Accepted(writer::put(out, &work[..n]));
+    if let Some(k) = result_rules::rules_6_to_10(&work[..n]) {
+        return Answer::Refused(k, 0);
     }
-    Answer::Refused(k, 0)
+    Answer::Accepted(writer::put(out, &work[..n]))
 }
 
 // The old content: the target's, without target the source's.

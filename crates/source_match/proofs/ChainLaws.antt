@@ -19,8 +19,8 @@ use Rattle.places.specs.Markers.{item_at}
 use Rattle.views.specs.Views.{items_of_markers}
 use Rattle.views.specs.declared.View.{View}
 use Rattle.source_match.specs.declared.Matches.{Matches}
-use Rattle.source_match.specs.Ten.{test_by, matches_by, matches_in, joined, LinkedItems}
-use Rattle.source_match.proofs.MatchLaws.{same_matches, none_found, joined_apart, joined_none, test_other_id, items_last, items_past}
+use Rattle.source_match.specs.Ten.{view_starts_id, other_class_view, agrees_with, may_copy_view, test_by, matches_by, matches_in, none_found, joined, LinkedItems}
+use Rattle.source_match.proofs.MatchLaws.{same_matches, joined_apart, joined_none, test_other_id, items_last, items_past}
 
 -- the item before j is of the group; what is found and what is among the first j items are all
 abbrev pub Following : List ℕ → List ℕ → List ℕ → ℕ → View → Matches → ℕ → Type 0
@@ -38,31 +38,32 @@ module _ (t markers keys links heads : List ℕ) (id : ℕ) (x : View) (given : 
   so_many = ap length given.0 ∙ length_keys t markers
 
   -- an item of another group has another id
-  other_group : (kind k : ℕ) → k < length markers → chain k ≡ false → test_by kind id x (item_at t (get_or markers k 0)) ≡ false
-  other_group kind k l e =
+  other_group : (test : View → View → Bool) (k : ℕ) → k < length markers → chain k ≡ false → test_by test id x (item_at t (get_or markers k 0)) ≡ false
+  other_group test k l e =
       let y = item_at t (get_or markers k 0) in
       let d : get_or keys k 0 / 64 ≡ id_of y = ap (λ (n : List ℕ). get_or n k 0 / 64) given.0 ∙ ap (λ (n : ℕ). n / 64) (key_at t markers k l) ∙ id_key_lem y in
-      test_other_id id x y kind (ne_eqb (id_of y) id (λ z. eqb-false (group (get_or keys k 0)) (id % 256) e (ap (λ (n : ℕ). n % 256) (d ∙ z))))
+      test_other_id id x y test (ne_eqb (id_of y) id (λ z. eqb-false (group (get_or keys k 0)) (id % 256) e (ap (λ (n : ℕ). n % 256) (d ∙ z))))
 
   matches_past : (i : ℕ) → i ≤ length markers → first i ≡ first (previous chain i)
   unfolding matches_in
   matches_past i h =
-      same_matches (items_past (test_by 0 id x) t markers chain (other_group 0) i h) (items_past (test_by 1 id x) t markers chain (other_group 1) i h)
-      (items_past (test_by 2 id x) t markers chain (other_group 2) i h) (items_past (test_by 3 id x) t markers chain (other_group 3) i h)
+      same_matches (items_past (test_by view_starts_id id x) t markers chain (other_group view_starts_id) i h) (items_past (test_by other_class_view id x) t markers chain (other_group other_class_view) i h)
+      (items_past (test_by agrees_with id x) t markers chain (other_group agrees_with) i h) (items_past (test_by may_copy_view id x) t markers chain (other_group may_copy_view) i h)
 
   matches_last : (i : ℕ) → i < length markers → first (suc i) ≡ joined (matches_by id x (item_at t (get_or markers i 0))) (first i)
   unfolding matches_in
   matches_last i h =
-      same_matches (items_last (test_by 0 id x) t markers i h) (items_last (test_by 1 id x) t markers i h)
-      (items_last (test_by 2 id x) t markers i h) (items_last (test_by 3 id x) t markers i h)
+      same_matches (items_last (test_by view_starts_id id x) t markers i h) (items_last (test_by other_class_view id x) t markers i h)
+      (items_last (test_by agrees_with id x) t markers i h) (items_last (test_by may_copy_view id x) t markers i h)
 
-  pub follow_start : (j : ℕ) → j ≡ get_or heads (id % 256) 0 → Following t markers keys id x none_found j
-  follow_start j e =
+  pub follow_start : (found : Matches) → found ≡ none_found → (j : ℕ) → j ≡ get_or heads (id % 256) 0 → Following t markers keys id x found j
+  follow_start found n j e =
       let f : j ≡ previous chain (length markers) = e ∙ given.2 (id % 256) (omega arith) ∙ ap (previous chain) so_many in
-      subst (λ (k : ℕ). Following t markers keys id x none_found k) (sym f) (
+      subst (λ (k : ℕ). Following t markers keys id x found k) (sym f) (
         previous_high chain (length markers),
         previous_passes chain (length markers),
-        sym (matches_past (length markers) (omega arith)) ∙ ap (λ (l : List ℕ). matches_in id x (items_of_markers t l)) (take_all (length markers) markers (omega arith)),
+        ap (λ (m : Matches). joined m (first (previous chain (length markers)))) n
+            ∙ sym (matches_past (length markers) (omega arith)) ∙ ap (λ (l : List ℕ). matches_in id x (items_of_markers t l)) (take_all (length markers) markers (omega arith)),
       )
 
   link_of : (found : Matches) (j : ℕ) → 0 < j → Following t markers keys id x found j → get_or links (j - 1) 0 ≡ previous chain (j - 1)
@@ -71,13 +72,13 @@ module _ (t markers keys links heads : List ℕ) (id : ℕ) (x : View) (given : 
   pub follow_less : (found : Matches) (j : ℕ) → 0 < j → Following t markers keys id x found j → get_or links (j - 1) 0 < j
   follow_less found j h f = omega (arith, h, link_of found j h f, previous_high chain (j - 1))
 
-  pub follow_next : (found more : Matches) (j at k : ℕ) → 0 < j → Following t markers keys id x found j → at ≡ get_or markers (j - 1) 0
-      → more ≡ joined found (matches_by id x (item_at t at)) → k ≡ get_or links (j - 1) 0 → Following t markers keys id x more k
-  follow_next found more j at k h f a e l =
+  pub follow_next : (found more : Matches) (j k : ℕ) → 0 < j → Following t markers keys id x found j
+      → more ≡ joined found (matches_by id x (item_at t (get_or markers (j - 1) 0))) → k ≡ get_or links (j - 1) 0 → Following t markers keys id x more k
+  follow_next found more j k h f e l =
       subst (λ (n : ℕ). Following t markers keys id x more n) (sym (l ∙ link_of found j h f)) (
         let z = previous_high chain (j - 1) in omega (arith, z, f.0),
         previous_passes chain (j - 1),
-        ap (λ (m : Matches). joined m (first (previous chain (j - 1)))) (e ∙ ap (λ (n : ℕ). joined found (matches_by id x (item_at t n))) a)
+        ap (λ (m : Matches). joined m (first (previous chain (j - 1)))) e
             ∙ joined_apart found (matches_by id x (item_at t (get_or markers (j - 1) 0))) (first (previous chain (j - 1)))
             ∙ ap (λ (m : Matches). joined found (joined (matches_by id x (item_at t (get_or markers (j - 1) 0))) m)) (sym (matches_past (j - 1) (omega (arith, f.0))))
             ∙ ap (joined found) (sym (matches_last (j - 1) (omega (arith, h, f.0))))

@@ -18,14 +18,11 @@ use Rattle.views.specs.declared.View.{View}
 use Rattle.keys.specs.Keys.{key}
 use Rattle.keys.proofs.KeyLaws.{id_key_lem}
 use Rattle.source_match.specs.declared.Matches.{Matches}
-use Rattle.source_match.specs.Ten.{test_of, test_by, matches_of, matches_by, joined}
+use Rattle.source_match.specs.Ten.{view_starts_id, other_class_view, agrees_with, may_copy_view, test_by, matches_of, matches_by, none_found, joined}
 
 -- field by field
 pub same_matches : {f g : Matches} → f.starts ≡ g.starts → f.differs ≡ g.differs → f.agrees ≡ g.agrees → f.copies ≡ g.copies → f ≡ g
 same_matches a b c d i = record { starts = a i; differs = b i; agrees = c i; copies = d i }
-
-abbrev pub none_found : Matches
-none_found = record { starts = false; differs = false; agrees = false; copies = false }
 
 or_swap : (a b c : Bool) → a || (b || c) ≡ b || (a || c)
 or_swap true true c = refl
@@ -42,13 +39,13 @@ joined_none f = same_matches (or_none f.starts) (or_none f.differs) (or_none f.a
 
 -- one item, by its key
 module _ (id : ℕ) (x : View) (y : spec.Item) where
-  pub test_other_id : (kind : ℕ) → eqb (id_of y) id ≡ false → test_by kind id x y ≡ false
+  pub test_other_id : (test : View → View → Bool) → eqb (id_of y) id ≡ false → test_by test id x y ≡ false
   unfolding test_by
-  test_other_id kind e = rw e refl
+  test_other_id test e = rw e refl
 
-  test_same_id : (kind : ℕ) → eqb (id_of y) id ≡ true → test_by kind id x y ≡ test_of kind x (view_of y)
+  test_same_id : (test : View → View → Bool) → eqb (id_of y) id ≡ true → test_by test id x y ≡ test x (view_of y)
   unfolding test_by
-  test_same_id kind e = rw e refl
+  test_same_id test e = rw e refl
 
   id_is : (k : ℕ) → k ≡ key y → eqb (id_of y) id ≡ eqb (k / 64) id
   id_is k e = sym (ap (λ (n : ℕ). eqb (n / 64) id) e ∙ ap (λ (n : ℕ). eqb n id) (id_key_lem y))
@@ -56,12 +53,12 @@ module _ (id : ℕ) (x : View) (y : spec.Item) where
   pub matches_other_id : (k : ℕ) (f : Matches) → k ≡ key y → eqb (k / 64) id ≡ false → f ≡ joined f (matches_by id x y)
   matches_other_id k f e h =
       let g = id_is k e ∙ h in
-      sym (ap (joined f) (same_matches (test_other_id 0 g) (test_other_id 1 g) (test_other_id 2 g) (test_other_id 3 g)) ∙ joined_none f)
+      sym (ap (joined f) (same_matches (test_other_id view_starts_id g) (test_other_id other_class_view g) (test_other_id agrees_with g) (test_other_id may_copy_view g)) ∙ joined_none f)
 
   pub matches_same_id : (k : ℕ) → k ≡ key y → eqb (k / 64) id ≡ true → matches_of x (view_of y) ≡ matches_by id x y
   matches_same_id k e h =
       let g = id_is k e ∙ h in
-      sym (same_matches (test_same_id 0 g) (test_same_id 1 g) (test_same_id 2 g) (test_same_id 3 g))
+      sym (same_matches (test_same_id view_starts_id g) (test_same_id other_class_view g) (test_same_id agrees_with g) (test_same_id may_copy_view g))
 
 -- the first items, and what a search among them may pass over
 module _ (p : spec.Item → Bool) (t : List ℕ) where

@@ -9,14 +9,13 @@ use Rattle.xliff.specs.Bytes.{any, among}
 use Rattle.xliff.specs.Item as spec
 use Rattle.xliff.specs.Item.{Content, alike, class, id_of, fields}
 use Rattle.xliff.specs.Rules.{bad_10_source, bad_10_target, unlike_source, bad_copy, of_other_class, starts_id, agrees, same_half, may_copy}
-use Rattle.xliff.proofs.lists.Tests.{or_none}
 use Rattle.xliff.specs.Sequences.{items}
 use Rattle.places.specs.Markers.{placed_at}
 use Rattle.halves.specs.Nearest.{earlier, marker_at}
 use Rattle.views.specs.declared.View.{View}
 use Rattle.views.specs.Views.{view_of}
 use Rattle.views.proofs.ViewLaws.{code_same}
-use Rattle.source_match.specs.Ten.{test_of, bad_ten_source, bad_ten_target}
+use Rattle.source_match.specs.Ten.{view_starts_id, other_class_view, agrees_with, may_copy_view, bad_ten_source, bad_ten_target}
 
 ten_source_is : (before : Content) (x : spec.Item) (after : Content) → bad_ten_source (view_of x) ≡ bad_10_source before x after
 unfolding bad_10_source view_of among
@@ -35,19 +34,19 @@ any_each p q e [] = refl
 any_each p q e (x ∷ l) = ap₂ ◌||◌ (e x) (any_each p q e l)
 
 module _ (x : spec.Item) where
-  starts_same : (y : spec.Item) → test_of 0 (view_of x) (view_of y) ≡ starts_id (id_of x) y
+  starts_same : (y : spec.Item) → view_starts_id (view_of x) (view_of y) ≡ starts_id (id_of x) y
   unfolding view_of starts_id
-  starts_same y = or_none _ ∙ or_none _ ∙ or_none _
+  starts_same y = refl
 
-  class_same : (y : spec.Item) → test_of 1 (view_of x) (view_of y) ≡ of_other_class x y
+  class_same : (y : spec.Item) → other_class_view (view_of x) (view_of y) ≡ of_other_class x y
   unfolding view_of starts_id of_other_class
-  class_same y = or_none _ ∙ or_none _
+  class_same y = refl
 
-  agrees_same : (y : spec.Item) → test_of 2 (view_of x) (view_of y) ≡ agrees x y
+  agrees_same : (y : spec.Item) → agrees_with (view_of x) (view_of y) ≡ agrees x y
   unfolding view_of agrees same_half alike
-  agrees_same y = or_none _
+  agrees_same y = refl
 
-  copies_same : (y : spec.Item) → test_of 3 (view_of x) (view_of y) ≡ may_copy x y
+  copies_same : (y : spec.Item) → may_copy_view (view_of x) (view_of y) ≡ may_copy x y
   unfolding view_of may_copy
   copies_same y = refl
 

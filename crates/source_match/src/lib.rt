@@ -1,39 +1,52 @@
 // Rule 10: codes of targets match those of the source.
-// Throughout, `t` is the table, `source_markers` and `target_markers` the offsets of the markers of the source and the
-// target sequence, `source_keys` and `target_keys` their keys. `links` and `heads` link keys by the groups of their ids
-// (`id_links`).
+// Throughout, `t` is the table, `source` and `target` the markers of the source and the target sequence.
 #![tactic(auto)]
 
-ghost use Rattle.std.specs.Prelude.{◌≡◌, []};
+ghost use Rattle.std.specs.Prelude.{◌≡◌, [], ◌<◌, length, get_or};
 ghost use Rattle.answers.specs.Answers.{refusal_at, toward};
 ghost use Rattle.views.specs.Views.{items_of_markers};
-ghost use Rattle.keys.specs.Keys.{key, keys_at};
-ghost use Rattle.source_match.specs.Ten.{test_of, matches_of, matches_by, matches_in, joined, bad_ten_source, copies_none, bad_ten_target, LinkedItems};
+ghost use Rattle.keys.specs.Keys.{keys_at};
+ghost use Rattle.source_match.specs.Ten.{view_starts_id, other_class_view, agrees_with, may_copy_view, matches_of, matches_by, matches_in, none_found, joined,
+    bad_ten_source, copies_none, bad_ten_target, LinkedItems};
 ghost use Rattle.xliff.specs.Sequences.{blamed, first_of};
 ghost use Rattle.xliff.specs.Rules.{bad_10_source, bad_10_target, fault_10};
 ghost use Rattle.xliff.specs.Parse.{unit};
-ghost use Rattle.sequences.specs.Markers.{Markers};
+ghost use Rattle.sequences.specs.Markers.{Sequences};
 ghost use Rattle.places.specs.Markers.{item_at, placed_at};
 
+use keys::Sequence;
 use limits::MOST_RECORDS;
 use views::View;
 
-// The tests of an item against another: 0 gives its id, 1 gives it in another class, 2 is its like in the source, 3 is
-// what it may be a copy of.
-fn passes(kind: u8, x: View, y: View) -> bool
-    ensures { result ≡ test_of kind x y }
+// Whether `y` gives the id of `x`.
+fn starts_id(x: View, y: View) -> bool
+    ensures { result ≡ view_starts_id x y }
 {
-    let starts = (!(y.class == 0) & !(y.half == 2)) & (y.id == x.id);
-    let class = x.class == y.class;
+    (!(y.class == 0) & !(y.half == 2)) & (y.id == x.id)
+}
+
+// Whether `y` gives the id of `x` in another class.
+fn is_of_other_class(x: View, y: View) -> bool
+    ensures { result ≡ other_class_view x y }
+{
+    starts_id(x, y) & !(x.class == y.class)
+}
+
+// Whether `y` is the like of `x` in the source.
+fn agrees_with(x: View, y: View) -> bool
+    ensures { result ≡ agrees_with x y }
+{
     let letters = (x.refers == y.refers)
         & ((x.copy == y.copy)
             & ((x.delete == y.delete) & ((x.overlap == y.overlap) & (x.reorder == y.reorder))));
-    let agrees = ((class & (x.id == y.id)) & (x.half == y.half)) & letters;
-    let copies = class & ((x.of == y.id) & (y.copy == b'Y'));
-    ((kind == 0) & starts)
-        | ((kind == 1) & (starts & !class))
-        | ((kind == 2) & agrees)
-        | ((kind == 3) & copies)
+    (((x.class == y.class) & (x.id == y.id)) & (x.half == y.half)) & letters
+}
+
+// Whether `y` is what `x` may be a copy of.
+fn may_copy(x: View, y: View) -> bool
+    ensures { result ≡ may_copy_view x y }
+{
+    (x.class == y.class) & ((x.of == y.id) & (y.copy == b'Y'))
 }
 
 // Which of the four tests some item passes.
@@ -45,62 +58,99 @@ pub struct Matches {
     pub copies: bool,
 }
 
-fn matches_of(x: View, y: View) -> Matches
-    ensures { result ≡ matches_of x y }
-{
-    Matches {
-        starts: passes(0, x, y),
-        differs: passes(1, x, y),
-        agrees: passes(2, x, y),
-        copies: passes(3, x, y),
+impl Matches {
+    fn none() -> Matches
+        ensures { result ≡ none_found }
+    {
+        Matches {
+            starts: false,
+            differs: false,
+            agrees: false,
+            copies: false,
+        }
+    }
+
+    fn of(x: View, y: View) -> Matches
+        ensures { result ≡ matches_of x y }
+    {
+        Matches {
+            starts: starts_id(x, y),
+            differs: is_of_other_class(x, y),
+            agrees: agrees_with(x, y),
+            copies: may_copy(x, y),
+        }
+    }
+
+    // The tests that some item of either passes.
+    fn join(self, other: Matches) -> Matches
+        ensures { result ≡ joined self other }
+    {
+        Matches {
+            starts: self.starts | other.starts,
+            differs: self.differs | other.differs,
+            agrees: self.agrees | other.agrees,
+            copies: self.copies | other.copies,
+        }
     }
 }
 
-// The tests of one more item, at an offset, whose key is `k`. Only where its id is `id` is the table read.
-fn one_more(t: &[u8], at: usize, k: u32, id: u16, x: View, found: Matches) -> Matches
-    requires { k ≡ key (item_at t.now at) }
-    ensures { result ≡ joined found (matches_by id x (item_at t.now at)) }
-{
-    if !(keys::id_of(k) == (id as u32)) {
-        return found;
-    }
-    let m = matches_of(x, keys::view_at(t, at, k));
-    Matches {
-        starts: found.starts | m.starts,
-        differs: found.differs | m.differs,
-        agrees: found.agrees | m.agrees,
-        copies: found.copies | m.copies,
-    }
+// The items at the markers of a sequence, their keys linked by the groups of their ids (`id_links`).
+#[derive(Clone, Copy)]
+struct LinkedItems<'a> {
+    t: &'a [u8],
+    sequence: Sequence<'a>,
+    links: &'a [u16],
+    heads: &'a [u16],
+    ghost linked: { LinkedItems t.now sequence.markers.now sequence.keys.now links.now heads.now },
 }
 
-// The tests of all items whose id is `id`; `markers` and `keys` are the items' offsets and keys.
-// Linear in the items of the group of `id`, from the last on along the links.
-fn matches_by(
-    t: &[u8],
-    markers: &[u16],
-    keys: &[u32],
-    links: &[u16],
-    heads: &[u16],
-    id: u16,
-    x: View,
-) -> Matches
-    requires { LinkedItems t.now markers.now keys.now links.now heads.now }
-    ensures { result ≡ matches_in id x (items_of_markers t.now markers.now) }
-{
-    let mut found = Matches {
-        starts: false,
-        differs: false,
-        agrees: false,
-        copies: false,
-    };
-    let g = marks::wide(id) % 256;
-    let mut j = marks::wide(heads[g]);
-    while 0 < j {
-        let i = j - 1;
-        found = one_more(t, marks::wide(markers[i]), keys[i], id, x, found);
-        j = marks::wide(links[i]);
+impl LinkedItems<'_> {
+    // The tests of one more item, that at the index `i`. Only where its id is `id` is the table read.
+    fn one_more(self, i: usize, id: u16, x: View, found: Matches) -> Matches
+        requires { i < length self.sequence.markers.now }
+        ensures { result ≡ joined found (matches_by id x (item_at self.entry.t.now (get_or self.entry.sequence.markers.now i 0))) }
+    {
+        let k = self.sequence.keys[i];
+        if !(keys::id_of(k) == u32::from(id)) {
+            return found;
+        }
+        let at = marks::wide(self.sequence.markers[i]);
+        found.join(Matches::of(x, keys::view_at(self.t, at, k)))
     }
-    found
+
+    // The tests of all items whose id is `id`.
+    // Linear in the items of the group of `id`, from the last on along the links.
+    fn matches_by(self, id: u16, x: View) -> Matches
+        ensures { result ≡ matches_in id x (items_of_markers self.entry.t.now self.entry.sequence.markers.now) }
+    {
+        let mut found = Matches::none();
+        let mut j = marks::wide(self.heads[marks::wide(id) % 256]);
+        while 0 < j {
+            let i = j - 1;
+            found = self.one_more(i, id, x, found);
+            j = marks::wide(self.links[i]);
+        }
+        found
+    }
+
+    // Whether a target item names an id that it is a copy of, and no item of the source is one that it may copy.
+    fn copies_none(self, x: View) -> bool
+        ensures { result ≡ copies_none (items_of_markers self.entry.t.now self.entry.sequence.markers.now) x }
+    {
+        if x.of == 0 {
+            return false;
+        }
+        !self.matches_by(x.of, x).copies
+    }
+
+    // Rule 10 of a target item.
+    fn is_bad_in_target(self, x: View) -> bool
+        ensures { result ≡ bad_ten_target (items_of_markers self.entry.t.now self.entry.sequence.markers.now) x }
+    {
+        let m = self.matches_by(x.id, x);
+        let code = views::is_code(x);
+        (m.differs | ((code & m.starts) & (!m.agrees | !(x.of == 0)))) | (code & self.copies_none(x))
+    }
 }
 
 // Rule 10 of a source item.
@@ -110,52 +160,15 @@ fn bad_copy_in_source(x: View) -> bool
     views::is_code(x) & !(x.of == 0)
 }
 
-// Whether a target item names an id that it is a copy of, and no item of the source is one that it may copy.
-fn copies_none(
-    t: &[u8],
-    markers: &[u16],
-    keys: &[u32],
-    links: &[u16],
-    heads: &[u16],
-    x: View,
-) -> bool
-    requires { LinkedItems t.now markers.now keys.now links.now heads.now }
-    ensures { result ≡ copies_none (items_of_markers t.now markers.now) x }
-{
-    if x.of == 0 {
-        return false;
-    }
-    let m = matches_by(t, markers, keys, links, heads, x.of, x);
-    !m.copies
-}
-
-// Rule 10 of a target item.
-fn bad_in_target(
-    t: &[u8],
-    markers: &[u16],
-    keys: &[u32],
-    links: &[u16],
-    heads: &[u16],
-    x: View,
-) -> bool
-    requires { LinkedItems t.now markers.now keys.now links.now heads.now }
-    ensures { result ≡ bad_ten_target (items_of_markers t.now markers.now) x }
-{
-    let m = matches_by(t, markers, keys, links, heads, x.id, x);
-    let code = views::is_code(x);
-    (m.differs | ((code & m.starts) & (!m.agrees | !(x.of == 0))))
-        | (code & copies_none(t, markers, keys, links, heads, x))
-}
-
 // Rule 10 over the markers of the source sequence.
-fn ten_source(t: &[u8], markers: &[u16], keys: &[u32]) -> Option<usize>
-    requires { keys.now ≡ keys_at t.now markers.now }
-    ensures { refusal_at 10 result ≡ first_of 10 (blamed bad_10_source [] (placed_at t.now markers.now)) }
+fn ten_source(t: &[u8], s: Sequence) -> Option<usize>
+    requires { s.keys.now ≡ keys_at t.now s.markers.now }
+    ensures { refusal_at 10 result ≡ first_of 10 (blamed bad_10_source [] (placed_at t.now s.entry.markers.now)) }
 {
     let mut best = None;
-    for i in 0..markers.len() {
-        let at = marks::wide(markers[i]);
-        best = answers::lower_if(bad_copy_in_source(keys::view_at(t, at, keys[i])), best, at);
+    for i in 0..s.markers.len() {
+        let at = marks::wide(s.markers[i]);
+        best = answers::lower_if(bad_copy_in_source(keys::view_at(t, at, s.keys[i])), best, at);
     }
     best
 }
@@ -163,60 +176,33 @@ fn ten_source(t: &[u8], markers: &[u16], keys: &[u32]) -> Option<usize>
 // Rule 10 over the markers of the target sequence, below `start`.
 // Each looks at the source items of two groups: linear in the markers, at most quadratic, where all ids fall into one
 // group.
-fn ten_target(
-    t: &[u8],
-    source_markers: &[u16],
-    source_keys: &[u32],
-    links: &[u16],
-    heads: &[u16],
-    markers: &[u16],
-    keys: &[u32],
-    start: Option<usize>,
-) -> Option<usize>
-    requires { LinkedItems t.now source_markers.now source_keys.now links.now heads.now × (keys.now ≡ keys_at t.now markers.now) }
-    ensures { refusal_at 10 result ≡ toward 10 start (blamed (bad_10_target (items_of_markers t.now source_markers.now)) [] (placed_at t.now markers.now)) }
+fn ten_target(t: &[u8], source: LinkedItems, s: Sequence, start: Option<usize>) -> Option<usize>
+    requires { s.keys.now ≡ keys_at t.now s.markers.now }
+    ensures { refusal_at 10 result ≡ toward 10 start
+        (blamed (bad_10_target (items_of_markers source.entry.t.now source.entry.sequence.markers.now)) [] (placed_at t.now s.entry.markers.now)) }
 {
     let mut best = start;
-    for i in 0..markers.len() {
-        let at = marks::wide(markers[i]);
-        best = answers::lower_if(
-            bad_in_target(
-                t,
-                source_markers,
-                source_keys,
-                links,
-                heads,
-                keys::view_at(t, at, keys[i]),
-            ),
-            best,
-            at,
-        );
+    for i in 0..s.markers.len() {
+        let at = marks::wide(s.markers[i]);
+        let bad = source.is_bad_in_target(keys::view_at(t, at, s.keys[i]));
+        best = answers::lower_if(bad, best, at);
     }
     best
 }
 
-// Rule 10, by the offsets and the keys of the markers of both sequences.
-pub fn rule_10(
-    t: &[u8],
-    source_markers: &[u16],
-    source_keys: &[u32],
-    target_markers: &[u16],
-    target_keys: &[u32],
-) -> Option<usize>
-    requires { Markers t.now source_markers.now source_keys.now target_markers.now target_keys.now }
+// Rule 10, by the markers of both sequences.
+pub fn rule_10(t: &[u8], source: Sequence, target: Sequence) -> Option<usize>
+    requires { Sequences t.now source target }
     ensures { refusal_at 10 result ≡ fault_10 (unit t.now).parts }
 {
     let mut links = [0u16; MOST_RECORDS];
     let mut heads = [0u16; 256];
-    id_links::link_before(source_keys, &mut links, &mut heads);
-    ten_target(
+    id_links::link_before(source.keys, &mut links, &mut heads);
+    let items = LinkedItems {
         t,
-        source_markers,
-        source_keys,
-        &links,
-        &heads,
-        target_markers,
-        target_keys,
-        ten_source(t, source_markers, source_keys),
-    )
+        sequence: source,
+        links: &links,
+        heads: &heads,
+    };
+    ten_target(t, items, target, ten_source(t, source))
 }

@@ -31,10 +31,8 @@ use Rattle.table.specs.declared.Read.TheVariants.{Good, Ill, Broken}
 use Rattle.syntax.specs.Stages.{stage, step_meaning, is_bad_item, step_if, step_at_text, step_at_item, record_step, step_of, is_part_read, moved, move_of, may_end_stage, fault_from}
 use Rattle.syntax.specs.declared.Stage.{Stage}
 use Rattle.syntax.specs.declared.Stage.TheVariants.{UnitDue, PartDue, InSource, InTarget, Complete, Alone}
-use Rattle.syntax.specs.declared.Step.{Step}
-use Rattle.syntax.specs.declared.Step.TheVariants.{On, Fault}
+use Rattle.std.specs.Prelude.{Result, Ok, Err}
 use Rattle.syntax.specs.declared.State.{State}
-use Rattle.syntax.specs.declared.Move.TheVariants.{Go, Halt}
 
 item_same : (i : Item) → is_bad_item i ≡ bad_item (item i)
 unfolding bad_item
@@ -198,14 +196,14 @@ rest_at : (t : List ℕ) (s : State) (at : ℕ) → at < length t → Rest t s a
 unfolding first_bad
 rest_at t s at l = rw (walk_at s.left at (drop at t) (omega (arith, length-drop at t)))
 
-go_halt : {A : Type 0} {n w : ℕ} {s : State} → Halt n ≡ Go s w → A
+go_halt : {A : Type 0} {n : ℕ} {s : State} → ◌≡◌ {A = Result State ℕ} (Err n) (Ok s) → A
 go_halt e = absurd (let z : ◌≡◌ {A = ℕ} 0 1 = cc in omega arith)
 
-halt_number : {n m : ℕ} → Halt n ≡ Halt m → n ≡ m
+halt_number : {n m : ℕ} → ◌≡◌ {A = Result State ℕ} (Err n) (Err m) → n ≡ m
 halt_number e = cc
 
-go_state : {s s' : State} {w w' : ℕ} → Go s w ≡ Go s' w' → (s ≡ s') × (w ≡ w')
-go_state e = (cc, cc)
+go_state : {s s' : State} → ◌≡◌ {A = Result State ℕ} (Ok s) (Ok s') → s ≡ s'
+go_state e = cc
 
 -- the record read is that of the specification
 module _ (t : List ℕ) (s : State) (at : ℕ) (cs : List ℕ) (r : Read) (x : encode.Record) (es : List Entry) (m : meaning cs r ≡ x) (w : width r ≡ length (record_bytes x)) where
@@ -216,76 +214,76 @@ module _ (t : List ℕ) (s : State) (at : ℕ) (cs : List ℕ) (r : Read) (x : e
   step_is = step_same s.stage cs r (w ∙ ap (λ (y : encode.Record). length (record_bytes y)) (sym m)) ∙ ap (step (stage s.stage)) m
 
   -- what is judged, by the code's step
-  Told : Step → Option Refusal
-  Told (Fault n) = refusal n at
-  Told (On st) = first_bad (length t) (s.left - 1) (cond (is_part_read r) (s.parts - 1) s.parts) (stage st) es
+  Told : Result Stage ℕ → Option Refusal
+  Told (Err n) = refusal n at
+  Told (Ok st) = first_bad (length t) (s.left - 1) (cond (is_part_read r) (s.parts - 1) s.parts) (stage st) es
 
-  told_is : (o : Step) → step_meaning o ≡ step (stage s.stage) x
+  told_is : (o : Result Stage ℕ) → step_meaning o ≡ step (stage s.stage) x
       → elim (step (stage s.stage) x) [
         | fault n ↦ refusal n at
         | on st' ↦ first_bad (length t) (s.left - 1) (cond (is_part x) (s.parts - 1) s.parts) st' es
       ] ≡ Told o
   unfolding Told
-  told_is (Fault n) e = rw (← e)
-  told_is (On st) e = rw (← e, part_is)
+  told_is (Err n) e = rw (← e)
+  told_is (Ok st) e = rw (← e, part_is)
 
   judged_is : Judged t s at x es ≡ cond (eqb s.left 0 || is_part_read r && eqb s.parts 0) (refusal 4 at) (Told (step_of s.stage r))
   judged_is = rw (part_is, ← told_is (step_of s.stage r) step_is)
 
-  off : (n : ℕ) (b : Bool) (o : Step) → cond b (Halt 4) (moved s (is_part_read r) (width r) o) ≡ Halt n → cond b (refusal 4 at) (Told o) ≡ refusal n at
+  off : (n : ℕ) (b : Bool) (o : Result Stage ℕ) → cond b (Err 4) (moved s (is_part_read r) o) ≡ Err n → cond b (refusal 4 at) (Told o) ≡ refusal n at
   unfolding Told
   off n true o e = ap (λ (k : ℕ). refusal k at) (halt_number e)
-  off n false (Fault k) e = ap (λ (k : ℕ). refusal k at) (halt_number e)
-  off n false (On st) e = go_halt (sym e)
+  off n false (Err k) e = ap (λ (k : ℕ). refusal k at) (halt_number e)
+  off n false (Ok st) e = go_halt (sym e)
 
-  judged_off : (n : ℕ) → move_of s r ≡ Halt n → Judged t s at x es ≡ refusal n at
+  judged_off : (n : ℕ) → move_of s r ≡ Err n → Judged t s at x es ≡ refusal n at
   unfolding move_of
   judged_off n e = judged_is ∙ off n (eqb s.left 0 || is_part_read r && eqb s.parts 0) (step_of s.stage r) e
 
-  On-to : State → ℕ → Option Refusal → Type 0
-  On-to s' w' f = (f ≡ first_bad (length t) s'.left s'.parts (stage s'.stage) es) × (w' ≡ length (record_bytes x)) × (s.left ≡ suc s'.left) × (is_broken x ≡ false)
+  On-to : State → Option Refusal → Type 0
+  On-to s' f = (f ≡ first_bad (length t) s'.left s'.parts (stage s'.stage) es) × (s.left ≡ suc s'.left) × (is_broken x ≡ false)
 
-  onto : (s' : State) (w' : ℕ) (b : Bool) (o : Step) → eqb s.left 0 || is_part_read r && eqb s.parts 0 ≡ b → step_of s.stage r ≡ o
-      → cond b (Halt 4) (moved s (is_part_read r) (width r) o) ≡ Go s' w' → On-to s' w' (cond b (refusal 4 at) (Told o))
+  onto : (s' : State) (b : Bool) (o : Result Stage ℕ) → eqb s.left 0 || is_part_read r && eqb s.parts 0 ≡ b → step_of s.stage r ≡ o
+      → cond b (Err 4) (moved s (is_part_read r) o) ≡ Ok s' → On-to s' (cond b (refusal 4 at) (Told o))
   unfolding Told On-to
-  onto s' w' true o p q e = go_halt e
-  onto s' w' false (Fault k) p q e = go_halt e
-  onto s' w' false (On st) p q e =
+  onto s' true o p q e = go_halt e
+  onto s' false (Err k) p q e = go_halt e
+  onto s' false (Ok st) p q e =
       let g = go_state e in
-      let l : s.left - 1 ≡ s'.left = ap (λ (z : State). z.left) g.0 in
+      let l : s.left - 1 ≡ s'.left = ap (λ (z : State). z.left) g in
       let z = eqb-false s.left 0 (or_left (eqb s.left 0) _ p) in (
-        ap (λ (z : State). first_bad (length t) z.left z.parts (stage z.stage) es) g.0,
-        sym g.1 ∙ w,
+        ap (λ (z : State). first_bad (length t) z.left z.parts (stage z.stage) es) g,
         omega (arith, l, z),
         stepped_whole (stage s.stage) (stage st) x (sym step_is ∙ ap step_meaning q),
       )
 
-  judged_on : (s' : State) (w' : ℕ) → move_of s r ≡ Go s' w' → On-to s' w' (Judged t s at x es)
+  judged_on : (s' : State) → move_of s r ≡ Ok s' → On-to s' (Judged t s at x es)
   unfolding move_of On-to
-  judged_on s' w' e = rw judged_is (onto s' w' _ (step_of s.stage r) refl refl e)
+  judged_on s' e = rw judged_is (onto s' _ (step_of s.stage r) refl refl e)
 
-  pub judged_on_is : (s' : State) (w' : ℕ) → move_of s r ≡ Go s' w'
-      → (Judged t s at x es ≡ first_bad (length t) s'.left s'.parts (stage s'.stage) es) × (w' ≡ length (record_bytes x)) × (s.left ≡ suc s'.left) × (is_broken x ≡ false)
+  pub judged_on_is : (s' : State) → move_of s r ≡ Ok s'
+      → (Judged t s at x es ≡ first_bad (length t) s'.left s'.parts (stage s'.stage) es) × (s.left ≡ suc s'.left) × (is_broken x ≡ false)
   unfolding On-to
-  judged_on_is s' w' e = judged_on s' w' e
+  judged_on_is s' e = judged_on s' e
 
 module _ (t : List ℕ) (s : State) (at : ℕ) (r : Read)
     (m : (meaning (body (drop at t)) r ≡ read (drop at t)) × (width r ≡ length (record_bytes (read (drop at t))))) (l : at < length t) where
-  pub scan_off : (n : ℕ) → move_of s r ≡ Halt n → Rest t s at ≡ refusal n at
+  pub scan_off : (n : ℕ) → move_of s r ≡ Err n → Rest t s at ≡ refusal n at
   scan_off n e =
       rest_at t s at l
       ∙ judged_off t s at (body (drop at t)) r (read (drop at t)) (after s.left at (drop at t) (read (drop at t))) m.0 m.1 n e
 
-  pub scan_on : (s' : State) (w : ℕ) → Bytes t → move_of s r ≡ Go s' w → (0 < w) × (at + w ≤ length t) × (Rest t s at ≡ Rest t s' (at + w))
+  pub scan_on : (s' : State) → Bytes t → move_of s r ≡ Ok s' → (0 < width r) × (at + width r ≤ length t) × (Rest t s at ≡ Rest t s' (at + width r))
   unfolding after
-  scan_on s' w h e =
+  scan_on s' h e =
+      let w = width r in
       let x = read (drop at t) in
-      let j = judged_on_is t s at (body (drop at t)) r x (after s.left at (drop at t) x) m.0 m.1 s' w e in
-      let b = read_width (drop at t) (bytes_drop at t h) j.3 in
+      let j = judged_on_is t s at (body (drop at t)) r x (after s.left at (drop at t) x) m.0 m.1 s' e in
+      let b = read_width (drop at t) (bytes_drop at t h) j.2 in
       let k : after s.left at (drop at t) x ≡ walk (suc s'.left) (at + w) (drop (at + w) t) =
-      rw (j.3, j.2, ← j.1) (ap (walk (suc s'.left) (at + w)) (drop-drop w at t)) in (
-        omega (arith, b.0, j.1),
-        omega (arith, b.1, j.1, length-drop at t),
+      rw (j.2, j.1, ← m.1) (ap (walk (suc s'.left) (at + w)) (drop-drop w at t)) in (
+        omega (arith, b.0, m.1),
+        omega (arith, b.1, m.1, length-drop at t),
         rest_at t s at l ∙ j.0 ∙ ap (first_bad (length t) s'.left s'.parts (stage s'.stage)) k,
       )
 

@@ -1,7 +1,8 @@
 -- A record is no longer than the bytes that it is read from.
 use Prim.Native.Nat.{ℕ, suc, ◌≤◌, ◌<◌}
 use mathlib.Core.Path.{◌≡◌, refl, sym, ap, subst}
-use mathlib.Core.Bool.{true, false}
+use mathlib.Core.Bool.{Bool, true, false}
+use mathlib.Core.Logic.{◌⊎◌, inl, inr}
 use mathlib.Core.List.{List, [], ◌∷◌}
 use native.Mathlib.Omega.{arith}
 use lib.ListN.{length, drop, get_or, length-append}
@@ -16,12 +17,18 @@ use Rattle.table.specs.Records.{record_of}
 use Rattle.table.specs.Known.{KnownWidth}
 use Rattle.table.specs.Meaning.{width}
 use Rattle.table.specs.declared.Read.{Read}
+use Rattle.table.specs.declared.Read.TheVariants.{Ill, Broken}
 use Rattle.table.proofs.ReadLaws.{Tied, tied, taken, record_tied, known_is}
 
 -- a list of bytes, from what is known of the elements of a slice
 pub bytes_known : (s : List ℕ) → ((i : ℕ) → Fits w8 (get_or s i 0)) → Bytes s
 bytes_known [] h = no_bytes
 bytes_known (b ∷ s) h = let z : Fits w8 b = h 0 in let y : b < 256 = omega arith in one_byte y (bytes_known s (λ i. h (suc i)))
+
+-- what the reader finds no good record in is given no width
+pub no_width : {r : Read} → (r ≡ Ill) ⊎ ((b : Bool) × (r ≡ Broken b)) → 0 ≡ width r
+no_width (inl e) = simp e
+no_width (inr (b, e)) = simp e
 
 -- what is no record has no bytes
 or_none : (n : ℕ) (x : encode.Record) → (is_broken x ≡ false → length (record_bytes x) ≤ n) → length (record_bytes x) ≤ n

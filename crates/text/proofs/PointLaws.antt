@@ -13,8 +13,8 @@ use Rattle.xliff.specs.Bytes.{gather}
 use Rattle.xliff.specs.Text.{six, utf8_1, utf8_2, utf8_3, utf8_4, utf8, utf8s}
 use Rattle.xliff.specs.Good.{Allowed, one_point}
 use Rattle.xliff.proofs.text.Utf8.{utf8_nonempty}
-use Rattle.text.specs.Utf8.{char_of}
-use Rattle.text.specs.declared.Char.TheVariants.{Point, Bad}
+use Rattle.text.specs.Utf8.{character, char_of}
+use Rattle.std.specs.Prelude.{None}
 use Rattle.text.proofs.Utf8Laws.{width_at}
 use Rattle.text.proofs.BlockLaws.{head_is}
 use Rattle.text.proofs.TextLaws.{decoded_allowed, char_is}
@@ -192,7 +192,7 @@ next_byte [] i = refl
 next_byte (b ∷ t) i = refl
 
 -- a character that the decoder reads at an offset: one code point begins in its bytes, with the first of them
-one_there : (t : List ℕ) (at c w : ℕ) {a : Bool} → char_of (drop at t) ≡ Point c w a
+one_there : (t : List ℕ) (at c w : ℕ) {a : Bool} → char_of (drop at t) ≡ character c w a
     → (leads w (drop at t) ≡ 1) × (lead (get_or t at 0) ≡ 1)
 one_there t at c w e =
     let d = char_is (drop at t) c w e in
@@ -216,7 +216,7 @@ only_first zero t i e f h = absurd (omega arith)
 only_first (suc n) t i e f h = ap lead (next_byte t i) ∙ none_first n (drop 1 t) i (omega arith) (omega arith)
 
 -- where the decoder reads no character in a text, no code point begins
-no_character : (cs : List ℕ) (at : ℕ) → Allowed cs → at < length (utf8s cs) → char_of (drop at (utf8s cs)) ≡ Bad
+no_character : (cs : List ℕ) (at : ℕ) → Allowed cs → at < length (utf8s cs) → char_of (drop at (utf8s cs)) ≡ None
     → lead (get_or (utf8s cs) at 0) ≡ 0
 unfolding utf8s gather
 no_character [] at a h e = absurd (omega arith)
@@ -233,7 +233,7 @@ no_character (c ∷ cs) (suc i) (one_point p a) h e =
     ∙ no_character cs j a (omega (arith, length-append (utf8 c) (utf8s cs))) (sym (ap char_of same) ∙ e))
 
 -- For the loop by characters: the one sought stands here
-pub character_here : (t : List ℕ) (at left c w : ℕ) {a : Bool} (whole : Points) → char_of (drop at t) ≡ Point c w a
+pub character_here : (t : List ℕ) (at left c w : ℕ) {a : Bool} (whole : Points) → char_of (drop at t) ≡ character c w a
     → left ≡ 0
     → whole ≡ further at (sought (drop at t) left) → record { bytes = at; left = 0 } ≡ whole
 character_here t at left c w whole e z h =
@@ -241,7 +241,7 @@ character_here t at left c w whole e z h =
     (h ∙ ap (λ (n : ℕ). further at (sought (drop at t) n)) z)
 
 -- behind a character that is passed over
-pub character_on : (t : List ℕ) (at left c w : ℕ) {a : Bool} (whole : Points) → char_of (drop at t) ≡ Point c w a
+pub character_on : (t : List ℕ) (at left c w : ℕ) {a : Bool} (whole : Points) → char_of (drop at t) ≡ character c w a
     → 1 ≤ left
     → whole ≡ further at (sought (drop at t) left) → whole ≡ further (at + w) (sought (drop (at + w) t) (left - 1))
 character_on t at left c w whole e l h =
@@ -251,12 +251,12 @@ character_on t at left c w whole e l h =
 
 -- behind a byte with which no character begins
 pub character_rest : (t : List ℕ) (at left : ℕ) (whole : Points) → TextBytes t → at < length t
-    → char_of (drop at t) ≡ Bad
+    → char_of (drop at t) ≡ None
     → whole ≡ further at (sought (drop at t) left) → whole ≡ further (at + 1) (sought (drop (at + 1) t) left)
 character_rest t at left whole (cs, a, u) l e h =
     let none : leads 1 (drop at t) ≡ 0 =
     leads_one t at
-    ∙ subst (λ (s : List ℕ). at < length s → char_of (drop at s) ≡ Bad → lead (get_or s at 0) ≡ 0) u
+    ∙ subst (λ (s : List ℕ). at < length s → char_of (drop at s) ≡ None → lead (get_or s at 0) ≡ 0) u
     (no_character cs at a) l e in
     sought_on t at left 1 whole (omega arith) (omega (arith, none)) h
     ∙ ap (λ (n : ℕ). further (at + 1) (sought (drop (at + 1) t) n))

@@ -14,10 +14,9 @@ use Rattle.xliff.specs.Text as spec
 use Rattle.xliff.specs.Text.{between, xml_allows, is_accent, text_codes}
 use Rattle.xliff.specs.Good.{Allowed, no_text, one_point}
 use Rattle.xliff.proofs.text.Utf8.{allowed_bound, text_of_utf8s, text_of_some}
-use Rattle.text.specs.Utf8.{utf8, utf8s, scalar, within, xml_char, point_of, char_of, codes, all_xml, some_xml, text_ok, all_scalar}
+use Rattle.text.specs.Utf8.{utf8, utf8s, scalar, within, xml_char, character, point_of, char_of, codes, all_xml, some_xml, text_ok, all_scalar}
 use Rattle.xliff.proofs.lists.Tests.{and_left, and_right}
 use borrow.Table.Steps.{cases}
-use Rattle.text.specs.declared.Char.TheVariants.{Point}
 use Rattle.text.proofs.Utf8Laws.{point_accent, char_width}
 use Rattle.text.proofs.Coding.{encoded, decoded, read_scalar, codes_of_bytes, bytes_of_codes}
 
@@ -87,7 +86,7 @@ pub record Decoded (t : List ℕ) (c w : ℕ) (a : Bool) : Type 0 where
   pub can_hold : scalar c ≡ true
   pub accent : a ≡ is_accent c
 
-pub char_is : (t : List ℕ) (c w : ℕ) {a : Bool} → char_of t ≡ Point c w a → Decoded t c w a
+pub char_is : (t : List ℕ) (c w : ℕ) {a : Bool} → char_of t ≡ character c w a → Decoded t c w a
 char_is t c w {a} e =
     let front : take w t ≡ spec.utf8 c = encoded t c w e ∙ utf8_same c in
     let back : t ≡ spec.utf8 c ++ drop w t = sym (take-append-drop w t) ∙ ap (λ (u : List ℕ). u ++ drop w t) front in

@@ -17,11 +17,12 @@ pub fn xml_char(c: u32) -> bool
             | ((0x10000 <= c) & (c <= 0x10FFFF)))
 }
 
-// A code point, the bytes that it takes, and whether it is an accent, U+0300 to U+036F.
+// A character read: its code point, how many bytes it takes, and whether it is an accent, U+0300 to U+036F.
 #[derive(Clone, Copy)]
-pub enum Char {
-    Point(u32, usize, bool),
-    Bad,
+pub struct Character {
+    pub point: u32,
+    pub width: usize,
+    pub accent: bool,
 }
 
 fn is_accent(c: u32) -> bool
@@ -30,77 +31,78 @@ fn is_accent(c: u32) -> bool
     (0x300 <= c) & (c <= 0x36F)
 }
 
-fn point_of(c: u32, w: usize) -> Char
+fn point_of(c: u32, w: usize) -> Option<Character>
     ensures { result ≡ point_of c w }
 {
-    Char::Point(c, w, is_accent(c))
+    Some(Character {
+        point: c,
+        width: w,
+        accent: is_accent(c),
+    })
 }
 
-fn point_if(ok: bool, c: u32, w: usize) -> Char
+fn point_if(ok: bool, c: u32, w: usize) -> Option<Character>
     ensures { result ≡ point_if ok c w }
 {
-    if ok { point_of(c, w) } else { Char::Bad }
+    if ok { point_of(c, w) } else { None }
 }
 
-fn wider(x: u8) -> u32
-    ensures { (result ≡ x) × (result < 256) }
-{
-    x as u32
-}
-
-fn two_of(t: &[u8]) -> Char
+fn two_of(t: &[u8]) -> Option<Character>
     ensures { result ≡ two_of t.now }
 {
     if t.len() < 2 {
-        return Char::Bad;
+        return None;
     }
     let b = t[1];
     point_if(
         (128 <= b) & (b <= 191),
-        wider(t[0]) % 32 * 64 + wider(b) % 64,
+        u32::from(t[0]) % 32 * 64 + u32::from(b) % 64,
         2,
     )
 }
 
-fn three_of(t: &[u8]) -> Char
+fn three_of(t: &[u8]) -> Option<Character>
     ensures { result ≡ three_of t.now }
 {
     if t.len() < 3 {
-        return Char::Bad;
+        return None;
     }
     let b = t[1];
     let d = t[2];
-    let c = wider(t[0]) % 16 * 4096 + wider(b) % 64 * 64 + wider(d) % 64;
+    let c = u32::from(t[0]) % 16 * 4096 + u32::from(b) % 64 * 64 + u32::from(d) % 64;
     let ok = (((128 <= b) & (b <= 191)) & ((128 <= d) & (d <= 191)))
         & ((0x800 <= c) & !((0xD800 <= c) & (c <= 0xDFFF)));
     point_if(ok, c, 3)
 }
 
-fn four_of(t: &[u8]) -> Char
+fn four_of(t: &[u8]) -> Option<Character>
     ensures { result ≡ four_of t.now }
 {
     if t.len() < 4 {
-        return Char::Bad;
+        return None;
     }
     let b = t[1];
     let d = t[2];
     let e = t[3];
-    let c = wider(t[0]) % 8 * 262144 + wider(b) % 64 * 4096 + wider(d) % 64 * 64 + wider(e) % 64;
+    let c = u32::from(t[0]) % 8 * 262144
+        + u32::from(b) % 64 * 4096
+        + u32::from(d) % 64 * 64
+        + u32::from(e) % 64;
     let ok = (((128 <= b) & (b <= 191)) & ((128 <= d) & (d <= 191)) & ((128 <= e) & (e <= 191)))
         & ((0x10000 <= c) & (c <= 0x10FFFF));
     point_if(ok, c, 4)
 }
 
-// The character at the head of `t`: the one decoder, which all readers of text ask.
-pub fn char_of(t: &[u8]) -> Char
+// The character at the head of `t`, if one stands there: the one decoder, which all readers of text ask.
+pub fn char_of(t: &[u8]) -> Option<Character>
     ensures { result ≡ char_of t.now }
 {
     if t.len() < 1 {
-        return Char::Bad;
+        return None;
     }
     let a = t[0];
     if a < 128 {
-        return point_of(wider(a), 1);
+        return point_of(u32::from(a), 1);
     }
     if (194 <= a) & (a <= 223) {
         return two_of(t);
@@ -111,7 +113,7 @@ pub fn char_of(t: &[u8]) -> Char
     if (240 <= a) & (a <= 244) {
         return four_of(t);
     }
-    Char::Bad
+    None
 }
 
 // Whether `c` is a character of one byte, no control character, or a byte of a character of two, and `d` is a second
@@ -185,17 +187,13 @@ fn pass_each(t: &[u8], from: usize, until: usize) -> Option<usize>
         if (32 <= b) & (b <= 127) {
             at += 1;
         } else {
-            match char_of(&t[at..]) {
-                Char::Point(c, w, _) => {
-                    if !xml_char(c) {
-                        return None;
-                    }
-                    at += w;
-                }
-                Char::Bad => {
-                    return None;
-                }
+            let Some(found) = char_of(&t[at..]) else {
+                return None;
+            };
+            if !xml_char(found.point) {
+                return None;
             }
+            at += found.width;
         }
     }
     Some(at)
@@ -245,14 +243,10 @@ pub fn text_ok(t: &[u8]) -> bool
 {
     let mut at = 0;
     while at < t.len() {
-        match pass_some(t, at) {
-            Some(e) => {
-                at = e;
-            }
-            None => {
-                return false;
-            }
-        }
+        let Some(behind) = pass_some(t, at) else {
+            return false;
+        };
+        at = behind;
     }
     true
 }

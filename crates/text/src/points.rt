@@ -2,7 +2,7 @@
 ghost use Rattle.std.specs.Prelude.{◌≡◌, ◌+◌, ◌≤◌, length, drop};
 ghost use Rattle.text.specs.Points.{lead, leads, further, sought, Reached, TextBytes, PassedOver};
 
-use super::{Char, char_of};
+use super::char_of;
 
 // 1 for the first byte of a code point, 0 for the others.
 fn lead(b: u8) -> u8
@@ -20,7 +20,7 @@ fn leads_in(t: &[u8], at: usize) -> usize
     for i in 0..64 {
         n += lead(t[at + i]);
     }
-    n as usize
+    usize::from(n)
 }
 
 // Bytes passed over, and code points still to pass over.
@@ -63,14 +63,14 @@ fn pass_characters(t: &[u8], from: usize, k: usize) -> Points
     let mut left = k;
     while at < t.len() {
         match char_of(&t[at..]) {
-            Char::Point(_, w, _) => {
+            Some(found) => {
                 if left == 0 {
                     return Points { bytes: at, left: 0 };
                 }
-                at += w;
+                at += found.width;
                 left -= 1;
             }
-            Char::Bad => {
+            None => {
                 at += 1;
             }
         }

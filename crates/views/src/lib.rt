@@ -3,11 +3,13 @@
 
 ghost use Rattle.std.specs.Prelude.{◌≡◌, true, false};
 ghost use Rattle.places.specs.Markers.{item_at};
-ghost use Rattle.views.specs.Views.{nothing, code_view, annotation_view, half_number, isolated_class, form_flag, item_view, record_view, view_of_read, view_of, is_code};
+ghost use Rattle.views.specs.Views.{nothing, code_view, annotation_view, half_number, isolated_class, form_flag, item_view, view_of_read, view_of, is_code};
 
 use table::{Fields, Form, Half, Item, Read, Record};
 
-#[derive(Clone, Copy)]
+// The classes and the halves are the specification's numbers, which a key packs (crate keys): an enum of either would be
+// turned into them and back.
+#[derive(Clone, Copy, Default)]
 pub struct View {
     pub class: u8,
     pub half: u8,
@@ -24,18 +26,7 @@ pub struct View {
 pub fn nothing() -> View
     ensures { result ≡ nothing }
 {
-    View {
-        class: 0,
-        half: 0,
-        pform: false,
-        id: 0,
-        of: 0,
-        refers: 0,
-        copy: 0,
-        delete: 0,
-        overlap: 0,
-        reorder: 0,
-    }
+    View::default()
 }
 
 pub fn code_view(class: u8, half: u8, pform: bool, f: Fields) -> View
@@ -43,9 +34,9 @@ pub fn code_view(class: u8, half: u8, pform: bool, f: Fields) -> View
 {
     let l = f.letters;
     View {
-        class: class,
-        half: half,
-        pform: pform,
+        class,
+        half,
+        pform,
         id: f.id,
         of: f.copy_of,
         refers: f.data_ref,
@@ -61,15 +52,10 @@ pub fn annotation_view(half: u8, pform: bool, id: u16) -> View
 {
     View {
         class: 5,
-        half: half,
-        pform: pform,
-        id: id,
-        of: 0,
-        refers: 0,
-        copy: 0,
-        delete: 0,
-        overlap: 0,
-        reorder: 0,
+        half,
+        pform,
+        id,
+        ..nothing()
     }
 }
 
@@ -94,10 +80,7 @@ fn isolated_class(h: Half) -> u8
 fn form_flag(w: Form) -> bool
     ensures { result ≡ form_flag w }
 {
-    match w {
-        Form::P => true,
-        Form::S => false,
-    }
+    matches!(w, Form::P)
 }
 
 fn item_view(i: Item) -> View
@@ -113,27 +96,12 @@ fn item_view(i: Item) -> View
     }
 }
 
-fn record_view(x: Record) -> View
-    ensures { result ≡ record_view x }
-{
-    match x {
-        Record::Unit(_) => nothing(),
-        Record::UnitEnd => nothing(),
-        Record::Segment(_) => nothing(),
-        Record::Ignorable(_) => nothing(),
-        Record::Target(_) => nothing(),
-        Record::Text => nothing(),
-        Record::Inline(i) => item_view(i),
-    }
-}
-
 fn read_view(r: Read) -> View
     ensures { result ≡ view_of_read r }
 {
     match r {
-        Read::Good(x, _) => record_view(x),
-        Read::Ill => nothing(),
-        Read::Broken(_) => nothing(),
+        Read::Good(Record::Inline(i), _) => item_view(i),
+        _ => nothing(),
     }
 }
 
@@ -148,5 +116,5 @@ pub fn view_at(t: &[u8], at: usize) -> View
 pub fn is_code(x: View) -> bool
     ensures { result ≡ is_code x }
 {
-    (x.class == 1) | ((x.class == 2) | ((x.class == 3) | (x.class == 4)))
+    matches!(x.class, 1..=4)
 }

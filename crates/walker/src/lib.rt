@@ -1,5 +1,5 @@
-// The records of a lent table or content, one by one: a struct of the slice and the offset of the next record, and thin
-// functions over it, which leave the work to one on a slice and an offset.
+// The records of a lent table or content, one by one: a struct of the slice and the offset of the next record. Its
+// methods leave the work to functions on a slice and an offset.
 #![tactic(auto)]
 
 ghost use Rattle.std.specs.Prelude.{◌≡◌, drop};
@@ -51,60 +51,56 @@ fn width_there(t: &[u8], at: usize) -> usize
     marks::width_of(&t[at..])
 }
 
-pub fn new<'a>(table: &'a [u8], next: usize) -> Walker<'a>
-    ensures { (result.table ≡ table.entry) × (result.next ≡ next) }
-{
-    Walker { table, next }
-}
+impl<'a> Walker<'a> {
+    pub fn new(table: &'a [u8], next: usize) -> Walker<'a>
+        ensures { (result.table ≡ table.entry) × (result.next ≡ next) }
+    {
+        Walker { table, next }
+    }
 
-pub fn next<'a>(w: Walker<'a>) -> usize
-    ensures { result ≡ w.entry.next }
-{
-    w.next
-}
+    // The next record.
+    pub fn record(self) -> Read
+        ensures { ReadAt self.entry.table.now self.entry.next result }
+    {
+        table::record_at(self.table, self.next)
+    }
 
-// The next record.
-pub fn record<'a>(w: Walker<'a>) -> Read
-    ensures { ReadAt w.entry.table.now w.entry.next result }
-{
-    table::record_at(w.table, w.next)
-}
+    // The next record, which was read before.
+    pub fn known(self) -> Read
+        ensures { Known (drop self.entry.next self.entry.table.now) result }
+    {
+        table::known_at(self.table, self.next)
+    }
 
-// The next record, which was read before.
-pub fn known<'a>(w: Walker<'a>) -> Read
-    ensures { Known (drop w.entry.next w.entry.table.now) result }
-{
-    table::known_at(w.table, w.next)
-}
+    // A glance at the next record, which was read before.
+    pub fn glance(self) -> Glance
+        ensures { Glanced (drop self.entry.next self.entry.table.now) result }
+    {
+        glance::glance_at(self.table, self.next)
+    }
 
-// A glance at the next record, which was read before.
-pub fn glance<'a>(w: Walker<'a>) -> Glance
-    ensures { Glanced (drop w.entry.next w.entry.table.now) result }
-{
-    glance::glance_at(w.table, w.next)
-}
+    // The mark of the next record.
+    pub fn mark(self) -> Mark
+        ensures { MarkAt self.entry.table.now self.entry.next result }
+    {
+        mark_there(self.table, self.next)
+    }
 
-// The mark of the next record.
-pub fn mark<'a>(w: Walker<'a>) -> Mark
-    ensures { MarkAt w.entry.table.now w.entry.next result }
-{
-    mark_there(w.table, w.next)
-}
+    // How many bytes the next record takes, by its mark.
+    pub fn width(self) -> usize
+        ensures { WidthAt self.entry.table.now self.entry.next result }
+    {
+        width_there(self.table, self.next)
+    }
 
-// How many bytes the next record takes, by its mark.
-pub fn width<'a>(w: Walker<'a>) -> usize
-    ensures { WidthAt w.entry.table.now w.entry.next result }
-{
-    width_there(w.table, w.next)
-}
-
-// The walker behind its record, which was read before.
-pub fn passed<'a>(w: Walker<'a>) -> Walker<'a>
-    ensures { (result.table ≡ w.entry.table) × After w.entry.table.now w.entry.next result.next }
-{
-    Walker {
-        table: w.table,
-        next: after_at(w.table, w.next),
+    // The walker behind its record, which was read before.
+    pub fn passed(self) -> Walker<'a>
+        ensures { (result.table ≡ self.entry.table) × After self.entry.table.now self.entry.next result.next }
+    {
+        Walker {
+            table: self.table,
+            next: after_at(self.table, self.next),
+        }
     }
 }
 
@@ -112,35 +108,35 @@ pub fn passed<'a>(w: Walker<'a>) -> Walker<'a>
 pub fn record_at(t: &[u8], at: usize) -> Read
     ensures { ReadAt t.now at result }
 {
-    record(new(t, at))
+    Walker::new(t, at).record()
 }
 
 pub fn known_at(t: &[u8], at: usize) -> Read
     ensures { Known (drop at t.now) result }
 {
-    known(new(t, at))
+    Walker::new(t, at).known()
 }
 
 pub fn glance_at(t: &[u8], at: usize) -> Glance
     ensures { Glanced (drop at t.now) result }
 {
-    glance(new(t, at))
+    Walker::new(t, at).glance()
 }
 
 pub fn mark_at(t: &[u8], at: usize) -> Mark
     ensures { MarkAt t.now at result }
 {
-    mark(new(t, at))
+    Walker::new(t, at).mark()
 }
 
 pub fn width_at(t: &[u8], at: usize) -> usize
     ensures { WidthAt t.now at result }
 {
-    width(new(t, at))
+    Walker::new(t, at).width()
 }
 
 pub fn after(t: &[u8], at: usize) -> usize
     ensures { After t.now at result }
 {
-    next(passed(new(t, at)))
+    Walker::new(t, at).passed().next
 }

@@ -2,6 +2,7 @@
 #![tactic(auto)]
 
 ghost use Rattle.std.specs.Prelude.{◌≡◌, not, ◌<◌, ◌≤◌, length, eqb};
+ghost use Rattle.std.specs.List.{position};
 ghost use Rattle.xliff.specs.Unit.{source_sequence, target_sequence};
 ghost use Rattle.xliff.specs.Parse.{unit, most_bytes, most_parts};
 ghost use Rattle.xliff.specs.Rules.{end_letter};
@@ -9,31 +10,25 @@ ghost use Rattle.xliff.specs.Rewrite.{side_sequence, find_whole};
 ghost use Rattle.places.specs.Passes.{Passes};
 ghost use Rattle.views.specs.Views.{items_of_markers};
 ghost use Rattle.keys.specs.Keys.{keys_at};
-ghost use Rattle.id_links.specs.Nearest.{next};
-ghost use Rattle.whole_pair.specs.Pairs.{pair_of, starts_at};
+ghost use Rattle.whole_pair.specs.Pairs.{pair_of, starts};
 
-use limits::MOST_RECORDS;
+use keys::Sequence;
+use sequences::MarkerRoom;
 
-// Whether its start has the mark of pc or mrk; whether its end's canReorder is not the PC letter.
+// A complete pair or annotation: `form_p`, its start has the mark of pc or mrk; `unfit`, its end's canReorder is not
+// the PC letter.
 #[derive(Clone, Copy)]
-pub enum FoundPair {
-    Complete(bool, bool),
-    Missing,
+pub struct WholePair {
+    pub form_p: bool,
+    pub unfit: bool,
 }
 
-// The index of the first start half of the id; the number of markers where there is none.
-fn find_start(keys: &[u32], id: u32) -> usize
-    ensures { (result ≡ next (starts_at keys.now id) 0 (length keys.now)) × (result ≤ length keys.now) }
+// The index of the first start half of the id.
+fn find_start(keys: &[u32], id: u32) -> Option<usize>
+    ensures { result ≡ position (starts id) keys.now }
 {
-    let mut i: usize = 0;
-    while i < keys.len() {
-        let k = keys[i];
-        if (keys::half_of(k) == 1) & (keys::id_of(k) == id) {
-            return i;
-        }
-        i += 1;
-    }
-    i
+    keys.iter()
+        .position(|k| (keys::half_of(*k) == 1) & (keys::id_of(*k) == id))
 }
 
 // "the end's canReorder is not the PC letter": N for F and else equal to the start's.
@@ -46,49 +41,42 @@ fn is_unfit(start: u8, end: u8) -> bool
     !(end == start)
 }
 
-// Its start and the other half after it, among markers with these offsets and keys.
-fn pair_of(t: &[u8], markers: &[u16], keys: &[u32], id: u16) -> FoundPair
-    requires { keys.now ≡ keys_at t.now markers.now }
-    ensures { result ≡ pair_of (find_whole id (items_of_markers t.now markers.now)) }
+// Its start and the other half after it, among markers in sequence.
+fn pair_of(t: &[u8], s: Sequence, id: u16) -> Option<WholePair>
+    requires { s.keys.now ≡ keys_at t.now s.markers.now }
+    ensures { result ≡ pair_of (find_whole id (items_of_markers t.now s.entry.markers.now)) }
 {
-    let i = find_start(keys, marks::wide_to_u32(id));
-    if keys.len() <= i {
-        return FoundPair::Missing;
-    }
-    let j = halves::half_after(keys, i);
-    if keys.len() <= j {
-        return FoundPair::Missing;
-    }
-    let start = views::view_at(t, marks::wide(markers[i]));
-    let end = views::view_at(t, marks::wide(markers[j]));
-    FoundPair::Complete(start.pform, is_unfit(start.reorder, end.reorder))
+    let i = find_start(s.keys, marks::wide_to_u32(id))?;
+    let j = halves::half_after(s.keys, i)?;
+    let start = views::view_at(t, marks::wide(s.markers[i]));
+    let end = views::view_at(t, marks::wide(s.markers[j]));
+    Some(WholePair {
+        form_p: start.pform,
+        unfit: is_unfit(start.reorder, end.reorder),
+    })
 }
 
-fn in_source(t: &[u8], id: u16) -> FoundPair
+fn in_source(t: &[u8], id: u16) -> Option<WholePair>
     requires { Passes t.now × (length t.now ≤ most_bytes) }
     ensures { result ≡ pair_of (find_whole id (source_sequence (unit t.now).parts)) }
 {
-    let mut markers = [0u16; MOST_RECORDS];
-    let mut keys = [0u32; MOST_RECORDS];
-    let n = sequences::sources(t, &mut markers);
-    keys::keys_at(t, &markers[..n], &mut keys);
-    pair_of(t, &markers[..n], &keys[..n], id)
+    let mut room = MarkerRoom::new();
+    room.hold_source(t);
+    pair_of(t, room.sequence(), id)
 }
 
-fn in_target(t: &[u8], parts: u16, id: u16) -> FoundPair
+fn in_target(t: &[u8], parts: u16, id: u16) -> Option<WholePair>
     requires { Passes t.now × (length t.now ≤ most_bytes) × (parts ≡ length (unit t.now).parts) × (parts ≤ most_parts) }
     ensures { result ≡ pair_of (find_whole id (target_sequence (unit t.now).parts)) }
 {
-    let mut markers = [0u16; MOST_RECORDS];
-    let mut keys = [0u32; MOST_RECORDS];
-    let n = sequences::targets(t, parts, &mut markers);
-    keys::keys_at(t, &markers[..n], &mut keys);
-    pair_of(t, &markers[..n], &keys[..n], id)
+    let mut room = MarkerRoom::new();
+    room.hold_target(t, parts);
+    pair_of(t, room.sequence(), id)
 }
 
 // The pair or annotation of the id on a side. Linear in the markers but for the target sequence, which takes one look
 // at each TG for each order.
-pub fn find(t: &[u8], side: u8, id: u16) -> FoundPair
+pub fn find(t: &[u8], side: u8, id: u16) -> Option<WholePair>
     requires { Passes t.now × (length t.now ≤ most_bytes) }
     ensures { result ≡ pair_of (find_whole id (side_sequence side (unit t.now).parts)) }
 {

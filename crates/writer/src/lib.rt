@@ -9,12 +9,8 @@ pub fn put(out: &mut [u8], bytes: &[u8]) -> usize
     requires { length bytes.now ≤ length out.old }
     ensures { (result ≡ length bytes.now) × (out.new ≡ lead bytes.now out.old) }
 {
-    let mut i: usize = 0;
-    while i < bytes.len() {
-        out[i] = bytes[i];
-        i += 1;
-    }
-    i
+    out[..bytes.len()].copy_from_slice(bytes);
+    bytes.len()
 }
 
 // A byte at the index `at`; the index behind it.
@@ -31,8 +27,7 @@ pub fn put_number(out: &mut [u8], at: usize, n: u16) -> usize
     requires { at + 2 ≤ length out.old }
     ensures { (result ≡ at + 2) × (out.new ≡ overlay out.old at (number_bytes n)) }
 {
-    out[at] = (n / 256) as u8;
-    out[at + 1] = (n % 256) as u8;
+    out[at..at + 2].copy_from_slice(&n.to_be_bytes());
     at + 2
 }
 
@@ -41,7 +36,6 @@ pub fn put_mark(out: &mut [u8], at: usize, m: &[u8; 2]) -> usize
     requires { at + 2 ≤ length out.old }
     ensures { (result ≡ at + 2) × (out.new ≡ overlay out.old at (bytes_of_mark m.now)) }
 {
-    out[at] = m[0];
-    out[at + 1] = m[1];
+    out[at..at + 2].copy_from_slice(m);
     at + 2
 }

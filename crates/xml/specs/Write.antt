@@ -1,5 +1,5 @@
 -- A unit written as XML. Order 1: "The writer spells every attribute out except a canResegment or translate of - and an
--- id, copy_of or dataRef of 0, and writes a carriage return as a reference". No XML declaration, nothing between
+-- id, copyOf or dataRef of 0, and writes a carriage return as a reference". No XML declaration, nothing between
 -- elements.
 use Rattle.std.specs.Prelude.{ℕ, zero, suc, ◌/◌, ◌%◌, Bool, true, false, ◌||◌, cond, List, [], ◌∷◌, ◌++◌, eqb, ltb}
 use Rattle.xliff.specs.Bytes.{'-', gather, any}

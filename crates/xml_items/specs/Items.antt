@@ -10,7 +10,7 @@ use Rattle.xml.specs.Attributes.{yes_no}
 use Rattle.xml.specs.Write.{number_attribute, unless_zero, word_attribute, half_attributes, mark_attributes, pending, first_data, item_text}
 use Rattle.xml_tags.specs.Tags.{attributes_bytes}
 
--- a tag up to the copy_of of a code
+-- a tag up to the copyOf of a code
 abbrev pub code_start : List ℕ → List ℕ → Fields → List ℕ
 code_start tag id f = tag ++ attributes_bytes (number_attribute id f.id ++ unless_zero 'copyOf' f.copy_of)
 

@@ -1,5 +1,5 @@
-use Prim.Native.Nat.{ℕ, ◌-◌}
-use lib.ListN.{length, drop}
+use Prim.Native.Nat.{ℕ}
+use lib.ListN.{drop}
 use Rattle.xliff.specs.Parse.{read}
 use Rattle.keys.proofs.FilledLaws.{Filling}
 use Rattle.contents.specs.Contents.{bar_key}
@@ -7,6 +7,3 @@ use Rattle.contents.proofs.bar_keys.Given as goal
 
 abbrev pub invariant-loop-i : goal.invariant-loop-i
 invariant-loop-i l = Filling (λ (o : ℕ). bar_key (read (drop o l.t))) l.markers l.initial.out l.out l.i
-
-abbrev pub decreases-loop-i : goal.decreases-loop-i
-decreases-loop-i l = length l.markers - l.i

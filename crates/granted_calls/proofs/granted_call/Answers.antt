@@ -31,7 +31,7 @@ returns-in_default-request_of c =
     (unreadable (grant_of args.role args.positions.now) table args.request.now (length out) passed
     read.result read.ensures.0 c.in_default-request_of.is)
 
--- call_read(role, positions, table, r, request, out)
+-- call_read(Grant { role, positions }, table, r, request, out)
 pub call_read-requires : goal.call_read-requires
 call_read-requires c =
     let checked = c.check-checked in
@@ -55,7 +55,7 @@ returns-then-size_of-request c =
     (not_alone (grant_of args.role args.positions.now) table args.request.now (length out) passed
     read.result read.ensures.0 _ c.in-Some.is longer)
 
--- call_read(role, positions, table, r, request, out)
+-- call_read(Grant { role, positions }, table, r, request, out)
 pub returns : goal.returns
 returns c =
     let args = c.args in

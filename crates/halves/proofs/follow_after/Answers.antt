@@ -20,7 +20,7 @@ loop-j-init c =
     after_start args.keys.now args.links.now args.i pre.3 c.wide.result pre.0
     c.wide.ensures.0
 
--- return j
+-- return Some(j)
 pub returns-then-is_other : goal.returns-then-is_other
 returns-then-is_other c =
     let args = c.args in
@@ -28,11 +28,11 @@ returns-then-is_other c =
     let loop = c.loop-j in
     let inv = loop.invariant in
     let loop-test = c.loop-j-test in (
-      sym (inv.2
+      inv.2
           ∙ next_hit (others keys args.i) (length keys) loop.j loop-test.true
-          (sym c.is_other.ensures ∙ c.if-is_other.true)),
+          (sym c.is_other.ensures ∙ c.if-is_other.true),
       inv.0,
-      inv.1,
+      loop-test.true,
     )
 
 -- keys.len()
@@ -71,11 +71,12 @@ loop-j-preserved c =
     loop-test.true loop.invariant (sym is_other.ensures ∙ c.if-is_other.false) c.wide-in-loop-j.ensures.0
     ).1
 
--- j
+-- None
 pub returns : goal.returns
 returns c =
     let args = c.args in
     let keys = args.keys.now in
     let loop = c.loop-j in
     let inv = loop.invariant in
-    (sym (inv.2 ∙ next_end (others keys args.i) (length keys) loop.j c.loop-j-test.false), inv.0, inv.1)
+    let none = inv.2 ∙ next_end (others keys args.i) (length keys) loop.j c.loop-j-test.false in
+    omega (arith, none, inv.1, c.loop-j-test.false)

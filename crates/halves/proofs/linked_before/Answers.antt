@@ -1,12 +1,8 @@
 use mathlib.Core.Path.{sym, ◌∙◌}
-use native.Mathlib.Omega.{arith}
 use Rattle.halves.proofs.NoHalves.{no_half_before}
 use Rattle.halves.proofs.linked_before.Goals as goal
 
--- return 0
+-- return None
 pub returns-then-half_of-eq0 : goal.returns-then-half_of-eq0
 returns-then-half_of-eq0 c =
-    let args = c.args in (
-      sym (no_half_before args.keys.now args.i (sym c.half_of.ensures ∙ c.if-half_of-eq0.true)),
-      omega arith,
-    )
+    no_half_before c.args.keys.now c.args.i (sym c.half_of.ensures ∙ c.if-half_of-eq0.true)

@@ -20,7 +20,7 @@ loop-j-init c =
       ap (λ (k : ℕ). next (others keys i) k (length keys - k)) (let z : suc i ≡ i + 1 = omega arith in z),
     )
 
--- return j
+-- return Some(j)
 pub returns-then-is_other : goal.returns-then-is_other
 unfolding half_after
 returns-then-is_other c =
@@ -29,11 +29,11 @@ returns-then-is_other c =
     let loop = c.loop-j in
     let inv = loop.invariant in
     let loop-test = c.loop-j-test in (
-      sym (inv.2
+      inv.2
           ∙ next_hit (others keys args.i) (length keys) loop.j loop-test.true
-          (sym c.is_other.ensures ∙ c.if-is_other.true)),
+          (sym c.is_other.ensures ∙ c.if-is_other.true),
       inv.0,
-      inv.1,
+      loop-test.true,
     )
 
 -- the loop's step
@@ -51,7 +51,7 @@ loop-j-preserved c =
           (sym c.is_other.ensures ∙ c.if-is_other.false),
     )
 
--- j
+-- None
 pub returns : goal.returns
 unfolding half_after
 returns c =
@@ -59,7 +59,8 @@ returns c =
     let keys = args.keys.now in
     let loop = c.loop-j in
     let inv = loop.invariant in
-    (sym (inv.2 ∙ next_end (others keys args.i) (length keys) loop.j c.loop-j-test.false), inv.0, inv.1)
+    let none = inv.2 ∙ next_end (others keys args.i) (length keys) loop.j c.loop-j-test.false in
+    omega (arith, none, inv.1, c.loop-j-test.false)
 
 pub is_other-requires : goal.is_other-requires
 unfolding half_after

@@ -7,6 +7,3 @@ use Rattle.halves.proofs.scan_after.Given as goal
 
 abbrev pub invariant-loop-j : goal.invariant-loop-j
 invariant-loop-j l = (l.i < l.j) × (l.j ≤ length l.keys) × (half_after l.keys l.i ≡ next (others l.keys l.i) l.j (length l.keys - l.j))
-
-abbrev pub decreases-loop-j : goal.decreases-loop-j
-decreases-loop-j l = length l.keys - l.j

@@ -6,6 +6,3 @@ use Rattle.halves.proofs.scan_before.Given as goal
 
 abbrev pub invariant-loop-j : goal.invariant-loop-j
 invariant-loop-j l = (l.j ≤ l.i) × (half_before l.keys l.i ≡ previous (others l.keys l.i) l.j)
-
-abbrev pub decreases-loop-j : goal.decreases-loop-j
-decreases-loop-j l = l.j

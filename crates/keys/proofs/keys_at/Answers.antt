@@ -1,5 +1,7 @@
 use native.Mathlib.Omega.{arith}
-use mathlib.Core.Path.{◌∙◌}
+use Prim.Native.Nat.{ℕ}
+use lib.ListN.{take, length}
+use mathlib.Core.Path.{◌≡◌, sym, ap, ◌∙◌}
 use Rattle.keys.proofs.KeyLaws.{keys_each}
 use Rattle.keys.proofs.FilledLaws.{filling_start, filling_next, filling_all}
 use Rattle.keys.proofs.keys_at.Goals as goal
@@ -20,4 +22,6 @@ pub returns : goal.returns
 returns c =
     let args = c.args in
     let inv = c.loop-i.invariant in
-    (omega (arith, inv.within), filling_all inv c.loop-i-test.false ∙ keys_each args.t.now args.markers.now, inv.sized)
+    let all : c.loop-i.i ≡ length args.markers.now = omega (arith, c.loop-i-test.false, inv.within) in
+    (ap (λ (n : ℕ). take n c.loop-i.out) (sym all)
+    ∙ filling_all inv c.loop-i-test.false ∙ keys_each args.t.now args.markers.now, inv.sized)

@@ -1,5 +1,4 @@
-use native.Mathlib.Omega.{arith}
-use Rattle.halves.proofs.Others.{keys_long, key_there, view_there}
+use Rattle.halves.proofs.Others.{key_there, view_there}
 use Rattle.letters.proofs.TestLaws.{eight_bad, led_on}
 use Rattle.letters.specs.Eight.{bad_8}
 use Rattle.halves.proofs.TwoSequences.{blamed_step}
@@ -16,13 +15,6 @@ pub loop-i-init : goal.loop-i-init
 unfolding earlier any
 loop-i-init c = (search rules, refl, refl)
 
--- keys[i]
-pub bounds-keys-i : goal.bounds-keys-i
-unfolding earlier any
-bounds-keys-i c =
-    let loop-test = c.loop-i-test in
-    omega (arith, keys_long c.args.t.now c.args.markers.now _ c.requires, loop-test.true)
-
 -- keys::view_at(t, at, keys[i])
 pub view_at-x-requires : goal.view_at-x-requires
 unfolding earlier any
@@ -30,7 +22,7 @@ view_at-x-requires c =
     let args = c.args in
     let i = c.loop-i.i in
     let wide = c.wide-at in
-    key_there args.t.now args.markers.now _ c.requires i wide.result c.loop-i-test.true
+    key_there args.t.now args.s.markers.now _ c.requires i wide.result c.loop-i-test.true
     wide.ensures.0
 
 -- ill_ended(t, markers, keys, i, x)
@@ -41,7 +33,7 @@ ill_ended-requires c =
     let wide = c.wide-at in (
       c.requires,
       loop-test.true,
-      view_there c.args.t.now c.args.markers.now _ wide.result c.view_at-x.result wide.ensures.0
+      view_there c.args.t.now c.args.s.markers.now _ wide.result c.view_at-x.result wide.ensures.0
           c.view_at-x.ensures,
     )
 
@@ -51,7 +43,7 @@ unfolding earlier any
 loop-i-preserved c =
     let args = c.args in
     let t = args.t.now in
-    let markers = args.markers.now in
+    let markers = args.s.markers.now in
     let source = args.source in
     let loop = c.loop-i in
     let led = loop.led in
@@ -79,24 +71,8 @@ unfolding earlier any
 returns c =
     let args = c.args in
     let t = args.t.now in
-    let markers = args.markers.now in
+    let markers = args.s.markers.now in
     let loop = c.loop-i in
     sym (loop.invariant.2
     ∙ blamed_end (bad_8 args.source) t markers (earlier (marker_at t markers) loop.i) loop.i loop.best 8
     c.loop-i-test.false)
-
-pub wide-at-requires : goal.wide-at-requires
-unfolding earlier any
-wide-at-requires c = search rules
-
-pub bad_alone-requires : goal.bad_alone-requires
-unfolding earlier any
-bad_alone-requires c = search rules
-
-pub lower_if-best-requires : goal.lower_if-best-requires
-unfolding earlier any
-lower_if-best-requires c = search rules
-
-pub is_leading-led-requires : goal.is_leading-led-requires
-unfolding earlier any
-is_leading-led-requires c = search rules

@@ -8,15 +8,12 @@ use Rattle.answers.specs.Answers.{toward}
 use lib.ListN.{length, drop}
 use mathlib.Core.Path.{◌≡◌}
 use mathlib.Core.List.{[]}
-use Prim.Native.Nat.{◌-◌, ◌≤◌}
+use Prim.Native.Nat.{◌≤◌}
 use Rattle.letters.proofs.eight_in.Given as goal
 
 abbrev pub invariant-loop-i : goal.invariant-loop-i
 invariant-loop-i l =
-    (l.i ≤ length l.markers)
-    × (l.led ≡ any is_F (earlier (marker_at l.t l.markers) l.i))
-    × (toward 8 l.initial.best (blamed (bad_8 l.source) [] (placed_at l.t l.markers))
-    ≡ toward 8 l.best (blamed (bad_8 l.source) (earlier (marker_at l.t l.markers) l.i) (placed_at l.t (drop l.i l.markers))))
-
-abbrev pub decreases-loop-i : goal.decreases-loop-i
-decreases-loop-i l = length l.markers - l.i
+    (l.i ≤ length l.s.markers.now)
+    × (l.led ≡ any is_F (earlier (marker_at l.t l.s.markers.now) l.i))
+    × (toward 8 l.initial.best (blamed (bad_8 l.source) [] (placed_at l.t l.s.markers.now))
+    ≡ toward 8 l.best (blamed (bad_8 l.source) (earlier (marker_at l.t l.s.markers.now) l.i) (placed_at l.t (drop l.i l.s.markers.now))))

@@ -7,15 +7,12 @@ use Rattle.xliff.specs.Bytes.{gather}
 use mathlib.Core.Path.{◌≡◌}
 use mathlib.Core.List.{[]}
 use lib.ListN.{length}
-use Prim.Native.Nat.{◌≤◌, ◌-◌}
+use Prim.Native.Nat.{◌≤◌}
 use Rattle.nesting.proofs.first_lone.Given as goal
 
 abbrev pub invariant-loop-i : goal.invariant-loop-i
 invariant-loop-i l =
-    (l.i ≤ length l.markers)
+    (l.i ≤ length l.bars.markers.now)
     × (length l.stack ≡ most_records)
     × (first_of 7 (gather (blamed lone_P []) (placed_contents (located (unit l.t).parts)))
-    ≡ toward 7 l.best (lone_left l.t l.markers l.i))
-
-abbrev pub decreases-loop-i : goal.decreases-loop-i
-decreases-loop-i l = length l.markers - l.i
+    ≡ toward 7 l.best (lone_left l.t l.bars.markers.now l.i))

@@ -3,7 +3,19 @@ use Rattle.places.proofs.Places.{at_start}
 use Rattle.xliff.specs.Encode.{unit_records}
 use Rattle.xliff.specs.Parse.{unit}
 use native.Mathlib.Omega.{arith}
+use Prim.Native.Nat.{ℕ, ◌≤◌}
+use mathlib.Core.Path.{◌≡◌, refl, ap, ◌∙◌}
+use mathlib.Core.Bool.{Bool, true, false, cond}
+use mir.Val.{bool_byte}
 use Rattle.orders.proofs.count_parts.Goals as goal
+
+one_if : (b : Bool) → bool_byte b ≡ cond {A = ℕ} b 1 0
+one_if true = refl
+one_if false = refl
+
+at_most_one : (b : Bool) → bool_byte b ≤ 1
+at_most_one true = omega arith
+at_most_one false = omega arith
 
 -- the loop's start
 pub loop-at-init : goal.loop-at-init
@@ -11,12 +23,12 @@ loop-at-init c =
     let t = c.args.t.now in
     (unit_records (unit t), at_start t c.requires, omega arith)
 
--- plus_if(g.head == 0, n)
-pub plus_if-n-requires : goal.plus_if-n-requires
-plus_if-n-requires c =
+-- n += usize::from(g.head.is_part())
+pub overflow_add-n : goal.overflow_add-n
+overflow_add-n c =
     let pre = c.requires in
     let loop = c.loop-at in
-    omega (arith, loop.invariant.2, pre.few_parts)
+    omega (arith, loop.invariant.2, pre.few_parts, c.from-n.ensures, at_most_one c.is_part.result)
 
 -- at += g.width
 pub overflow_add-at : goal.overflow_add-at
@@ -48,10 +60,11 @@ loop-at-preserved c =
     let inv = loop.invariant in
     let loop-test = c.loop-at-test in
     let glance_at = c.glance_at-g in
+    let counted = c.from-n.ensures ∙ one_if c.is_part.result ∙ ap (λ (b : Bool). cond {A = ℕ} b 1 0) c.is_part.ensures in
     let v = walked t loop.at inv.0 glance_at.result inv.1 loop-test.true glance_at.ensures in (
       v.step.others,
       v.rest,
-      omega (arith, inv.2, parts_walked t loop.at inv.0 glance_at.result v, c.plus_if-n.ensures),
+      omega (arith, inv.2, parts_walked t loop.at inv.0 glance_at.result v, counted),
     )
 
 -- n

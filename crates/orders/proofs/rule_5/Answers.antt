@@ -24,7 +24,7 @@ returns-then-bad_order c =
     let v = walked t loop.at loop.invariant.records glance_at.result loop.invariant.here
     c.loop-at-test.true glance_at.ensures in
     ordering_refuses loop.invariant glance_at.result v (omega (arith, few_parts t c.requires.0, c.requires.1))
-    c.in-Some.q (sym c.order_of.ensures ∙ c.in-Some.is) (sym c.bad_order.ensures ∙ c.if-bad_order.true)
+    c.in-Some.q (sym c.order.ensures ∙ c.in-Some.is) (rw c.from-k.ensures at (sym c.bad_order.ensures ∙ c.if-bad_order.true))
 
 -- used[k] = 1
 pub bounds-used-k : goal.bounds-used-k
@@ -34,8 +34,9 @@ bounds-used-k c =
     let glance_at = c.glance_at-g in
     let v = walked t loop.at loop.invariant.records glance_at.result loop.invariant.here
     c.loop-at-test.true glance_at.ensures in
-    order_within loop.invariant glance_at.result v (omega (arith, few_parts t c.requires.0, c.requires.1))
-    c.in-Some.q (sym c.order_of.ensures ∙ c.in-Some.is) (sym c.bad_order.ensures ∙ c.if-bad_order.false)
+    rw c.from-k.ensures
+    (order_within loop.invariant glance_at.result v (omega (arith, few_parts t c.requires.0, c.requires.1))
+    c.in-Some.q (sym c.order.ensures ∙ c.in-Some.is) (rw c.from-k.ensures at (sym c.bad_order.ensures ∙ c.if-bad_order.false)))
 
 -- at += w, behind an order
 pub overflow_add-at : goal.overflow_add-at
@@ -62,8 +63,9 @@ loop-at-preserved-in-Some c =
     let glance_at = c.glance_at-g in
     let v = walked t loop.at loop.invariant.records glance_at.result loop.invariant.here
     c.loop-at-test.true glance_at.ensures in
-    ordering_uses loop.invariant glance_at.result v (omega (arith, few_parts t c.requires.0, c.requires.1))
-    c.in-Some.q (sym c.order_of.ensures ∙ c.in-Some.is) (sym c.bad_order.ensures ∙ c.if-bad_order.false)
+    rw c.from-k.ensures
+    (ordering_uses loop.invariant glance_at.result v (omega (arith, few_parts t c.requires.0, c.requires.1))
+    c.in-Some.q (sym c.order.ensures ∙ c.in-Some.is) (rw c.from-k.ensures at (sym c.bad_order.ensures ∙ c.if-bad_order.false)))
 
 -- at += w, behind any other record
 pub overflow_add-at-in-None : goal.overflow_add-at-in-None
@@ -93,7 +95,7 @@ loop-at-preserved c =
     loop.invariant.records glance_at.result loop.invariant.here c.loop-at-test.true
     glance_at.ensures in
     ordering_skips loop.invariant glance_at.result v
-    (sym c.order_of.ensures ∙ c.in-None.is)
+    (sym c.order.ensures ∙ c.in-None.is)
 
 -- None
 pub returns : goal.returns

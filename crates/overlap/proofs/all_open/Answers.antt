@@ -6,6 +6,7 @@ use Rattle.answers.proofs.Places.{blamed_end}
 use Rattle.xliff.specs.Rules.{bad_9}
 use Rattle.halves.specs.Nearest.{earlier, marker_at}
 use Rattle.halves.proofs.TwoSequences.{blamed_step}
+use Rattle.overlap.proofs.TestLaws.{not_closed}
 use Rattle.overlap.proofs.all_open.Goals as goal
 
 -- the loop's start
@@ -13,7 +14,7 @@ pub loop-i-init : goal.loop-i-init
 unfolding earlier
 loop-i-init c = (omega arith, λ p. refl)
 
--- is_closed(t, markers, keys, i)
+-- is_closed(t, s, i)
 pub is_closed-requires : goal.is_closed-requires
 unfolding earlier
 is_closed-requires c =
@@ -31,14 +32,15 @@ unfolding earlier
 loop-i-preserved c =
     let args = c.args in
     let t = args.t.now in
-    let markers = args.markers.now in
+    let markers = args.s.markers.now in
     let loop = c.loop-i in
     let i = loop.i in (
       omega arith,
       λ p.
           loop.invariant.1 p
           ∙ blamed_step 9 bad_9 t markers i p false (get_or markers i 0) p c.loop-i-test.true refl
-          (c.is_closed.ensures (earlier (marker_at t markers) i) c.if-is_closed.false) refl,
+          (not_closed t markers i c.loop-i-test.true (earlier (marker_at t markers) i)
+          (sym c.is_closed.ensures ∙ c.if-is_closed.false)) refl,
     )
 
 -- true
@@ -47,7 +49,7 @@ unfolding earlier
 returns c =
     let args = c.args in
     let t = args.t.now in
-    let markers = args.markers.now in
+    let markers = args.s.markers.now in
     let loop = c.loop-i in
     λ p e.
     sym

@@ -1,4 +1,4 @@
-use Prim.Native.Nat.{◌-◌, ◌≤◌}
+use Prim.Native.Nat.{◌≤◌}
 use mathlib.Core.List.{[]}
 use mathlib.Core.Path.{◌≡◌}
 use lib.ListN.{length, drop}
@@ -12,10 +12,7 @@ use Rattle.overlap.proofs.all_open.Given as goal
 
 abbrev pub invariant-loop-i : goal.invariant-loop-i
 invariant-loop-i l =
-    (l.i ≤ length l.markers)
+    (l.i ≤ length l.s.markers.now)
     × ((p : Option ℕ)
-    → toward 9 p (blamed bad_9 [] (placed_at l.t l.markers))
-    ≡ toward 9 p (blamed bad_9 (earlier (marker_at l.t l.markers) l.i) (placed_at l.t (drop l.i l.markers))))
-
-abbrev pub decreases-loop-i : goal.decreases-loop-i
-decreases-loop-i l = length l.markers - l.i
+    → toward 9 p (blamed bad_9 [] (placed_at l.t l.s.markers.now))
+    ≡ toward 9 p (blamed bad_9 (earlier (marker_at l.t l.s.markers.now) l.i) (placed_at l.t (drop l.i l.s.markers.now))))

@@ -8,17 +8,11 @@ use Rattle.overlap.proofs.fill_ends.Goals as goal
 pub loop-i-init : goal.loop-i-init
 loop-i-init c = (search rules, search rules, λ k h. absurd (omega (arith, h)))
 
--- halves::linked_after(keys, links, i)
-pub linked_after-requires : goal.linked_after-requires
-linked_after-requires c =
+-- number_after(keys, links, i)
+pub number_after-requires : goal.number_after-requires
+number_after-requires c =
     let pre = c.requires in
     (pre.3, pre.0, pre.1, c.loop-i-test.true)
-
--- halves::linked_after(keys, links, i)
-pub overflow_cast-ends : goal.overflow_cast-ends
-overflow_cast-ends c =
-    let pre = c.requires in
-    omega (arith, c.linked_after.ensures.2, c.loop-i-test.true, pre.0)
 
 -- the loop's step
 pub loop-i-preserved : goal.loop-i-preserved
@@ -26,8 +20,8 @@ loop-i-preserved c =
     let loop = c.loop-i in (
       search rules,
       search rules,
-      set_next (half_after c.args.keys.now) loop.ends loop.i c.linked_after.result
-          (omega (arith, c.loop-i-test.true, c.requires.0, loop.invariant.1)) c.linked_after.ensures.0
+      set_next (half_after c.args.keys.now) loop.ends loop.i c.number_after.result
+          (omega (arith, c.loop-i-test.true, c.requires.0, loop.invariant.1)) c.number_after.ensures
           loop.invariant.2,
     )
 

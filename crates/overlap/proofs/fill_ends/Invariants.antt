@@ -2,12 +2,9 @@ use Rattle.overlap.specs.Nine.{Filled}
 use Rattle.halves.specs.Nearest.{half_after}
 use lib.ListN.{length}
 use mathlib.Core.Path.{◌≡◌}
-use Prim.Native.Nat.{◌≤◌, ◌-◌}
+use Prim.Native.Nat.{◌≤◌}
 use Rattle.xliff.specs.Parse.{most_records}
 use Rattle.overlap.proofs.fill_ends.Given as goal
 
 abbrev pub invariant-loop-i : goal.invariant-loop-i
 invariant-loop-i l = (l.i ≤ length l.keys) × (length l.ends ≡ most_records) × Filled (half_after l.keys) l.i l.ends
-
-abbrev pub decreases-loop-i : goal.decreases-loop-i
-decreases-loop-i l = length l.keys - l.i

@@ -8,17 +8,11 @@ use Rattle.overlap.proofs.fill_starts.Goals as goal
 pub loop-i-init : goal.loop-i-init
 loop-i-init c = (search rules, search rules, λ k h. absurd (omega (arith, h)))
 
--- halves::linked_before(keys, links, i)
-pub linked_before-requires : goal.linked_before-requires
-linked_before-requires c =
+-- number_before(keys, links, i)
+pub number_before-requires : goal.number_before-requires
+number_before-requires c =
     let pre = c.requires in
     (pre.3, pre.0, pre.1, c.loop-i-test.true)
-
--- halves::linked_before(keys, links, i)
-pub overflow_cast-starts : goal.overflow_cast-starts
-overflow_cast-starts c =
-    let pre = c.requires in
-    omega (arith, c.linked_before.ensures.1, c.loop-i-test.true, pre.0)
 
 -- the loop's step
 pub loop-i-preserved : goal.loop-i-preserved
@@ -26,8 +20,8 @@ loop-i-preserved c =
     let loop = c.loop-i in (
       search rules,
       search rules,
-      set_next (half_before c.args.keys.now) loop.starts loop.i c.linked_before.result
-          (omega (arith, c.loop-i-test.true, c.requires.0, loop.invariant.1)) c.linked_before.ensures.0
+      set_next (half_before c.args.keys.now) loop.starts loop.i c.number_before.result
+          (omega (arith, c.loop-i-test.true, c.requires.0, loop.invariant.1)) c.number_before.ensures
           loop.invariant.2,
     )
 

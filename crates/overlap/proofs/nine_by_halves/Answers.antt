@@ -7,7 +7,7 @@ use Rattle.overlap.proofs.nine_by_halves.Goals as goal
 pub fill-requires : goal.fill-requires
 fill-requires c =
     let pre = c.requires in (
-      omega (arith, pre.1, keys_long c.args.t.now c.args.markers.now _ pre.0),
+      omega (arith, pre.1, keys_long c.args.t.now c.args.s.markers.now _ pre.0),
       search rules,
       search rules,
     )

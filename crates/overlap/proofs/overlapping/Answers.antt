@@ -6,12 +6,12 @@ use mathlib.Core.Path.{◌∙◌, refl, sym}
 use borrow.Author.Rules.{rules}
 use Rattle.overlap.proofs.overlapping.Goals as goal
 
--- encloses_stray(t, markers, keys, starts, ends, i)
+-- encloses_stray(t, h, i)
 pub encloses_stray-bad-requires : goal.encloses_stray-bad-requires
 unfolding earlier
 encloses_stray-bad-requires c =
     let pre = c.requires in
-    (pre.0, pre.1, pre.2, pre.3, pre.4, c.loop-i-test.true)
+    (pre, c.loop-i-test.true)
 
 -- the loop's step
 pub loop-i-preserved : goal.loop-i-preserved
@@ -24,7 +24,7 @@ loop-i-preserved c =
     let wide = c.wide in (
       search rules,
       loop.invariant.1
-          ∙ blamed_step 9 bad_9 args.t.now args.markers.now loop.i loop.best encloses-stray.result
+          ∙ blamed_step 9 bad_9 args.t.now args.h.sequence.markers.now loop.i loop.best encloses-stray.result
           wide.result c.lower_if-best.result loop-test.true wide.ensures.0 encloses-stray.ensures
           c.lower_if-best.ensures,
     )
@@ -35,7 +35,7 @@ unfolding earlier
 returns c =
     let args = c.args in
     let t = args.t.now in
-    let markers = args.markers.now in
+    let markers = args.h.sequence.markers.now in
     let loop = c.loop-i in
     sym (loop.invariant.1
     ∙ blamed_end bad_9 t markers (earlier (marker_at t markers) loop.i) loop.i loop.best 9 c.loop-i-test.false)
@@ -43,11 +43,3 @@ returns c =
 pub loop-i-init : goal.loop-i-init
 unfolding earlier
 loop-i-init c = (search rules, refl)
-
-pub wide-requires : goal.wide-requires
-unfolding earlier
-wide-requires c = search rules
-
-pub lower_if-best-requires : goal.lower_if-best-requires
-unfolding earlier
-lower_if-best-requires c = search rules

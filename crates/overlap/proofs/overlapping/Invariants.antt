@@ -6,14 +6,11 @@ use Rattle.answers.specs.Answers.{toward}
 use lib.ListN.{length, drop}
 use mathlib.Core.Path.{◌≡◌}
 use mathlib.Core.List.{[]}
-use Prim.Native.Nat.{◌-◌, ◌≤◌}
+use Prim.Native.Nat.{◌≤◌}
 use Rattle.overlap.proofs.overlapping.Given as goal
 
 abbrev pub invariant-loop-i : goal.invariant-loop-i
 invariant-loop-i l =
-    (l.i ≤ length l.markers)
-    × (toward 9 l.initial.best (blamed bad_9 [] (placed_at l.t l.markers))
-    ≡ toward 9 l.best (blamed bad_9 (earlier (marker_at l.t l.markers) l.i) (placed_at l.t (drop l.i l.markers))))
-
-abbrev pub decreases-loop-i : goal.decreases-loop-i
-decreases-loop-i l = length l.markers - l.i
+    (l.i ≤ length l.h.sequence.markers.now)
+    × (toward 9 l.initial.best (blamed bad_9 [] (placed_at l.t l.h.sequence.markers.now))
+    ≡ toward 9 l.best (blamed bad_9 (earlier (marker_at l.t l.h.sequence.markers.now) l.i) (placed_at l.t (drop l.i l.h.sequence.markers.now))))

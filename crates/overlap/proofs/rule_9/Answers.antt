@@ -2,23 +2,14 @@ use Rattle.overlap.proofs.Marks.{on_9}
 use Rattle.halves.proofs.TwoSequences.{two_sequences}
 use Rattle.sequences.specs.Marks.{offsets}
 use Rattle.xliff.specs.Rules.{fault_9, bad_9}
-use borrow.Author.Rules.{rules}
 use Rattle.overlap.proofs.rule_9.Goals as goal
 
--- nine_in(t, target_markers, target_keys, nine_in(t, source_markers, source_keys, None))
+-- nine_in(t, target, nine_in(t, source, None))
 pub returns : goal.returns
 unfolding fault_9 offsets
 returns c =
     let args = c.args in
     let pre = c.requires in
     let nine-in = c.nine_in in
-    two_sequences 9 bad_9 bad_9 on_9 on_9 args.t.now args.source_markers.now args.target_markers.now nine-in.result
+    two_sequences 9 bad_9 bad_9 on_9 on_9 args.t.now args.source.markers.now args.target.markers.now nine-in.result
     c.nine_in-2.result pre.0 pre.1 pre.3 nine-in.ensures c.nine_in-2.ensures
-
-pub nine_in-requires : goal.nine_in-requires
-unfolding fault_9 offsets
-nine_in-requires c = search rules
-
-pub nine_in-requires-2 : goal.nine_in-requires-2
-unfolding fault_9 offsets
-nine_in-requires-2 c = search rules

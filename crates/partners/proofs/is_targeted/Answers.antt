@@ -1,36 +1,25 @@
-use Rattle.partners.proofs.ScanLaws.{targeted_on, targeted_off, targeted_end}
-use borrow.Author.Tests.{eq-eqb, ne_eqb}
-use mathlib.Core.Path.{◌∙◌, refl, sym}
+use mathlib.Core.Path.{◌≡◌, ◌∙◌}
+use Rattle.std.specs.List.{find}
+use Rattle.std.proofs.lemmas.Iterator.{YieldsList-from_slice}
+use Rattle.std.proofs.lemmas.Iterator.Search.{find_from_yields_List}
+use Rattle.contents.specs.Contents.{is_bar}
+use Rattle.partners.proofs.Found.{bar_found, asked, values, is_target_bar}
 use borrow.Author.Rules.{rules}
+use borrow.Author.Tests.{tests}
 use Rattle.partners.proofs.is_targeted.Goals as goal
 
--- return k == 1
-pub returns-then-class_of-eq0 : goal.returns-then-class_of-eq0
-returns-then-class_of-eq0 c =
+-- the key that is found
+pub returns-in-Some : goal.returns-in-Some
+returns-in-Some c =
     let keys = c.args.keys.now in
-    let loop = c.loop-i in
-    let loop-test = c.loop-i-test in
-    sym (loop.invariant.1
-    ∙ targeted_on keys loop.i loop-test.true (eq-eqb _ _ (sym c.class_of.ensures ∙ c.if-class_of-eq0.true)))
-
--- the loop's step
-pub loop-i-preserved : goal.loop-i-preserved
-loop-i-preserved c =
-    let keys = c.args.keys.now in
-    let loop = c.loop-i in
-    let loop-test = c.loop-i-test in (
-      search rules,
-      loop.invariant.1
-          ∙ targeted_off keys loop.i loop-test.true
-          (rw c.class_of.ensures at (ne_eqb _ _ c.if-class_of-eq0.false)),
-    )
+    let found : values c.find.result ≡ find (is_bar) (keys) =
+    find_from_yields_List (is_bar) _ _ _ c.find.ensures.ran (YieldsList-from_slice keys cc) (λ y b q is. search (rules, tests)) in
+    asked (is_target_bar) _ _ _ found c.in-Some.is ∙ bar_found (keys)
 
 -- false
-pub returns : goal.returns
-returns c =
+pub returns-in-None : goal.returns-in-None
+returns-in-None c =
     let keys = c.args.keys.now in
-    let loop = c.loop-i in
-    sym (loop.invariant.1 ∙ targeted_end keys loop.i c.loop-i-test.false)
-
-pub loop-i-init : goal.loop-i-init
-loop-i-init c = (search rules, refl)
+    let found : values c.find.result ≡ find (is_bar) (keys) =
+    find_from_yields_List (is_bar) _ _ _ c.find.ensures.ran (YieldsList-from_slice keys cc) (λ y b q is. search (rules, tests)) in
+    asked (is_target_bar) _ _ _ found c.in-None.is ∙ bar_found (keys)

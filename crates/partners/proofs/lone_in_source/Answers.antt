@@ -13,7 +13,7 @@ loop-i-preserved c =
     let wide = c.wide in (
       search rules,
       loop.invariant.1
-          ∙ blamed_on lone_s_Key c.args.markers.now c.args.keys.now c.requires 7 loop.best loop.i
+          ∙ blamed_on lone_s_Key c.args.source.markers.now c.args.source.keys.now c.args.source.paired 7 loop.best loop.i
           lone-s.result wide.result c.lower_if-best.result loop-test.true lone-s.ensures
           wide.ensures.0 c.lower_if-best.ensures,
     )
@@ -23,7 +23,7 @@ pub returns : goal.returns
 returns c =
     let loop = c.loop-i in
     sym (loop.invariant.1
-    ∙ blamed_end lone_s_Key c.args.markers.now c.args.keys.now c.requires 7 loop.best loop.i
+    ∙ blamed_end lone_s_Key c.args.source.markers.now c.args.source.keys.now c.args.source.paired 7 loop.best loop.i
     c.loop-i-test.false)
 
 pub loop-i-init : goal.loop-i-init

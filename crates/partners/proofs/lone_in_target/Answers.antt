@@ -19,7 +19,7 @@ loop-i-preserved c =
       search rules,
       search rules,
       loop.invariant.2
-          ∙ blamed_on (lone_among_keys args.bars.now) args.markers.now args.keys.now c.requires.0 7
+          ∙ blamed_on (lone_among_keys args.bars.now) args.target.markers.now args.target.keys.now args.target.paired 7
           loop.best loop.i stays-lone.result wide.result c.lower_if-best.result loop-test.true
           stays-lone.ensures.0 wide.ensures.0 c.lower_if-best.ensures,
     )
@@ -30,5 +30,5 @@ returns c =
     let args = c.args in
     let loop = c.loop-i in
     sym (loop.invariant.2
-    ∙ blamed_end (lone_among_keys args.bars.now) args.markers.now args.keys.now c.requires.0 7 loop.best
+    ∙ blamed_end (lone_among_keys args.bars.now) args.target.markers.now args.target.keys.now args.target.paired 7 loop.best
     loop.i c.loop-i-test.false)

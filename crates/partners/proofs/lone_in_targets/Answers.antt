@@ -12,6 +12,6 @@ returns c =
     let args = c.args in
     let start = args.start in
     let t = args.t.now in
-    sym (ap (toward 7 start) (none_blamed (bar_keys t (barred false t)) [] args.markers.now args.keys.now
+    sym (ap (toward 7 start) (none_blamed (bar_keys t (barred false t)) [] args.target.markers.now args.target.keys.now
     (sym c.any_lone.ensures ∙ c.if-any_lone.false))
     ∙ none_lower 7 start)

@@ -1,38 +1,28 @@
-use Rattle.partners.proofs.ScanLaws.{after_met, after_passed, after_none}
-use mathlib.Core.Path.{◌∙◌, refl, sym}
+use mathlib.Core.Path.{◌≡◌, ◌∙◌}
+use Rattle.std.specs.List.{find}
+use Rattle.std.proofs.lemmas.Iterator.{YieldsList-from_slice}
+use Rattle.std.proofs.lemmas.Iterator.Search.{find_from_yields_List}
+use Rattle.keys.specs.Keys.{is_other_key}
+use Rattle.partners.specs.Partners.{is_mark_alike}
+use Rattle.partners.proofs.Found.{partner_found, asked, values}
 use borrow.Author.Rules.{rules}
+use borrow.Author.Tests.{tests}
 use Rattle.partners.proofs.partner_after.Goals as goal
 
--- return keys::is_other(k, y)
-pub returns-then-alike-is_form_p : goal.returns-then-alike-is_form_p
-returns-then-alike-is_form_p c =
-    let args = c.args in
-    let loop = c.loop-i in
-    let loop-test = c.loop-i-test in
-    let alike = c.alike in
-    c.is_other.ensures
-    ∙ sym (loop.invariant.1
-    ∙ after_met args.k args.keys.now loop.i loop-test.true
-    (rw (alike.ensures, c.is_form_p.ensures) at c.if-alike-is_form_p.true))
-
--- the loop's step
-pub loop-i-preserved : goal.loop-i-preserved
-loop-i-preserved c =
-    let args = c.args in
-    let loop = c.loop-i in
-    let loop-test = c.loop-i-test in (
-      search rules,
-      loop.invariant.1
-          ∙ after_passed args.k args.keys.now loop.i loop-test.true
-          (rw (c.alike.ensures, c.is_form_p.ensures) at c.if-alike-is_form_p.false),
-    )
+-- the key that is found
+pub returns-in-Some : goal.returns-in-Some
+returns-in-Some c =
+    let keys = c.args.keys.now in
+    let k = c.args.k in
+    let found : values c.find.result ≡ find (is_mark_alike k) (keys) =
+    find_from_yields_List (is_mark_alike k) _ _ _ c.find.ensures.ran (YieldsList-from_slice keys cc) (λ y b q is. search (rules, tests)) in
+    c.is_other.ensures ∙ asked (is_other_key k) _ _ _ found c.in-Some.is ∙ partner_found k (keys)
 
 -- false
-pub returns : goal.returns
-returns c =
-    let args = c.args in
-    let loop = c.loop-i in
-    sym (loop.invariant.1 ∙ after_none args.k args.keys.now loop.i c.loop-i-test.false)
-
-pub loop-i-init : goal.loop-i-init
-loop-i-init c = (search rules, refl)
+pub returns-in-None : goal.returns-in-None
+returns-in-None c =
+    let keys = c.args.keys.now in
+    let k = c.args.k in
+    let found : values c.find.result ≡ find (is_mark_alike k) (keys) =
+    find_from_yields_List (is_mark_alike k) _ _ _ c.find.ensures.ran (YieldsList-from_slice keys cc) (λ y b q is. search (rules, tests)) in
+    asked (is_other_key k) _ _ _ found c.in-None.is ∙ partner_found k (keys)

@@ -2,7 +2,7 @@ use Rattle.partners.specs.Partners.{waits_for_key}
 use lib.ListN.{take, drop, length}
 use mathlib.Core.List.{[], reverse}
 use mathlib.Core.Path.{◌≡◌}
-use Prim.Native.Nat.{◌≤◌, ◌-◌}
+use Prim.Native.Nat.{◌≤◌}
 use Rattle.xliff.specs.Parse.{most_records}
 use Rattle.partners.proofs.waits_for.Given as goal
 
@@ -11,6 +11,3 @@ invariant-loop-i l =
     (l.i ≤ length l.bars)
     × (length l.stack ≡ most_records)
     × (waits_for_key l.x [] l.bars ≡ waits_for_key l.x (reverse (take l.i l.bars)) (drop l.i l.bars))
-
-abbrev pub decreases-loop-i : goal.decreases-loop-i
-decreases-loop-i l = length l.bars - l.i

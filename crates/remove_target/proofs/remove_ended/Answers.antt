@@ -46,8 +46,8 @@ slice_bounds-rules_7_and_9-end c =
     work_long w
 
 -- result_rules::rules_7_and_9(&work[..n])
-pub rules_7_and_9-k-requires : goal.rules_7_and_9-k-requires
-rules_7_and_9-k-requires c =
+pub rules_7_and_9-requires : goal.rules_7_and_9-requires
+rules_7_and_9-requires c =
     let args = c.args in
     let put-removed = c.put_removed-n in
     let (v, st) = c.requires in
@@ -57,8 +57,8 @@ rules_7_and_9-k-requires c =
     work_passes w
 
 -- &work[..n], copied
-pub slice_bounds-work-end-then-k-eq0 : goal.slice_bounds-work-end-then-k-eq0
-slice_bounds-work-end-then-k-eq0 c =
+pub slice_bounds-work-end-2 : goal.slice_bounds-work-end-2
+slice_bounds-work-end-2 c =
     let args = c.args in
     let put-removed = c.put_removed-n in
     let (v, st) = c.requires in
@@ -88,28 +88,26 @@ put-requires c =
     put-removed.new.out put-removed.result (put-removed.ensures b p a s) in
     omega (arith, work_long w, c.if-out-n.false)
 
--- return Answer::Accepted(..)
-pub returns-then-k-eq0 : goal.returns-then-k-eq0
-returns-then-k-eq0 c =
+-- Answer::Accepted(..)
+pub returns : goal.returns
+returns c =
     let args = c.args in
     let put-removed = c.put_removed-n in
     let fits = c.if-out-n.false in
-    let rules = c.rules_7_and_9-k in
     let put = c.put in
     λ b p a s.
     let w = removed_work args.table.now c.shared_slice_known-1.given c.requires.0 b p a
     args.place s _ put-removed.new.out put-removed.result (put-removed.ensures b p a s) in
     answers_kept _ (λ ps. fault_7 ps then fault_9 ps) args.out.now (has_room w (length args.out.now) fits) w
-    rules.result rules.ensures c.if-k-eq0.true put.result put.new.out put.ensures.0 put.ensures.1
+    c.in_default.ensures put.result put.new.out put.ensures.0 put.ensures.1
 
--- Answer::Refused(k, 0)
-pub returns : goal.returns
-returns c =
+-- return Answer::Refused(k, 0)
+pub returns-in-Some : goal.returns-in-Some
+returns-in-Some c =
     let args = c.args in
     let put-removed = c.put_removed-n in
-    let rules = c.rules_7_and_9-k in
     λ b p a s.
     let w = removed_work args.table.now c.shared_slice_known-1.given c.requires.0 b p a
     args.place s _ put-removed.new.out put-removed.result (put-removed.ensures b p a s) in
     answers_broken _ (λ ps. fault_7 ps then fault_9 ps) args.out.now
-    (has_room w (length args.out.now) c.if-out-n.false) w rules.result rules.ensures c.if-k-eq0.false
+    (has_room w (length args.out.now) c.if-out-n.false) w c.in-Some.k c.in-Some.ensures

@@ -1,6 +1,7 @@
-use Rattle.result_rules.proofs.BrokenLaws.{told}
+use mathlib.Core.Path.{◌∙◌}
+use Rattle.result_rules.proofs.BrokenLaws.{fault_is}
 use Rattle.result_rules.proofs.breaks_7.Goals as goal
 
--- !(first_broken(t, false) == 0)
+-- partners::rule_7(t, source.sequence(), target.sequence()).is_some()
 pub returns : goal.returns
-returns c = told c.first_broken.result _ c.first_broken.ensures
+returns c = c.is_some.ensures ∙ fault_is 7 c.rule_7.result _ c.rule_7.ensures

@@ -1,10 +1,10 @@
-use Rattle.result_rules.proofs.NumberLaws.{number_broken}
+use Rattle.result_rules.proofs.BrokenLaws.{accepted_is, refused_is}
 use Rattle.result_rules.proofs.rules_6_to_10.Goals as goal
 
--- number_of(table_check::rules_6_to_10(t))
-pub returns : goal.returns
-returns c =
-    let t = c.args.t.now in
-    let rules-6-to-10 = c.rules_6_to_10 in
-    number_broken t _ rules-6-to-10.result c.number_of.result c.number_of.ensures
-    rules-6-to-10.ensures
+-- Answer::Accepted(_) => None
+pub returns-in-Accepted : goal.returns-in-Accepted
+returns-in-Accepted c = accepted_is c.args.t.now _ _ c.in-Accepted.ensures
+
+-- Answer::Refused(n, _) => Some(n)
+pub returns-in-Refused : goal.returns-in-Refused
+returns-in-Refused c = refused_is c.args.t.now c.in-Refused.n _ _ c.in-Refused.ensures

@@ -2,6 +2,7 @@ use Rattle.sequences.proofs.GlanceLaws.{heads_on, heads_end}
 use Rattle.sequences.proofs.TargetLaws.{heads_few}
 use Rattle.sequences.specs.Targets.{head_offsets, heads_of}
 use Rattle.sequences.proofs.FillLaws.{fill_room, fill_on, fill_end}
+use Rattle.glance.specs.Glances.{kind_of}
 use Rattle.orders.proofs.WalkLaws.{walked}
 use Rattle.places.proofs.Places.{at_start}
 use Rattle.xliff.specs.Encode.{unit_records}
@@ -30,7 +31,7 @@ overflow_cast-at c =
     let loop-test = c.loop-at-test in
     omega (arith, loop-test.true, pre.1)
 
--- put_if(g.head == 1, heads, m, at as u16)
+-- put_if(g.head.is_target(), heads, m, at as u16)
 pub put_if-m-requires : goal.put_if-m-requires
 unfolding head_offsets heads_of
 put_if-m-requires c =
@@ -41,8 +42,9 @@ put_if-m-requires c =
     let loop-test = c.loop-at-test in
     let glance_at = c.glance_at-g in
     let v = walked t at-now inv.0 glance_at.result inv.1 loop-test.true glance_at.ensures in
-    let e = heads_on t at-now inv.0 glance_at.result v in (
-      fill_room (cond (eqb glance_at.result.head 1) (at-now ∷ []) []) _ inv.2 e
+    let e = heads_on t at-now inv.0 glance_at.result v in
+    rw c.is_target.ensures (
+      fill_room (cond (eqb (kind_of glance_at.result.head) 1) (at-now ∷ []) []) _ inv.2 e
           (heads_few t c.requires.0),
       omega (arith, inv.2.sized),
     )
@@ -86,7 +88,7 @@ loop-at-preserved c =
     let e = heads_on t at-now inv.0 glance_at.result v in (
       v.step.others,
       v.rest,
-      fill_on (cond (eqb glance_at.result.head 1) (at-now ∷ []) []) _ inv.2 e put_if.ensures,
+      fill_on (cond (eqb (kind_of glance_at.result.head) 1) (at-now ∷ []) []) _ inv.2 e (rw c.is_target.ensures at put_if.ensures),
     )
 
 -- m

@@ -3,17 +3,18 @@ use Rattle.sequences.proofs.TargetLaws.{begun, order_here, order_other}
 use Rattle.sequences.specs.Targets.{of_order, head_number}
 use Rattle.sequences.proofs.FillLaws.{fill_room, fill_on, fill_end, fill_none}
 use Rattle.orders.proofs.WalkLaws.{walked}
+use borrow.Author.Tests.{not-true, not-false}
 use lib.ListN.{length, take}
 use native.Mathlib.Omega.{arith}
-use mathlib.Core.Path.{refl, sym, ap}
+use mathlib.Core.Path.{refl, sym, ap, ◌∙◌}
 use mathlib.Core.List.{List, [], ◌∷◌, ◌++◌}
 use mathlib.Core.Bool.{cond}
 use Prim.Native.Nat.{ℕ}
 use Rattle.sequences.proofs.target_markers.Goals as goal
 
 -- return n
-pub returns-then-q-first : goal.returns-then-q-first
-returns-then-q-first c =
+pub returns-then-not-sets : goal.returns-then-not-sets
+returns-then-not-sets c =
     let args = c.args in
     let t = args.t.now in
     let i = args.i in
@@ -22,7 +23,7 @@ returns-then-q-first c =
     let glance_at = c.glance_at-first in
     let b = begun t args.heads.now i pre.0 pre.2 pre.3 wide.result wide.ensures.0
     glance_at.result glance_at.ensures in
-    fill_none args.out.now (of_order args.q (head_number t i)) args.n (order_other b c.if-q-first.true)
+    fill_none args.out.now (of_order args.q (head_number t i)) args.n (order_other args.q b (sym c.sets.ensures ∙ not-true _ c.if-not-sets.true-raw))
 
 -- head + first.width
 pub overflow_add-at : goal.overflow_add-at
@@ -46,7 +47,7 @@ loop-at-init c =
     let glance_at = c.glance_at-first in
     let b = begun t args.heads.now i pre.0 pre.2 pre.3 wide.result wide.ensures.0
     glance_at.result glance_at.ensures in
-    let h = order_here b c.if-q-first.false in (
+    let h = order_here args.q b (sym c.sets.ensures ∙ not-false _ c.if-not-sets.false-raw) in (
       (head_number t i).behind,
       b.rest,
       record {
@@ -57,21 +58,21 @@ loop-at-init c =
     )
 
 -- return m
-pub shape_of-out-then-g-ne2 : goal.shape_of-out-then-g-ne2
-shape_of-out-then-g-ne2 c =
+pub shape_of-out-then-not-is_other : goal.shape_of-out-then-not-is_other
+shape_of-out-then-not-is_other c =
     let loop = c.loop-at in
     loop.invariant.2.sized
 
 -- return m
-pub returns-then-g-ne2 : goal.returns-then-g-ne2
-returns-then-g-ne2 c =
+pub returns-then-not-is_other : goal.returns-then-not-is_other
+returns-then-not-is_other c =
     let t = c.args.t.now in
     let loop = c.loop-at in
     let inv = loop.invariant in
     let loop-test = c.loop-at-test in
     let glance-at2 = c.glance_at-g in
     let v = walked t loop.at inv.0 glance-at2.result inv.1 loop-test.true glance-at2.ensures in
-    let f = fill_end inv.2 (content_off t loop.at inv.0 glance-at2.result v c.if-g-ne2.true) in
+    let f = fill_end inv.2 (content_off t loop.at inv.0 glance-at2.result v (sym c.is_other.ensures ∙ not-true _ c.if-not-is_other.true-raw)) in
     (f.0, f.1, inv.2.sized)
 
 -- at as u16
@@ -92,7 +93,7 @@ put_if-m-requires c =
     let loop-test = c.loop-at-test in
     let glance-at2 = c.glance_at-g in
     let v = walked t at-now inv.0 glance-at2.result inv.1 loop-test.true glance-at2.ensures in
-    let e = content_on t at-now inv.0 glance-at2.result v c.if-g-ne2.false in (
+    let e = content_on t at-now inv.0 glance-at2.result v (sym c.is_other.ensures ∙ not-false _ c.if-not-is_other.false-raw) in (
       fill_room (cond glance-at2.result.marker (at-now ∷ []) []) _ inv.2 e pre.4,
       omega (arith, inv.2.sized, pre.5),
     )
@@ -127,10 +128,9 @@ loop-at-preserved c =
     let inv = loop.invariant in
     let loop-test = c.loop-at-test in
     let glance-at2 = c.glance_at-g in
-    let if2 = c.if-g-ne2 in
     let put_if = c.put_if-m in
     let v = walked t at-now inv.0 glance-at2.result inv.1 loop-test.true glance-at2.ensures in
-    let e = content_on t at-now inv.0 glance-at2.result v if2.false in (
+    let e = content_on t at-now inv.0 glance-at2.result v (sym c.is_other.ensures ∙ not-false _ c.if-not-is_other.false-raw) in (
       v.step.others,
       v.rest,
       fill_on (cond glance-at2.result.marker (at-now ∷ []) []) _ inv.2 e put_if.ensures,

@@ -78,8 +78,8 @@ slice_bounds-rules_6_to_10-end c =
     work_long x
 
 -- result_rules::rules_6_to_10(&work[..n])
-pub rules_6_to_10-k-requires : goal.rules_6_to_10-k-requires
-rules_6_to_10-k-requires c =
+pub rules_6_to_10-requires : goal.rules_6_to_10-requires
+rules_6_to_10-requires c =
     let known = c.shared_slice_known-1.given in
     let known2 = c.shared_slice_known-2-1.given in
     let args = c.args in
@@ -95,8 +95,8 @@ rules_6_to_10-k-requires c =
     work_passes x
 
 -- &work[..n], copied
-pub slice_bounds-work-end-then-k-eq0 : goal.slice_bounds-work-end-then-k-eq0
-slice_bounds-work-end-then-k-eq0 c =
+pub slice_bounds-work-end-2 : goal.slice_bounds-work-end-2
+slice_bounds-work-end-2 c =
     let known = c.shared_slice_known-1.given in
     let known2 = c.shared_slice_known-2-1.given in
     let args = c.args in
@@ -145,29 +145,7 @@ put-requires c =
     output_room args.table.now known c.requires.0 args.place args.content.now known2 c.requires.2 args.state
     args.order room large.result large.ensures b p a s small f x
 
--- return Answer::Accepted(..)
-pub returns-then-k-eq0 : goal.returns-then-k-eq0
-returns-then-k-eq0 c =
-    let known = c.shared_slice_known-1.given in
-    let known2 = c.shared_slice_known-2-1.given in
-    let args = c.args in
-    let room = length args.out.now in
-    let large = c.is_too_large in
-    let small = c.if-is_too_large.false in
-    let put-set = c.put_set-n in
-    let rules = c.rules_6_to_10-k in
-    let put = c.put in
-    λ b p a s f.
-    let x = set_work args.table.now known c.requires.0 args.place args.content.now known2 c.requires.2 args.state
-    args.order room large.result large.ensures b p a s small f _ put-set.new.out put-set.result
-    put-set.ensures in
-    answers_kept _ fault_6_to_10 args.out.now
-    (size_is args.table.now known c.requires.0 args.place args.content.now known2 c.requires.2 args.state
-    args.order room large.result large.ensures b p a s false small) x
-    rules.result rules.ensures c.if-k-eq0.true put.result put.new.out
-    put.ensures.0 put.ensures.1
-
--- Answer::Refused(k, 0)
+-- Answer::Accepted(..)
 pub returns : goal.returns
 returns c =
     let known = c.shared_slice_known-1.given in
@@ -177,7 +155,27 @@ returns c =
     let large = c.is_too_large in
     let small = c.if-is_too_large.false in
     let put-set = c.put_set-n in
-    let rules = c.rules_6_to_10-k in
+    let put = c.put in
+    λ b p a s f.
+    let x = set_work args.table.now known c.requires.0 args.place args.content.now known2 c.requires.2 args.state
+    args.order room large.result large.ensures b p a s small f _ put-set.new.out put-set.result
+    put-set.ensures in
+    answers_kept _ fault_6_to_10 args.out.now
+    (size_is args.table.now known c.requires.0 args.place args.content.now known2 c.requires.2 args.state
+    args.order room large.result large.ensures b p a s false small) x
+    c.in_default.ensures put.result put.new.out
+    put.ensures.0 put.ensures.1
+
+-- return Answer::Refused(k, 0)
+pub returns-in-Some : goal.returns-in-Some
+returns-in-Some c =
+    let known = c.shared_slice_known-1.given in
+    let known2 = c.shared_slice_known-2-1.given in
+    let args = c.args in
+    let room = length args.out.now in
+    let large = c.is_too_large in
+    let small = c.if-is_too_large.false in
+    let put-set = c.put_set-n in
     λ b p a s f.
     let x = set_work args.table.now known c.requires.0 args.place args.content.now known2 c.requires.2 args.state
     args.order room large.result large.ensures b p a s small f _ put-set.new.out put-set.result
@@ -185,4 +183,4 @@ returns c =
     answers_broken _ fault_6_to_10 args.out.now
     (size_is args.table.now known c.requires.0 args.place args.content.now known2 c.requires.2 args.state
     args.order room large.result large.ensures b p a s false small) x
-    rules.result rules.ensures c.if-k-eq0.false
+    c.in-Some.k c.in-Some.ensures

@@ -1,5 +1,4 @@
-use native.Mathlib.Omega.{arith}
-use Rattle.halves.proofs.Others.{keys_long, key_there, view_there}
+use Rattle.halves.proofs.Others.{key_there, view_there}
 use mathlib.Core.Path.{◌∙◌, sym}
 use Rattle.answers.proofs.Places.{blamed_end, toward_none}
 use Rattle.xliff.specs.Rules.{bad_10_source}
@@ -14,13 +13,6 @@ pub loop-i-init : goal.loop-i-init
 unfolding earlier
 loop-i-init c = (search rules, toward_none 10 _)
 
--- keys[i]
-pub bounds-keys-i : goal.bounds-keys-i
-unfolding earlier
-bounds-keys-i c =
-    let loop-test = c.loop-i-test in
-    omega (arith, keys_long c.args.t.now c.args.markers.now _ c.requires, loop-test.true)
-
 -- keys::view_at(t, at, keys[i])
 pub view_at-requires : goal.view_at-requires
 unfolding earlier
@@ -28,7 +20,7 @@ view_at-requires c =
     let args = c.args in
     let i = c.loop-i.i in
     let wide = c.wide-at in
-    key_there args.t.now args.markers.now _ c.requires i wide.result c.loop-i-test.true
+    key_there args.t.now args.s.markers.now _ c.requires i wide.result c.loop-i-test.true
     wide.ensures.0
 
 -- the loop's step
@@ -37,7 +29,7 @@ unfolding earlier
 loop-i-preserved c =
     let args = c.args in
     let t = args.t.now in
-    let markers = args.markers.now in
+    let markers = args.s.markers.now in
     let loop = c.loop-i in
     let i = loop.i in
     let loop-test = c.loop-i-test in
@@ -59,20 +51,8 @@ unfolding earlier
 returns c =
     let args = c.args in
     let t = args.t.now in
-    let markers = args.markers.now in
+    let markers = args.s.markers.now in
     let loop = c.loop-i in
     sym (loop.invariant.1
     ∙ blamed_end bad_10_source t markers (earlier (marker_at t markers) loop.i) loop.i loop.best 10
     c.loop-i-test.false)
-
-pub wide-at-requires : goal.wide-at-requires
-unfolding earlier
-wide-at-requires c = search rules
-
-pub bad_copy_in_source-requires : goal.bad_copy_in_source-requires
-unfolding earlier
-bad_copy_in_source-requires c = search rules
-
-pub lower_if-best-requires : goal.lower_if-best-requires
-unfolding earlier
-lower_if-best-requires c = search rules

@@ -1,5 +1,4 @@
-use native.Mathlib.Omega.{arith}
-use Rattle.halves.proofs.Others.{keys_long, key_there, view_there}
+use Rattle.halves.proofs.Others.{key_there, view_there}
 use mathlib.Core.Path.{◌∙◌, refl, sym}
 use Rattle.answers.proofs.Places.{blamed_end}
 use Rattle.xliff.specs.Rules.{bad_10_target}
@@ -10,13 +9,6 @@ use Rattle.halves.proofs.TwoSequences.{blamed_step}
 use borrow.Author.Rules.{rules}
 use Rattle.source_match.proofs.ten_target.Goals as goal
 
--- keys[i]
-pub bounds-keys-i : goal.bounds-keys-i
-unfolding earlier
-bounds-keys-i c =
-    let loop-test = c.loop-i-test in
-    omega (arith, keys_long c.args.t.now c.args.markers.now _ c.requires.1, loop-test.true)
-
 -- keys::view_at(t, at, keys[i])
 pub view_at-requires : goal.view_at-requires
 unfolding earlier
@@ -24,30 +16,8 @@ view_at-requires c =
     let args = c.args in
     let i = c.loop-i.i in
     let wide = c.wide-at in
-    key_there args.t.now args.markers.now _ c.requires.1 i wide.result c.loop-i-test.true
+    key_there args.t.now args.s.markers.now _ c.requires i wide.result c.loop-i-test.true
     wide.ensures.0
-
--- bad_in_target(t, source_markers, source_keys, links, heads, keys::view_at(t, at, keys[i]))
-pub bad_in_target-requires : goal.bad_in_target-requires
-unfolding earlier
-bad_in_target-requires c =
-    let pre = c.requires in
-    pre.0
-
--- i += 1
-pub overflow_add-i : goal.overflow_add-i
-unfolding earlier
-overflow_add-i c =
-    let good = c.well_formed in
-    let loop-test = c.loop-i-test in
-    omega (arith, loop-test.true, good)
-
--- the loop ends
-pub loop-i-smaller : goal.loop-i-smaller
-unfolding earlier
-loop-i-smaller c =
-    let loop-test = c.loop-i-test in
-    omega (arith, loop-test.true)
 
 -- the loop's step
 pub loop-i-preserved : goal.loop-i-preserved
@@ -55,20 +25,20 @@ unfolding earlier
 loop-i-preserved c =
     let args = c.args in
     let t = args.t.now in
-    let source-markers = args.source_markers.now in
-    let markers = args.markers.now in
+    let source-markers = args.source.sequence.markers.now in
+    let markers = args.s.markers.now in
     let loop = c.loop-i in
     let i = loop.i in
     let loop-test = c.loop-i-test in
     let wide = c.wide-at in
-    let bad-in-target = c.bad_in_target in
+    let bad-in-target = c.is_bad_in_target-bad in
     let view-at = c.view_at in
     let seen = view_there t markers i wide.result view-at.result wide.ensures.0 view-at.ensures in (
       search rules,
       loop.invariant.1
-          ∙ blamed_step 10 (bad_10_target (items_of_markers t source-markers)) t markers i loop.best bad-in-target.result
+          ∙ blamed_step 10 (bad_10_target (items_of_markers args.source.t.now source-markers)) t markers i loop.best bad-in-target.result
           wide.result c.lower_if-best.result loop-test.true wide.ensures.0
-          (ten_target_bad t markers i view-at.result bad-in-target.result seen (items_of_markers t source-markers) bad-in-target.ensures)
+          (ten_target_bad t markers i view-at.result bad-in-target.result seen (items_of_markers args.source.t.now source-markers) bad-in-target.ensures)
           c.lower_if-best.ensures,
     )
 
@@ -78,20 +48,12 @@ unfolding earlier
 returns c =
     let args = c.args in
     let t = args.t.now in
-    let markers = args.markers.now in
+    let markers = args.s.markers.now in
     let loop = c.loop-i in
     sym (loop.invariant.1
-    ∙ blamed_end (bad_10_target (items_of_markers t args.source_markers.now)) t markers (earlier (marker_at t markers) loop.i) loop.i
+    ∙ blamed_end (bad_10_target (items_of_markers args.source.t.now args.source.sequence.markers.now)) t markers (earlier (marker_at t markers) loop.i) loop.i
     loop.best 10 c.loop-i-test.false)
 
 pub loop-i-init : goal.loop-i-init
 unfolding earlier
 loop-i-init c = (search rules, refl)
-
-pub wide-at-requires : goal.wide-at-requires
-unfolding earlier
-wide-at-requires c = search rules
-
-pub lower_if-best-requires : goal.lower_if-best-requires
-unfolding earlier
-lower_if-best-requires c = search rules

@@ -1,4 +1,4 @@
-use Prim.Native.Nat.{◌-◌, ◌≤◌}
+use Prim.Native.Nat.{◌≤◌}
 use mathlib.Core.List.{[]}
 use mathlib.Core.Path.{◌≡◌}
 use lib.ListN.{length, drop}
@@ -12,10 +12,7 @@ use Rattle.source_match.proofs.ten_target.Given as goal
 
 abbrev pub invariant-loop-i : goal.invariant-loop-i
 invariant-loop-i l =
-    (l.i ≤ length l.markers)
-    × (toward 10 l.initial.best (blamed (bad_10_target (items_of_markers l.t l.source_markers)) [] (placed_at l.t l.markers))
+    (l.i ≤ length l.s.markers.now)
+    × (toward 10 l.initial.best (blamed (bad_10_target (items_of_markers l.source.t.now l.source.sequence.markers.now)) [] (placed_at l.t l.s.markers.now))
     ≡ toward 10 l.best
-    (blamed (bad_10_target (items_of_markers l.t l.source_markers)) (earlier (marker_at l.t l.markers) l.i) (placed_at l.t (drop l.i l.markers))))
-
-abbrev pub decreases-loop-i : goal.decreases-loop-i
-decreases-loop-i l = length l.markers - l.i
+    (blamed (bad_10_target (items_of_markers l.source.t.now l.source.sequence.markers.now)) (earlier (marker_at l.t l.s.markers.now) l.i) (placed_at l.t (drop l.i l.s.markers.now))))

@@ -1,40 +1,38 @@
+use Prim.Native.Nat.{ℕ, ◌-◌}
+use mathlib.Core.Path.{◌≡◌, refl, sym, ◌∙◌, ap}
+use mathlib.Core.Bool.{Bool, true, false, cond}
+use mir.Val.{bool_byte}
+use native.Mathlib.Omega.{arith}
+use Rattle.std.specs.Prelude.{Err}
+use Rattle.std.proofs.lemmas.Result.{err_from_is_err_and}
 use Rattle.syntax.specs.Stages.{move_of}
-use borrow.Author.Rules.{rules}
 use Rattle.syntax.proofs.move_by.Goals as goal
 
--- return Move::Halt(4)
+-- one less, where a part begins
+less_if : (part : Bool) (n : ℕ) → n - bool_byte part ≡ cond part (n - 1) n
+less_if true n = refl
+less_if false n = omega arith
+
+-- return Err(4)
 pub returns-then-s-part : goal.returns-then-s-part
 unfolding move_of
 returns-then-s-part c =
     let is_part = c.is_part-part in
     simp (← is_part.ensures, c.if-s-part.true)
 
--- moved(s, part, width_of(r), step_by(st, r))
+-- the number of the step
+pub returns-in_err-stage : goal.returns-in_err-stage
+unfolding move_of
+returns-in_err-stage c =
+    let step = sym c.step_by.ensures ∙ c.in_err-stage.was in
+    let gone = err_from_is_err_and c.from_residual.result c.from_residual.ensures.1 in
+    rw (← c.is_part-part.ensures, c.if-s-part.false, step) (gone.1 ∙ ap Err gone.2)
+
+-- Ok(State { .. })
 pub returns : goal.returns
 unfolding move_of
 returns c =
-    let is_part = c.is_part-part in
-    let if1 = c.if-s-part in
-    simp (
-      c.moved.ensures,
-      c.width_of.ensures,
-      c.step_by.ensures,
-      ← is_part.ensures,
-      if1.false,
-    )
-
-pub is_part-part-requires : goal.is_part-part-requires
-unfolding move_of
-is_part-part-requires c = search rules
-
-pub width_of-requires : goal.width_of-requires
-unfolding move_of
-width_of-requires c = search rules
-
-pub step_by-requires : goal.step_by-requires
-unfolding move_of
-step_by-requires c = search rules
-
-pub moved-requires : goal.moved-requires
-unfolding move_of
-moved-requires c = search rules
+    let step = sym c.step_by.ensures ∙ c.in_ok-stage.was in
+    let parts = c.saturating_sub-2.ensures ∙ ap (λ (n : ℕ). c.args.s.parts - n) c.from.ensures
+    ∙ less_if c.is_part-part.result c.args.s.parts in
+    rw (← c.is_part-part.ensures, c.if-s-part.false, step, c.saturating_sub.ensures, parts) refl

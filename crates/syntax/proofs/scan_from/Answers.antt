@@ -11,7 +11,7 @@ pub loop-at-init : goal.loop-at-init
 unfolding answer unless
 loop-at-init c = (search rules, scan_start c.args.t.now c.args.first)
 
--- at += w
+-- at += width_of(r)
 pub overflow_add-at : goal.overflow_add-at
 unfolding answer unless
 overflow_add-at c =
@@ -19,11 +19,11 @@ overflow_add-at c =
     let known = c.shared_slice_known-1.given in
     let loop = c.loop-at in
     let loop-test = c.loop-at-test in
-    let record-at = c.record_at in
+    let record-at = c.record_at-r in
     let move-by = c.move_by in
-    let g = scan_on t loop.s loop.at record-at.result record-at.ensures loop-test.true _ _
-    (bytes_from t (λ i p. omega (arith, known i))) (sym move-by.ensures ∙ c.in-Go.is) in
-    omega (arith, g)
+    let g = scan_on t loop.s loop.at record-at.result record-at.ensures loop-test.true _
+    (bytes_from t (λ i p. omega (arith, known i))) (sym move-by.ensures ∙ c.in-Ok.is) in
+    omega (arith, g, c.width_of-at.ensures)
 
 -- the loop ends
 pub loop-at-smaller : goal.loop-at-smaller
@@ -33,11 +33,11 @@ loop-at-smaller c =
     let known = c.shared_slice_known-1.given in
     let loop = c.loop-at in
     let loop-test = c.loop-at-test in
-    let record-at = c.record_at in
+    let record-at = c.record_at-r in
     let move-by = c.move_by in
-    let g = scan_on t loop.s loop.at record-at.result record-at.ensures loop-test.true _ _
-    (bytes_from t (λ i p. omega (arith, known i))) (sym move-by.ensures ∙ c.in-Go.is) in
-    omega (arith, g)
+    let g = scan_on t loop.s loop.at record-at.result record-at.ensures loop-test.true _
+    (bytes_from t (λ i p. omega (arith, known i))) (sym move-by.ensures ∙ c.in-Ok.is) in
+    omega (arith, g, c.width_of-at.ensures)
 
 -- the loop's step
 pub loop-at-preserved : goal.loop-at-preserved
@@ -47,25 +47,25 @@ loop-at-preserved c =
     let known = c.shared_slice_known-1.given in
     let loop = c.loop-at in
     let loop-test = c.loop-at-test in
-    let record-at = c.record_at in
+    let record-at = c.record_at-r in
     let move-by = c.move_by in
-    let g = scan_on t loop.s loop.at record-at.result record-at.ensures loop-test.true _ _
-    (bytes_from t (λ i p. omega (arith, known i))) (sym move-by.ensures ∙ c.in-Go.is) in
-    (g.1, loop.invariant.1 ∙ g.2)
+    let g = scan_on t loop.s loop.at record-at.result record-at.ensures loop-test.true _
+    (bytes_from t (λ i p. omega (arith, known i))) (sym move-by.ensures ∙ c.in-Ok.is) in
+    rw c.width_of-at.ensures (g.1, loop.invariant.1 ∙ g.2)
 
 -- return Answer::Refused(n, at)
-pub returns-in-Halt : goal.returns-in-Halt
+pub returns-in-Err : goal.returns-in-Err
 unfolding answer unless
-returns-in-Halt c =
+returns-in-Err c =
     let t = c.args.t.now in
     let loop = c.loop-at in
     let loop-test = c.loop-at-test in
-    let record-at = c.record_at in
+    let record-at = c.record_at-r in
     let move-by = c.move_by in
     sym (ap (λ (o : Option Refusal). answer (unless o t))
     (loop.invariant.1
     ∙ scan_off t loop.s loop.at record-at.result record-at.ensures loop-test.true _
-    (sym move-by.ensures ∙ c.in-Halt.is)))
+    (sym move-by.ensures ∙ c.in-Err.is)))
 
 -- return Answer::Accepted(at)
 pub returns-then-may_end : goal.returns-then-may_end
@@ -85,9 +85,9 @@ returns c =
     ended_early _ t loop.s loop.at c.loop-at-test.false loop.invariant.0
     (sym c.may_end.ensures ∙ c.if-may_end.false) loop.invariant.1
 
-pub record_at-requires : goal.record_at-requires
+pub record_at-r-requires : goal.record_at-r-requires
 unfolding answer unless
-record_at-requires c = search rules
+record_at-r-requires c = search rules
 
 pub move_by-requires : goal.move_by-requires
 unfolding answer unless

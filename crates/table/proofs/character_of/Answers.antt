@@ -18,6 +18,6 @@ returns c =
       le-leb _ _ if1.false,
       ← high.ensures,
       ← c.number_at-2.ensures,
-      ← c.wide_to_u32-high.ensures.0,
-      ← c.wide_to_u32-low.ensures.0,
+      ← c.from-high.ensures,
+      ← c.from-low.ensures,
     )

@@ -1,33 +1,16 @@
-use Rattle.table.specs.Records.{isolated_of, sized}
-use borrow.Author.Tests.{lt-leb, le-leb}
-use borrow.Author.Rules.{rules}
+use mathlib.Core.Bool.{false}
+use mathlib.Core.Path.{sym, ◌∙◌}
+use Rattle.table.specs.Records.{isolated_of}
+use Rattle.table.specs.declared.Item.TheVariants.{Isolated}
+use Rattle.table.proofs.CodeLaws.{code_read}
 use Rattle.table.proofs.isolated_of.Goals as goal
 
--- it is cut
-pub returns-then-t-lt-CODE_WIDTH : goal.returns-then-t-lt-CODE_WIDTH
-unfolding isolated_of sized
-returns-then-t-lt-CODE_WIDTH c = simp (lt-leb _ _ c.if-t-lt-CODE_WIDTH.true)
-
--- its fields, and whether they are good
+-- its fields are good
 pub returns : goal.returns
-unfolding isolated_of sized
-returns c =
-    let if1 = c.if-t-lt-CODE_WIDTH in
-    simp (
-      c.read_if.ensures,
-      c.fields_ok.ensures,
-      c.read_fields-f.ensures,
-      le-leb _ _ if1.false,
-    )
+unfolding isolated_of
+returns c = code_read (Isolated c.args.half) c.args.t.now false (sym c.in-Some.is ∙ c.code_of.ensures)
 
-pub read_fields-f-requires : goal.read_fields-f-requires
-unfolding isolated_of sized
-read_fields-f-requires c = search rules
-
-pub fields_ok-requires : goal.fields_ok-requires
-unfolding isolated_of sized
-fields_ok-requires c = search rules
-
-pub read_if-requires : goal.read_if-requires
-unfolding isolated_of sized
-read_if-requires c = search rules
+-- it is cut, or they are not
+pub returns-in_default : goal.returns-in_default
+unfolding isolated_of
+returns-in_default c = code_read (Isolated c.args.half) c.args.t.now false (sym c.in_default.is ∙ c.code_of.ensures)

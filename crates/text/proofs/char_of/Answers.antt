@@ -3,19 +3,19 @@ use borrow.Author.Tests.{lt-leb, le-leb, lt-ltb, le-ltb}
 use borrow.Author.Rules.{rules}
 use Rattle.text.proofs.char_of.Goals as goal
 
--- return Char::Bad
+-- return None
 pub returns-then-t-lt1 : goal.returns-then-t-lt1
 unfolding char_of
 returns-then-t-lt1 c = simp (lt-leb _ _ c.if-t-lt1.true)
 
--- return point_of(wider(a), 1)
+-- return point_of(u32::from(a), 1)
 pub returns-then-a-lt128 : goal.returns-then-a-lt128
 unfolding char_of
 returns-then-a-lt128 c =
     let if1 = c.if-t-lt1 in
     simp (
       c.point_of.ensures,
-      c.wider.ensures.0,
+      c.from.ensures,
       lt-ltb _ _ c.if-a-lt128.true,
       le-leb _ _ if1.false,
     )
@@ -58,7 +58,7 @@ returns-then-a-3 c =
       le-leb _ _ if1.false,
     )
 
--- Char::Bad
+-- None
 pub returns : goal.returns
 unfolding char_of
 returns c =
@@ -71,10 +71,6 @@ returns c =
       le-ltb _ _ if2.false,
       le-leb _ _ if1.false,
     )
-
-pub wider-requires : goal.wider-requires
-unfolding char_of
-wider-requires c = search rules
 
 pub point_of-requires : goal.point_of-requires
 unfolding char_of

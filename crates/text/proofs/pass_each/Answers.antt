@@ -24,16 +24,16 @@ returns-then-not-xml_char c =
     let loop = c.loop-at in
     let Char-of = c.char_of in
     loop.invariant.2
-    ∙ text_off t loop.at _ _ (sym (simp tail_is at Char-of.ensures) ∙ c.in-Point.is)
+    ∙ text_off t loop.at _ _ (sym (simp tail_is at Char-of.ensures) ∙ c.in-Some.is)
     (sym c.xml_char.ensures ∙ not-true _ c.if-not-xml_char.true-raw)
 
--- at += w
-pub overflow_add-at-in-Point : goal.overflow_add-at-in-Point
-overflow_add-at-in-Point c =
+-- at += found.width
+pub overflow_add-at-else-b : goal.overflow_add-at-else-b
+overflow_add-at-else-b c =
     let t = c.args.t.now in
     let loop = c.loop-at in
     let Char-of = c.char_of in
-    omega (arith, width_at t loop.at _ _ (sym (simp tail_is at Char-of.ensures) ∙ c.in-Point.is))
+    omega (arith, width_at t loop.at _ _ (sym (simp tail_is at Char-of.ensures) ∙ c.in-Some.is))
 
 -- the loop ends
 pub loop-at-smaller : goal.loop-at-smaller
@@ -41,7 +41,7 @@ loop-at-smaller c =
     let t = c.args.t.now in
     let loop = c.loop-at in
     let Char-of = c.char_of in
-    omega (arith, width_at t loop.at _ _ (sym (simp tail_is at Char-of.ensures) ∙ c.in-Point.is))
+    omega (arith, width_at t loop.at _ _ (sym (simp tail_is at Char-of.ensures) ∙ c.in-Some.is))
 
 -- the loop's step
 pub loop-at-preserved : goal.loop-at-preserved
@@ -50,20 +50,20 @@ loop-at-preserved c =
     let loop = c.loop-at in
     let Char-of = c.char_of in (
       omega arith,
-      (width_at t loop.at _ _ (sym (simp tail_is at Char-of.ensures) ∙ c.in-Point.is)).1,
+      (width_at t loop.at _ _ (sym (simp tail_is at Char-of.ensures) ∙ c.in-Some.is)).1,
       loop.invariant.2
-          ∙ text_on t loop.at _ _ (sym (simp tail_is at Char-of.ensures) ∙ c.in-Point.is)
+          ∙ text_on t loop.at _ _ (sym (simp tail_is at Char-of.ensures) ∙ c.in-Some.is)
           (sym c.xml_char.ensures ∙ not-false _ c.if-not-xml_char.false-raw),
     )
 
 -- return None
-pub returns-in-Bad : goal.returns-in-Bad
-returns-in-Bad c =
+pub returns-in_default : goal.returns-in_default
+returns-in_default c =
     let t = c.args.t.now in
     let loop = c.loop-at in
     loop.invariant.2
     ∙ text_bad (drop loop.at t) (omega (arith, length-drop loop.at t))
-    (sym (simp tail_is at c.char_of.ensures) ∙ c.in-Bad.is)
+    (sym (simp tail_is at c.char_of.ensures) ∙ c.in_default.is)
 
 -- Some(at)
 pub returns : goal.returns

@@ -19,10 +19,10 @@ loop-at-preserved c =
     (p.1, loop.invariant.1 ∙ p.2)
 
 -- return false
-pub returns-in-None : goal.returns-in-None
-returns-in-None c =
+pub returns-in_default : goal.returns-in_default
+returns-in_default c =
     let loop = c.loop-at in
-    sym (loop.invariant.1 ∙ (rw c.in-None.is at c.pass_some.ensures))
+    sym (loop.invariant.1 ∙ (rw c.in_default.is at c.pass_some.ensures))
 
 -- true
 pub returns : goal.returns

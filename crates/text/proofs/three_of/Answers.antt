@@ -3,7 +3,7 @@ use borrow.Author.Tests.{lt-leb, le-leb}
 use borrow.Author.Rules.{rules}
 use Rattle.text.proofs.three_of.Goals as goal
 
--- return Char::Bad
+-- return None
 pub returns-then-t-lt3 : goal.returns-then-t-lt3
 unfolding three_of
 returns-then-t-lt3 c = simp (lt-leb _ _ c.if-t-lt3.true)
@@ -13,26 +13,13 @@ pub returns : goal.returns
 unfolding three_of
 returns c =
     let if1 = c.if-t-lt3 in
-    let wider = c.wider in
     simp (
       c.point_if.ensures,
-      wider.ensures.0,
-      c.wider-2.ensures.0,
-      c.wider-3.ensures.0,
+      c.from.ensures,
+      c.from-2.ensures,
+      c.from-3.ensures,
       le-leb _ _ if1.false,
     )
-
-pub wider-requires : goal.wider-requires
-unfolding three_of
-wider-requires c = search rules
-
-pub wider-requires-2 : goal.wider-requires-2
-unfolding three_of
-wider-requires-2 c = search rules
-
-pub wider-requires-3 : goal.wider-requires-3
-unfolding three_of
-wider-requires-3 c = search rules
 
 pub point_if-requires : goal.point_if-requires
 unfolding three_of

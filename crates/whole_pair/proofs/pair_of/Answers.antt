@@ -1,66 +1,42 @@
-use mathlib.Core.Path.{ap}
+use mathlib.Core.Path.{sym, ◌∙◌}
 use native.Mathlib.Omega.{arith}
-use lib.ListN.{length}
-use Rattle.halves.proofs.Others.{keys_long, view_there}
-use Rattle.whole_pair.proofs.SearchLaws.{none_started, none_ended, complete}
+use Rattle.halves.proofs.Others.{view_there}
+use Rattle.whole_pair.proofs.SearchLaws.{found_by, none_started, none_ended, complete}
 use Rattle.whole_pair.proofs.pair_of.Goals as goal
 
--- return FoundPair::Missing
-pub returns-then-keys-i : goal.returns-then-keys-i
-returns-then-keys-i c =
+-- find_start(keys, marks::wide_to_u32(id))?
+pub returns-in_err-i : goal.returns-in_err-i
+returns-in_err-i c =
     let args = c.args in
-    let pre = c.requires in
-    let find-start = c.find_start-i in
-    let f = rw (pre, c.wide_to_u32.ensures.0) at find-start.ensures.0 in
-    let n = ap length pre in
-    none_started args.t.now args.markers.now args.id find-start.result f (omega (arith, n, c.if-keys-i.true))
+    let t = args.t.now in
+    let markers = args.s.markers.now in
+    let start = found_by t markers args.id c.wide_to_u32.result args.s.keys.now c.find_start.result c.requires
+    c.wide_to_u32.ensures.0 c.find_start.ensures in
+    c.from_residual.ensures ∙ none_started t markers args.id (start ∙ c.in_err-i.was)
 
--- return FoundPair::Missing
-pub returns-then-keys-j : goal.returns-then-keys-j
-returns-then-keys-j c =
+-- halves::half_after(s.keys, i)?
+pub returns-in_err-j : goal.returns-in_err-j
+returns-in_err-j c =
     let args = c.args in
-    let pre = c.requires in
-    let wide = c.wide_to_u32 in
-    let find-start = c.find_start-i in
-    let half_after = c.half_after-j in
-    let f = rw (pre, wide.ensures.0) at find-start.ensures.0 in
-    let n = ap length pre in
-    let g = rw pre at half_after.ensures.0 in
-    none_ended args.t.now args.markers.now args.id find-start.result f
-    (omega (arith, n, c.if-keys-i.false)) half_after.result g (omega (arith, n, c.if-keys-j.true))
+    let t = args.t.now in
+    let markers = args.s.markers.now in
+    let start = found_by t markers args.id c.wide_to_u32.result args.s.keys.now c.find_start.result c.requires
+    c.wide_to_u32.ensures.0 c.find_start.ensures in
+    let none = rw c.requires at c.in_err-j.ensures in
+    c.from_residual-in_err-j.ensures
+    ∙ none_ended t markers args.id c.in_ok-i.i (start ∙ c.in_ok-i.was) _ (sym none) (omega arith)
 
--- markers[i]
-pub bounds-markers-i : goal.bounds-markers-i
-bounds-markers-i c =
-    let if1 = c.if-keys-i in
-    omega (arith, keys_long c.args.t.now c.args.markers.now _ c.requires, if1.false)
-
--- markers[j]
-pub bounds-markers-j : goal.bounds-markers-j
-bounds-markers-j c =
-    let if2 = c.if-keys-j in
-    omega (arith, keys_long c.args.t.now c.args.markers.now _ c.requires, if2.false)
-
--- FoundPair::Complete(start.pform, is_unfit(start.reorder, end.reorder))
+-- Some(WholePair { .. })
 pub returns : goal.returns
 returns c =
     let args = c.args in
     let t = args.t.now in
-    let pre = c.requires in
-    let wide = c.wide_to_u32 in
-    let find-start = c.find_start-i in
-    let if1 = c.if-keys-i in
-    let half_after = c.half_after-j in
-    let if2 = c.if-keys-j in
-    let wide2 = c.wide in
-    let view-at = c.view_at-start in
-    let wide3 = c.wide-2 in
-    let view-at2 = c.view_at-end in
-    let f = rw (pre, wide.ensures.0) at find-start.ensures.0 in
-    let n = ap length pre in
-    let g = rw pre at half_after.ensures.0 in
-    complete t args.markers.now args.id find-start.result f (omega (arith, n, if1.false)) half_after.result
-    g (omega (arith, n, if2.false)) view-at.result view-at2.result
-    (view_there t args.markers.now _ wide2.result view-at.result wide2.ensures.0 view-at.ensures)
-    (view_there t args.markers.now _ wide3.result view-at2.result wide3.ensures.0 view-at2.ensures)
+    let markers = args.s.markers.now in
+    let start = found_by t markers args.id c.wide_to_u32.result args.s.keys.now c.find_start.result c.requires
+    c.wide_to_u32.ensures.0 c.find_start.ensures in
+    let found = rw c.requires at c.in_ok-j.ensures in
+    complete t markers args.id c.in_ok-i.i (start ∙ c.in_ok-i.was) c.in_ok-j.j (sym found.0) found.2
+    c.view_at-start.result c.view_at-end.result
+    (view_there t markers _ c.wide.result c.view_at-start.result c.wide.ensures.0 c.view_at-start.ensures)
+    (view_there t markers _ c.wide-2.result c.view_at-end.result c.wide-2.ensures.0 c.view_at-end.ensures)
     c.is_unfit.result c.is_unfit.ensures

@@ -1,15 +1,17 @@
+use Rattle.writer.proofs.PieceLaws.{two_copied}
 use Rattle.writer.specs.Pieces.{number_bytes}
-use lib.Seq.{sets-eq}
-use native.Mathlib.Numerals.{add-one}
-use lib.ListN.{length-set}
+use mathlib.Core.List.{List, ◌∷◌, []}
+use mathlib.Core.Path.{◌≡◌, refl, ap, ◌∙◌}
 use native.Mathlib.Omega.{arith}
-use mathlib.Core.Path.{refl}
+use Prim.Native.Nat.{ℕ, ◌/◌, ◌%◌}
 use Rattle.writer.proofs.put_number.Goals as goal
 
--- out[at + 1] = (n % 256)
-pub bounds-out-at-2 : goal.bounds-out-at-2
-bounds-out-at-2 c = simp length-set (omega arith)
-
--- at + 2
+-- the two bytes copied, the high one first
 pub returns : goal.returns
-returns c = (refl, rw add-one (sets-eq (number_bytes c.args.n) c.args.out.now c.args.at c.requires))
+returns c =
+    let args = c.args in
+    let n = args.n in
+    let high : n / 256 % 256 ≡ n / 256 = omega (arith, c.ranges.n.fits) in
+    let bytes = c.copy_from_slice.ensures.after ∙ c.to_be_bytes.ensures
+    ∙ ap (λ (b : ℕ). b ∷ (n % 256) ∷ []) high in
+    (refl, two_copied args.out.now _ (number_bytes n) args.at bytes refl)

@@ -12,7 +12,7 @@ use Rattle.xml.specs.Xml.{Xml·all}
 unfoldable pub bytes : String → List ℕ
 bytes s = utf8s (codes s)
 
--- id, copy_of, dataRef, then the letters canCopy, canDelete, canOverlap, canReorder
+-- id, copyOf, dataRef, then the letters canCopy, canDelete, canOverlap, canReorder
 unfoldable pub coded : ℕ → ℕ → ℕ → ℕ → ℕ → ℕ → ℕ → Fields
 coded i copy ref c d o r =
     record { id = i; copy_of = copy; data_ref = ref; can_copy = c; can_delete = d; can_overlap = o; can_reorder = r }

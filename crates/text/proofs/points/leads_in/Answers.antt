@@ -27,10 +27,11 @@ loop-i-preserved c =
           (sym byte.0),
     )
 
--- `n as usize`
+-- `usize::from(n)`
 pub returns : goal.returns
 returns c =
     let args = c.args in
     let loop = c.loop-i in
-    leads_end args.t.now args.at loop.i loop.n (leads 64 (drop args.at args.t.now))
+    c.from.ensures
+    ∙ leads_end args.t.now args.at loop.i loop.n (leads 64 (drop args.at args.t.now))
     c.loop-i-test.false loop.invariant.2

@@ -13,31 +13,31 @@ pub returns-then-left-eq0 : goal.returns-then-left-eq0
 returns-then-left-eq0 c =
     let t = c.args.t.now in
     let loop = c.loop-at in
-    let read = sym (simp tail_is at c.char_of.ensures) ∙ c.in-Point.is in
+    let read = sym (simp tail_is at c.char_of.ensures) ∙ c.in-Some.is in
     character_here t loop.at loop.left _ _ _ read c.if-left-eq0.true loop.invariant.1
 
--- `at += w`: the character ends within the text
+-- `at += found.width`: the character ends within the text
 pub overflow_add-at : goal.overflow_add-at
 overflow_add-at c =
     let t = c.args.t.now in
     let loop = c.loop-at in
-    let read = sym (simp tail_is at c.char_of.ensures) ∙ c.in-Point.is in
+    let read = sym (simp tail_is at c.char_of.ensures) ∙ c.in-Some.is in
     omega (arith, width_at t loop.at _ _ read)
 
 -- a character has a byte at least
-pub loop-at-smaller-in-Point : goal.loop-at-smaller-in-Point
-loop-at-smaller-in-Point c =
+pub loop-at-smaller-in-Some : goal.loop-at-smaller-in-Some
+loop-at-smaller-in-Some c =
     let t = c.args.t.now in
     let loop = c.loop-at in
-    let read = sym (simp tail_is at c.char_of.ensures) ∙ c.in-Point.is in
+    let read = sym (simp tail_is at c.char_of.ensures) ∙ c.in-Some.is in
     omega (arith, width_at t loop.at _ _ read)
 
--- `at += w`, `left -= 1`: a character is passed over
-pub loop-at-preserved-in-Point : goal.loop-at-preserved-in-Point
-loop-at-preserved-in-Point c =
+-- `at += found.width`, `left -= 1`: a character is passed over
+pub loop-at-preserved-in-Some : goal.loop-at-preserved-in-Some
+loop-at-preserved-in-Some c =
     let t = c.args.t.now in
     let loop = c.loop-at in
-    let read = sym (simp tail_is at c.char_of.ensures) ∙ c.in-Point.is in (
+    let read = sym (simp tail_is at c.char_of.ensures) ∙ c.in-Some.is in (
       (width_at t loop.at _ _ read).1,
       character_on t loop.at loop.left _ _ _ read (omega arith) loop.invariant.1,
     )
@@ -47,7 +47,7 @@ pub loop-at-preserved : goal.loop-at-preserved
 loop-at-preserved c =
     let t = c.args.t.now in
     let loop = c.loop-at in
-    let read = sym (simp tail_is at c.char_of.ensures) ∙ c.in-Bad.is in
+    let read = sym (simp tail_is at c.char_of.ensures) ∙ c.in-None.is in
     (omega arith, character_rest t loop.at loop.left _ c.requires.1 (omega arith) read loop.invariant.1)
 
 -- the text ended
