@@ -18,6 +18,7 @@ use Rattle.places.specs.Offsets.{At}
 use Rattle.places.proofs.Places.{at_start, at_next, at_end}
 use Rattle.table.specs.Meaning.{body}
 use Rattle.glance.specs.declared.Glance.{Glance}
+use Rattle.glance.specs.Glances.{kind_of}
 use Rattle.orders.proofs.WalkLaws.{Walked, parts_walked}
 use Rattle.rewrite_marks.specs.Rewritten.{inside_after, inside_of}
 use Rattle.rewrite_marks.proofs.FormLaws.{inside_is}
@@ -89,10 +90,10 @@ module _ (t : List ℕ) (g : Grant) (side i : ℕ) where
       others = v.step.others
 
       abbrev next : ℕ
-      next = cond (eqb look.head 0) (suc n) n
+      next = cond (eqb (kind_of look.head) 0) (suc n) n
 
       abbrev inside_next : Bool
-      inside_next = inside_of (eqb side 'S') inside look.head
+      inside_next = inside_of (eqb side 'S') inside (kind_of look.head)
 
       -- whether it is a half of the id, in a content of the side
       abbrev half_here : Bool
@@ -108,7 +109,7 @@ module _ (t : List ℕ) (g : Grant) (side i : ℕ) where
           omega (
             arith,
             counted (is_part first) n,
-            counted (eqb look.head 0) n,
+            counted (eqb (kind_of look.head) 0) n,
             ap part_heads v.step.split,
             parts_walked t at m.left look v,
           )
@@ -117,7 +118,7 @@ module _ (t : List ℕ) (g : Grant) (side i : ℕ) where
       state_is =
           ap (inside_after (eqb side 'S') inside) (sym v.step.means)
           ∙ sym (inside_is (eqb side 'S') inside (body (drop at t)) v.the)
-          ∙ ap (λ (h : Glance). inside_of (eqb side 'S') inside h.head) (sym v.is)
+          ∙ ap (λ (h : Glance). inside_of (eqb side 'S') inside (kind_of h.head)) (sym v.is)
 
       told_on : asked ≡ right half_here (within g n) && from next inside_next others
       unfolding all_within
@@ -139,6 +140,6 @@ module _ (t : List ℕ) (g : Grant) (side i : ℕ) where
           record {
             left = others;
             here = v.rest;
-            begun = omega (arith, m.begun, counted (eqb look.head 0) n, parts_walked t at m.left look v);
+            begun = omega (arith, m.begun, counted (eqb (kind_of look.head) 0) n, parts_walked t at m.left look v);
             told = told_on ∙ ap (λ (z : Bool). z && from next inside_next others) (else_right half_here (within g n) h);
           }

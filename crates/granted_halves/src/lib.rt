@@ -53,7 +53,7 @@ pub fn halves_within(t: &[u8], grant: Grant, side: u8, id: u16) -> bool
         if stands_outside(t, at, grant, n, inside, id) {
             return false;
         }
-        n = number_after(g.head == 0, n);
+        n = number_after(g.head.is_part(), n);
         inside = rewrite_marks::inside_of(source, inside, g.head);
         at += g.width;
     }

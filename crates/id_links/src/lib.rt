@@ -1,5 +1,6 @@
 // Keys in groups by their ids: each is linked to the nearest before it, or after it, of its group, so that a search for
-// an id meets few others.
+// an id meets few others. The links are numbers of two bytes, an index plus one or 0 for none: an `Option` of them takes
+// more room, in arrays of `MOST_RECORDS`.
 #![tactic(auto)]
 
 ghost use Rattle.std.specs.Prelude.{◌≡◌, [], ◌+◌, ◌-◌, ◌<◌, ◌≤◌, length, get_or, set};
@@ -41,9 +42,7 @@ pub fn link_after(keys: &[u32], links: &mut [u16])
 {
     let mut heads = [0u16; 256];
     let n = keys.len();
-    let mut i = n;
-    while 0 < i {
-        i -= 1;
+    for i in (0..n).rev() {
         let g = group_of(keys[i]);
         links[i] = heads[g];
         heads[g] = (n - i) as u16;

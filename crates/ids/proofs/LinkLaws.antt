@@ -1,11 +1,9 @@
 -- The ids met, linked by their groups: a clash is with one of the same group; one more id.
 use Prim.Native.Nat.{ℕ, suc, ◌+◌, ◌/◌, ◌%◌, ◌<◌}
 use mathlib.Core.Path.{◌≡◌, refl, sym, ap, ◌∙◌, subst}
-use mathlib.Core.Bool.{Bool, true, false, cond}
 use mathlib.Core.List.{List, [], ◌∷◌, ◌++◌}
 use native.Mathlib.Omega.{arith}
 use borrow.Author.Tests.{ne_eqb, eqb-false}
-use lib.Dec.{eqb}
 use lib.ListN.{length, get_or, set, take, length-set, replicate, get_or-replicate}
 use lib.Seq.{length-take-le, take-suc-set}
 use Rattle.id_links.specs.Nearest.{previous}
@@ -13,8 +11,7 @@ use Rattle.id_links.specs.Links.{group, Linked, Headed}
 use Rattle.id_links.proofs.Chains.{linked_more, headed_more}
 use Rattle.id_links.proofs.Search.{Searched, Grouped, search_start}
 use Rattle.ids.specs.Keys.{clash_test}
-use Rattle.ids.specs.KeyLinks.{Links, LinkedIf}
-use Rattle.ids.proofs.NameLaws.{take_set}
+use Rattle.ids.specs.KeyLinks.{Links}
 use Rattle.xliff.specs.Parse.{most_records}
 
 pub clash_grouped : (k g : ℕ) (keys : List ℕ) → g ≡ group k → Grouped (clash_test k) keys g
@@ -34,31 +31,19 @@ unfolding previous
 links_none = (refl, refl, (λ k l. absurd (omega (arith, l))), λ g l. get_or-replicate 256 g 0 0 l)
 
 pub links_more : (keys links heads : List ℕ) (n k : ℕ) → n < length keys → length keys ≡ most_records → Links (take n keys) links heads
-    → (links' heads' : List ℕ) → LinkedIf links heads n k links' heads'
-    → Links (take (cond (eqb k 0) n (n + 1)) (set keys n k)) links' heads'
-links_more keys links heads n k h all old links' heads' new = by (eqb k 0) new
+    → Links (take (n + 1) (set keys n k)) (set links n (get_or heads (group k) 0)) (set heads (group k) (n + 1))
+links_more keys links heads n k h all old = (
+  length-set links n (get_or heads (group k) 0) ∙ old.0,
+  length-set heads (group k) (n + 1) ∙ old.1,
+  subst (λ (some_keys : List ℕ). Linked some_keys (set links n (get_or heads (group k) 0))) more
+      (subst (Linked (take n keys ++ (k ∷ []))) (ap (λ (j : ℕ). set links j (get_or heads (group k) 0)) many)
+      (linked_more (take n keys) k links heads (omega (arith, h, all, many, old.0)) old.2 old.3 (omega arith))),
+  subst (λ (some_keys : List ℕ). Headed some_keys (set heads (group k) (n + 1))) more
+      (subst (Headed (take n keys ++ (k ∷ []))) (ap (λ (j : ℕ). set heads (group k) (j + 1)) many) (headed_more (take n keys) k heads old.1 old.3)),
+)
   where
     many : length (take n keys) ≡ n
     many = length-take-le n keys (omega (arith, h))
 
     more : take n keys ++ (k ∷ []) ≡ take (n + 1) (set keys n k)
     more = sym (take-suc-set keys n k h) ∙ ap (λ (j : ℕ). take j (set keys n k)) (let z : suc n ≡ n + 1 = omega arith in z)
-
-    by : (b : Bool)
-        → (links' ≡ cond b links (set links n (get_or heads (group k) 0))) × (heads' ≡ cond b heads (set heads (group k) (n + 1)))
-        → Links (take (cond b n (n + 1)) (set keys n k)) links' heads'
-    by true e = (
-      ap length e.0 ∙ old.0,
-      ap length e.1 ∙ old.1,
-      subst (λ (some_keys : List ℕ). Linked some_keys links') (sym (take_set keys n k)) (subst (Linked (take n keys)) (sym e.0) old.2),
-      subst (λ (some_keys : List ℕ). Headed some_keys heads') (sym (take_set keys n k)) (subst (Headed (take n keys)) (sym e.1) old.3),
-    )
-    by false e = (
-      ap length e.0 ∙ length-set links n (get_or heads (group k) 0) ∙ old.0,
-      ap length e.1 ∙ length-set heads (group k) (n + 1) ∙ old.1,
-      subst (λ (some_keys : List ℕ). Linked some_keys links') more
-          (subst (Linked (take n keys ++ (k ∷ []))) (ap (λ (j : ℕ). set links j (get_or heads (group k) 0)) many ∙ sym e.0)
-          (linked_more (take n keys) k links heads (omega (arith, h, all, many, old.0)) old.2 old.3 (omega arith))),
-      subst (λ (some_keys : List ℕ). Headed some_keys heads') more
-          (subst (Headed (take n keys ++ (k ∷ []))) (ap (λ (j : ℕ). set heads (group k) (j + 1)) many ∙ sym e.1) (headed_more (take n keys) k heads old.1 old.3)),
-    )

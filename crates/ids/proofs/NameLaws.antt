@@ -1,5 +1,5 @@
 -- Rule 6, one record further.
-use Prim.Native.Nat.{ℕ, zero, suc, ◌+◌, ◌/◌, ◌%◌, ◌≤◌, ◌<◌}
+use Prim.Native.Nat.{ℕ, suc, ◌+◌, ◌/◌, ◌%◌, ◌≤◌, ◌<◌}
 use mathlib.Core.Path.{◌≡◌, refl, sym, ◌∙◌, ap, ap₂, subst}
 use mathlib.Core.Bool.{Bool, true, false, not, ◌&&◌, ◌||◌, cond, true≢false}
 use mathlib.Core.List.{List, [], ◌∷◌, ◌++◌}
@@ -13,7 +13,7 @@ use Rattle.xliff.specs.Bytes.{any}
 use Rattle.xliff.specs.Answer.{refusal}
 use Rattle.xliff.specs.Encode as encode
 use Rattle.xliff.specs.Encode.{record_bytes, unit_records}
-use Rattle.xliff.specs.Parse.{unit, read, is_part, most_records}
+use Rattle.xliff.specs.Parse.{unit, read, is_part}
 use Rattle.xliff.proofs.lists.Tests.{any_append, any_same}
 use Rattle.xliff.specs.Rules.{Owner, of_part, of_source, of_target, Named, start_name, clashes, may_share, first_clash, fault_6}
 use Rattle.places.specs.Offsets.{At}
@@ -24,9 +24,10 @@ use Rattle.table.specs.Meaning.{record_meaning, body}
 use Rattle.table.specs.declared.Record.{Record}
 use Rattle.table.specs.declared.Record.TheVariants.{Unit as UnitStart, UnitEnd, Segment, Ignorable, Target, Text, Inline}
 use Rattle.glance.specs.declared.Glance.{Glance}
-use Rattle.glance.specs.Glances.{head_kind_in}
+use Rattle.glance.specs.Glances.{kind_of, head_kind_in}
 use Rattle.orders.proofs.WalkLaws.{Walked}
-use Rattle.ids.specs.Keys.{owner, named, clash_test, owner_by, NameAt}
+use Rattle.ids.specs.Keys.{owner, named, clash_test, owner_by, NameAt, Meets}
+use Rattle.std.specs.Prelude.{Option, None, Some}
 
 unfoldable pub named_key : ℕ → Named
 named_key k = record { owner = owner (k % 64); name = k / 64; at = 0 }
@@ -65,12 +66,6 @@ hits : (a at n : ℕ) (keys : List ℕ) (met : List Named) → Met keys n met
 unfolding Met
 hits a at n keys met m = m (record { owner = owner (a % 64); name = a / 64; at = at }) ∙ any_same _ _ (clash_same a at) (take n keys)
 
-pub take_set : (l : List ℕ) (n k : ℕ) → take n (set l n k) ≡ take n l
-take_set [] zero k = refl
-take_set [] (suc n) k = refl
-take_set (x ∷ l) zero k = refl
-take_set (x ∷ l) (suc n) k = ap {B = List ℕ} (λ r. x ∷ r) (take_set l n k)
-
 or_turn : (a b : Bool) → a || b ≡ b || (a || false)
 or_turn true true = refl
 or_turn true false = refl
@@ -86,26 +81,32 @@ met_more keys n met m k at h x =
     ∙ sym (any_append (λ k. clashes x (named_key k)) (take n keys) (k ∷ []))
     ∙ ap (any (λ k. clashes x (named_key k))) (sym (take-suc-set keys n k h) ∙ ap (λ (j : ℕ). take j (set keys n k)) (let z : suc n ≡ n + 1 = omega arith in z))
 
-module _ (keys : List ℕ) (n : ℕ) (met : List Named) (m : Met keys n met) (k at : ℕ) (rest : List Named) where
-  pub name_hit : cond (eqb k 0) false (any (clash_test k) (take n keys)) ≡ true → first_clash met (named k at ++ rest) ≡ refusal 6 at
+-- the id that a record gives, or none, and the numbers after it
+module _ (keys : List ℕ) (n : ℕ) (met : List Named) (m : Met keys n met) (name : Option ℕ) (at : ℕ) (rest : List Named) (keys' : List ℕ) (n' : ℕ) where
+  pub name_hit : Meets keys n name true keys' n' → first_clash met (named name at ++ rest) ≡ refusal 6 at
   unfolding named first_clash
-  name_hit e = by (eqb k 0) e
+  name_hit e = by name e
     where
-      by : (b : Bool) → cond b false (any (clash_test k) (take n keys)) ≡ true
-          → first_clash met (cond b [] (record { owner = owner (k % 64); name = k / 64; at = at } ∷ []) ++ rest) ≡ refusal 6 at
-      by true e = absurd (true≢false (sym e))
-      by false e = rw (hits k at n keys met m ∙ e)
+      by : (o : Option ℕ) → Meets keys n o true keys' n' → first_clash met (named o at ++ rest) ≡ refusal 6 at
+      by None e = absurd (true≢false e.0)
+      by (Some k) e = rw (hits k at n keys met m ∙ sym e.0)
 
-  pub name_miss : n < length keys → cond (eqb k 0) false (any (clash_test k) (take n keys)) ≡ false
-      → (met' : List Named) × (first_clash met (named k at ++ rest) ≡ first_clash met' rest) × Met (set keys n k) (cond (eqb k 0) n (n + 1)) met'
+  pub name_miss : n < length keys → Meets keys n name false keys' n'
+      → (met' : List Named) × (first_clash met (named name at ++ rest) ≡ first_clash met' rest) × Met keys' n' met' × (n' ≤ n + 1)
   unfolding named first_clash Met
-  name_miss h e = by (eqb k 0) e
+  name_miss h e = by name e
     where
-      by : (b : Bool) → cond b false (any (clash_test k) (take n keys)) ≡ false
-          → (met' : List Named) × (first_clash met (cond b [] (record { owner = owner (k % 64); name = k / 64; at = at } ∷ []) ++ rest) ≡ first_clash met' rest)
-          × ((x : Named) → any (clashes x) met' ≡ any (λ k. clashes x (named_key k)) (take (cond b n (n + 1)) (set keys n k)))
-      by true e = (met, refl, λ x. m x ∙ ap (any (λ k. clashes x (named_key k))) (sym (take_set keys n k)))
-      by false e = (record { owner = owner (k % 64); name = k / 64; at = at } ∷ met, rw (hits k at n keys met m ∙ e), λ x. met_more keys n met m k at h x)
+      by : (o : Option ℕ) → Meets keys n o false keys' n'
+          → (met' : List Named) × (first_clash met (named o at ++ rest) ≡ first_clash met' rest) × Met keys' n' met' × (n' ≤ n + 1)
+      by None e = (met, refl, (λ x. m x ∙ ap₂ (λ (l : List ℕ) (j : ℕ). any (λ k. clashes x (named_key k)) (take j l)) (sym e.1) (sym e.2)), omega (arith, e.2))
+      by (Some k) e =
+          let more = e.1 refl in (
+            record { owner = owner (k % 64); name = k / 64; at = at } ∷ met,
+            rw (hits k at n keys met m ∙ sym e.0),
+            (λ x. met_more keys n met m k at h x
+                ∙ ap₂ (λ (l : List ℕ) (j : ℕ). any (λ k. clashes x (named_key k)) (take j l)) (sym more.0) (sym more.1)),
+            omega (arith, more.1),
+          )
 
 -- the owner after a record
 owner_after : (o : ℕ) (cs : List ℕ) (x : Record)
@@ -119,12 +120,12 @@ owner_after o cs (Target k) = refl
 owner_after o cs Text = refl
 owner_after o cs (Inline i) = refl
 
-pub owner_bound : (h o : ℕ) → (1 ≤ o) × (o ≤ 3) → (1 ≤ owner_by h o) × (owner_by h o ≤ 3)
+pub owner_bound : (h o : ℕ) → o ≤ 3 → owner_by h o ≤ 3
 owner_bound h o b = by (eqb h 0) (eqb h 1)
   where
-    by : (p q : Bool) → (1 ≤ cond p 2 (cond q 3 o)) × (cond p 2 (cond q 3 o) ≤ 3)
-    by true q = (omega arith, omega arith)
-    by false true = (omega arith, omega arith)
+    by : (p q : Bool) → cond p 2 (cond q 3 o) ≤ 3
+    by true q = omega arith
+    by false true = omega arith
     by false false = b
 
 part_is : (cs : List ℕ) (x : Record) → is_part (record_meaning cs x) ≡ eqb (head_kind_in x) 0
@@ -137,24 +138,20 @@ part_is cs (Target k) = refl
 part_is cs Text = refl
 part_is cs (Inline i) = refl
 
-pub count_bound : (b : Bool) (n m : ℕ) → n + suc m ≤ most_records → cond b n (n + 1) + m ≤ most_records
-count_bound true n m h = omega arith
-count_bound false n m h = omega arith
-
-pub names_step : (t : List ℕ) (at : ℕ) (rs : List encode.Record) (g : Glance) → At t at rs → at < length t → (v : Walked t at rs g) (o k : ℕ) → NameAt t at g.head o k
-    → names_found (owner o) at rs ≡ named k at ++ names_found (owner (owner_by g.head o)) (at + g.width) v.step.others
+pub names_step : (t : List ℕ) (at : ℕ) (rs : List encode.Record) (g : Glance) → At t at rs → at < length t → (v : Walked t at rs g) (o : ℕ) (k : Option ℕ) → NameAt t at (kind_of g.head) o k
+    → names_found (owner o) at rs ≡ named k at ++ names_found (owner (owner_by (kind_of g.head) o)) (at + g.width) v.step.others
 unfolding found
 names_step t at rs g a l v o k e =
     let reads = (at_next t at v.step.first v.step.others (subst (At t at) v.step.split a)).reads in
-    let part : (g.head ≡ 0 → ⊥) → is_part (read (drop at t)) ≡ false =
-    λ n. ap is_part (reads ∙ sym v.step.means) ∙ part_is (body (drop at t)) v.the ∙ ap (λ (h : Glance). eqb h.head 0) (sym v.is) ∙ ne_eqb g.head 0 n in
+    let part : ((kind_of g.head) ≡ 0 → ⊥) → is_part (read (drop at t)) ≡ false =
+    λ n. ap is_part (reads ∙ sym v.step.means) ∙ part_is (body (drop at t)) v.the ∙ ap (λ (h : Glance). eqb (kind_of h.head) 0) (sym v.is) ∙ ne_eqb (kind_of g.head) 0 n in
     ap (names_found (owner o) at) v.step.split
     ∙ ap₂ (λ (l : List Named) (p : Owner). l ++ names_found p (at + length (record_bytes v.step.first)) v.step.others)
     (ap (found_at of_source (λ q. of_target) head_name (λ q at. []) start_name no_name (owner o) at) (sym reads) ∙ sym (e rs a l part))
     (ap (state_after of_source (λ q. of_target) head_name (λ q at. []) start_name no_name (owner o))
     (sym v.step.means) ∙ owner_after o (body (drop at t)) v.the
-    ∙ ap (λ (h : Glance). owner (owner_by h.head o)) (sym v.is))
-    ∙ ap (λ (j : ℕ). named k at ++ names_found (owner (owner_by g.head o)) (at + j) v.step.others) (sym (v.wide ∙ v.step.wide))
+    ∙ ap (λ (h : Glance). owner (owner_by (kind_of h.head) o)) (sym v.is))
+    ∙ ap (λ (j : ℕ). named k at ++ names_found (owner (owner_by (kind_of g.head) o)) (at + j) v.step.others) (sym (v.wide ∙ v.step.wide))
 
 pub names_end : (t : List ℕ) (at : ℕ) (rs : List encode.Record) (o : Owner) (met : List Named) → At t at rs → length t ≤ at → first_clash met (names_found o at rs) ≡ none
 unfolding first_clash found

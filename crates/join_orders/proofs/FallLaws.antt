@@ -18,6 +18,10 @@ use Rattle.places.proofs.Places.{content_inner}
 use Rattle.table.specs.Meaning.{body}
 use Rattle.table.specs.declared.Read.TheVariants.{Good}
 use Rattle.glance.specs.declared.Glance.{Glance}
+use Rattle.glance.specs.declared.Head.{Head}
+use Rattle.glance.specs.declared.Head.TheVariants.{Part as PartSet, Target as TargetSet, Other}
+use Rattle.glance.specs.Glances as glance
+use Rattle.glance.specs.Glances.{order_set}
 use Rattle.std.specs.Prelude.{Option, Some, None, is_some}
 use Rattle.orders.proofs.OrderLaws.{order_walked, is_not, is_is}
 use Rattle.orders.proofs.WalkLaws.{Walked}
@@ -34,15 +38,16 @@ sets_order q None = false
 abbrev pub Sets : ℕ → encode.Record → Bool
 Sets q r = sets_order q (order_at r)
 
-sets_by : (q k : ℕ) (b : Bool) → b && eqb q k ≡ sets_order q (cond b (Some k) None)
-sets_by q k true = refl
-sets_by q k false = refl
+sets_by : (q : ℕ) (h : Head) → glance.sets_order q h ≡ sets_order q (order_set h)
+sets_by q PartSet = refl
+sets_by q (TargetSet k) = refl
+sets_by q Other = refl
 
 -- the same by a glance
 pub sets_walked : (q : ℕ) (t : List ℕ) (at : ℕ) (rs : List encode.Record) (g : Glance) (v : Walked t at rs g)
-    → eqb g.head 1 && eqb q g.order ≡ Sets q v.step.first
+    → glance.sets_order q g.head ≡ Sets q v.step.first
 sets_walked q t at rs g v =
-    sets_by q g.order (eqb g.head 1)
+    sets_by q g.head
     ∙ ap (sets_order q) (sym (order_walked t at rs g v) ∙ order_same (body (drop at t)) (Good v.the v.size) ∙ ap order_at v.step.means)
 
 module _ (q : ℕ) where

@@ -19,7 +19,7 @@ pub fn is_order(t: &[u8], q: u16) -> bool
     let mut at = 0;
     while at < t.len() {
         let g = walker::glance_at(t, at);
-        if (g.head == 1) & (q == g.order) {
+        if g.head.sets(q) {
             return true;
         }
         at += g.width;

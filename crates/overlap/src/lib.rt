@@ -99,19 +99,21 @@ fn is_stray(key: u32, first: usize, end: usize, before: usize, after: usize) -> 
 }
 
 impl Halved<'_> {
+    fn is_stray_at(self, j: usize, first: usize, end: usize) -> bool
+        requires { j < length self.sequence.keys.now }
+        ensures { result ≡ stray_at self.entry.sequence.keys.now first end j }
+    {
+        let before = marks::wide(self.starts[j]);
+        let after = marks::wide(self.ends[j]);
+        is_stray(self.sequence.keys[j], first, end, before, after)
+    }
+
     // Whether a marker from `first` on and before `end` is stray. Linear in the markers between them.
     fn has_stray(self, first: usize, end: usize) -> bool
         requires { end < length self.sequence.keys.now }
         ensures { result ≡ ltb (next (stray_at self.entry.sequence.keys.now first end) first (end - first)) end }
     {
-        for j in first..end {
-            let before = marks::wide(self.starts[j]);
-            let after = marks::wide(self.ends[j]);
-            if is_stray(self.sequence.keys[j], first, end, before, after) {
-                return true;
-            }
-        }
-        false
+        (first..end).any(|j| self.is_stray_at(j, first, end))
     }
 }
 
@@ -175,12 +177,7 @@ fn all_open(t: &[u8], s: Sequence) -> bool
     requires { s.keys.now ≡ keys_at t.now s.markers.now }
     ensures { AllOpen t.now s.entry.markers.now result }
 {
-    for i in 0..s.markers.len() {
-        if is_closed(t, s, i) {
-            return false;
-        }
-    }
-    true
+    (0..s.markers.len()).all(|i| !is_closed(t, s, i))
 }
 
 // Rule 9 over the markers of a sequence, below `start`. Where no pair is closed, other halves are not looked for.

@@ -25,7 +25,7 @@ use Rattle.table.specs.declared.Form.TheVariants.{P, S}
 use Rattle.table.specs.declared.Record.{Record}
 use Rattle.table.specs.declared.Record.TheVariants.{Unit as UnitStart, UnitEnd, Segment, Ignorable, Target as TargetHead, Text, Inline}
 use Rattle.glance.specs.declared.Glance.{Glance}
-use Rattle.glance.specs.Glances.{head_kind_in, is_marker, marker_in}
+use Rattle.glance.specs.Glances.{kind_of, head_kind_in, is_marker, marker_in}
 use Rattle.orders.proofs.WalkLaws.{Walked}
 
 -- the id of a record, 0 where it has none
@@ -95,10 +95,10 @@ zero_not i h = ne_eqb 0 i (λ e. h (sym e))
 
 -- the record at a place of the walk
 module _ (t : List ℕ) (at : ℕ) (rs : List encode.Record) (g : Glance) (a : At t at rs) (v : Walked t at rs g) where
-  named_is : is_named v.the ≡ (eqb g.head 0 || g.marker)
-  named_is = ap (λ (h : Glance). eqb h.head 0 || h.marker) (sym v.is)
+  named_is : is_named v.the ≡ (eqb (kind_of g.head) 0 || g.marker)
+  named_is = ap (λ (h : Glance). eqb (kind_of h.head) 0 || h.marker) (sym v.is)
 
-  first_behind : eqb g.head 0 || g.marker ≡ true → Behind v.step.first
+  first_behind : eqb (kind_of g.head) 0 || g.marker ≡ true → Behind v.step.first
   first_behind e = subst Behind v.step.means (named_behind (body (drop at t)) v.the (named_is ∙ e))
 
   number_behind : two_at t (at + 2) ≡ two_at (drop at t) 2
@@ -111,13 +111,13 @@ module _ (t : List ℕ) (at : ℕ) (rs : List encode.Record) (g : Glance) (a : A
   unfolding spell gather
   number_there = number_behind ∙ ap (λ (s : List ℕ). two_at s 2) (sym a.rest ∙ ap spell v.step.split)
 
-  pub id_fits : eqb g.head 0 || g.marker ≡ true → at + 4 ≤ length t
+  pub id_fits : eqb (kind_of g.head) 0 || g.marker ≡ true → at + 4 ≤ length t
   id_fits e = omega (arith, (first_behind e).0, v.step.wide, v.step.fits)
 
-  pub has_walked : (i : ℕ) → (i ≡ 0 → ⊥) → (eqb g.head 0 || g.marker) && eqb (two_at t (at + 2)) i ≡ has_record_id i v.step.first
-  has_walked i n = by (eqb g.head 0 || g.marker) refl
+  pub has_walked : (i : ℕ) → (i ≡ 0 → ⊥) → (eqb (kind_of g.head) 0 || g.marker) && eqb (two_at t (at + 2)) i ≡ has_record_id i v.step.first
+  has_walked i n = by (eqb (kind_of g.head) 0 || g.marker) refl
     where
-      by : (b : Bool) → eqb g.head 0 || g.marker ≡ b → b && eqb (two_at t (at + 2)) i ≡ has_record_id i v.step.first
+      by : (b : Bool) → eqb (kind_of g.head) 0 || g.marker ≡ b → b && eqb (two_at t (at + 2)) i ≡ has_record_id i v.step.first
       by true e = ap (λ (k : ℕ). eqb k i) (number_there ∙ (first_behind e).1 (spell v.step.others))
       by false e = sym (ap (has_record_id i) (sym v.step.means) ∙ ap (λ (k : ℕ). eqb k i) (unnamed (body (drop at t)) v.the (named_is ∙ e)) ∙ zero_not i n)
 

@@ -69,7 +69,7 @@ pub fn is_taken(t: &[u8], id: u16) -> bool
     let mut at = 0;
     while at < t.len() {
         let g = walker::glance_at(t, at);
-        if has_id(t, at, (g.head == 0) | g.marker, id) {
+        if has_id(t, at, g.head.is_part() | g.marker, id) {
             return true;
         }
         at += g.width;

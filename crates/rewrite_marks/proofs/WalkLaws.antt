@@ -21,6 +21,7 @@ use Rattle.table.specs.Meaning.{body}
 use Rattle.table.specs.declared.Read.{Read}
 use Rattle.table.specs.declared.Read.TheVariants.{Good}
 use Rattle.glance.specs.declared.Glance.{Glance}
+use Rattle.glance.specs.Glances.{kind_of}
 use Rattle.orders.proofs.WalkLaws.{Stepped, Walked}
 use Rattle.writer.specs.Pieces.{lead}
 use Rattle.rewrite_marks.specs.Rewritten.{inside_after, if_inside, rewritten, form_by, rewritten_bytes, inside_of, formed}
@@ -81,7 +82,7 @@ module _ (i : ℕ) (p : Bool) where
           (sym (append-nil m.done) ∙ ap (λ (l : List encode.Record). m.done ++ spell (rewritten f source inside l)) (sym e) ∙ m.all)
 
       pub written_on : (g : Glance) (v : Walked t at m.left g) (out' : List ℕ) → out' ≡ formed inside i p (item_at t at) out at
-          → Written t source out₀ (at + g.width) (inside_of source inside g.head) out'
+          → Written t source out₀ (at + g.width) (inside_of source inside (kind_of g.head)) out'
       unfolding item_at spell gather rewritten
       written_on g v out' e =
           record {
@@ -112,14 +113,14 @@ module _ (i : ℕ) (p : Bool) where
               ∙ record_formed i p inside s.first m.done (spell s.others ++ drop (length t) out₀)
               ∙ sym (append_assoc m.done (record_bytes (on_record (if_inside inside f) s.first)) (spell s.others ++ drop (length t) out₀))
 
-          state : inside_after source inside s.first ≡ inside_of source inside g.head
+          state : inside_after source inside s.first ≡ inside_of source inside (kind_of g.head)
           state =
               ap (inside_after source inside) (sym s.means) ∙ sym (inside_is source inside (body (drop at t)) v.the)
-              ∙ ap (λ (h : Glance). inside_of source inside h.head) (sym v.is)
+              ∙ ap (λ (h : Glance). inside_of source inside (kind_of h.head)) (sym v.is)
 
-          joined : (m.done ++ record_bytes (on_record (if_inside inside f) s.first)) ++ spell (rewritten f source (inside_of source inside g.head) s.others) ≡ rewritten_bytes source i p t
+          joined : (m.done ++ record_bytes (on_record (if_inside inside f) s.first)) ++ spell (rewritten f source (inside_of source inside (kind_of g.head)) s.others) ≡ rewritten_bytes source i p t
           joined =
-              append_assoc m.done (record_bytes (on_record (if_inside inside f) s.first)) (spell (rewritten f source (inside_of source inside g.head) s.others))
+              append_assoc m.done (record_bytes (on_record (if_inside inside f) s.first)) (spell (rewritten f source (inside_of source inside (kind_of g.head)) s.others))
               ∙ ap (λ (b : Bool). m.done ++ (record_bytes (on_record (if_inside inside f) s.first) ++ spell (rewritten f source b s.others))) (sym state)
               ∙ ap (λ (l : List encode.Record). m.done ++ spell (rewritten f source inside l)) (sym s.split)
               ∙ m.all

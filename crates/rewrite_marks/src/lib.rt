@@ -7,17 +7,21 @@ ghost use Rattle.xliff.specs.Parse.{unit};
 ghost use Rattle.xliff.specs.Rewrite.{form_of, rewrite_unit};
 ghost use Rattle.places.specs.Passes.{Passes};
 ghost use Rattle.places.specs.Markers.{item_at};
+ghost use Rattle.glance.specs.Glances.{kind_of};
 ghost use Rattle.writer.specs.Pieces.{lead, overlay};
 ghost use Rattle.rewrite_marks.specs.Rewritten.{inside_of, start_mark, end_mark, half_mark, formed, rewritten_bytes};
 
-// Whether what follows a record is of a content of the side; `head` is 0 for SG and IG, 1 for TG.
-pub fn inside_of(source: bool, inside: bool, head: u8) -> bool
-    ensures { result ≡ inside_of source inside head }
+use glance::Head;
+
+// Whether what follows a record is of a content of the side.
+pub fn inside_of(source: bool, inside: bool, head: Head) -> bool
+    ensures { result ≡ inside_of source inside (kind_of head) }
 {
-    if head == 0 {
-        return source;
+    match head {
+        Head::Part => source,
+        Head::Target(_) => !source,
+        Head::Other => inside,
     }
-    if head == 1 { !source } else { inside }
 }
 
 // The mark of a start, of a pair or of an annotation.

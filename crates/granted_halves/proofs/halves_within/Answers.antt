@@ -11,7 +11,7 @@ loop-at-init c =
     let args = c.args in
     going_start args.t.now (grant_of args.grant.role args.grant.positions.now) args.side args.id c.requires
 
--- n = number_after(g.head == 0, n);
+-- n = number_after(g.head.is_part(), n);
 pub number_after-n-requires : goal.number_after-n-requires
 number_after-n-requires c =
     let loop = c.loop-at in
@@ -67,6 +67,6 @@ loop-at-preserved c =
     let args = c.args in
     let grant = grant_of args.grant.role args.grant.positions.now in
     let none = sym c.stands_outside.ensures ∙ c.if-stands_outside.false in
-    rw (c.number_after-n.ensures, c.inside_of-inside.ensures)
+    rw (c.number_after-n.ensures, c.is_part.ensures, c.inside_of-inside.ensures)
     (going_on args.t.now grant args.side args.id loop.at loop.n loop.inside loop.invariant
     c.glance_at-g.result seen none)

@@ -1,6 +1,6 @@
 use Prim.Native.Nat.{ℕ}
 use mathlib.Core.List.{[]}
-use mathlib.Core.Path.{◌∙◌, ap}
+use mathlib.Core.Path.{sym, ◌∙◌, ap}
 use lib.ListN.{drop}
 use Rattle.places.specs.Markers.{item_at}
 use Rattle.places.specs.Found.{found_at, head_name, no_name}
@@ -8,15 +8,17 @@ use Rattle.xliff.specs.Rules.{of_source, of_target, start_name}
 use Rattle.xliff.specs.Parse.{read}
 use Rattle.table.specs.Meaning.{body}
 use Rattle.orders.proofs.WalkLaws.{known_read}
+use Rattle.std.specs.Prelude.{Option}
 use Rattle.ids.specs.Keys.{owner, named, name_by}
 use Rattle.ids.proofs.MarkerLaws.{name_other}
+use borrow.Author.Tests.{eqb-false}
 use borrow.Author.Rules.{rules}
 use Rattle.ids.proofs.name_at.Goals as goal
 
 -- return key_of(o, walker::known_at(t, at))
-pub returns-then-head-eq0 : goal.returns-then-head-eq0
+pub returns-then-is_part : goal.returns-then-is_part
 unfolding item_at
-returns-then-head-eq0 c =
+returns-then-is_part c =
     let args = c.args in
     let at₀ = args.at in
     let t = args.t.now in
@@ -35,8 +37,8 @@ returns c =
     let o = args.o in
     let pre = c.requires in
     λ rs a l p.
-    ap (λ (k : ℕ). named k at₀) (c.name_by.ensures ∙ ap (name_by o) c.key_at.ensures)
-    ∙ name_other (read (drop at₀ args.t.now)) o at₀ pre.0 pre.1 (p c.if-head-eq0.false)
+    ap (λ (k : Option ℕ). named k at₀) (c.name_by.ensures ∙ ap (name_by o) c.key_at.ensures)
+    ∙ name_other (read (drop at₀ args.t.now)) o at₀ pre (p (eqb-false _ _ (sym c.is_part.ensures ∙ c.if-is_part.false)))
 
 pub known_at-requires : goal.known_at-requires
 unfolding item_at

@@ -8,7 +8,7 @@ pub returns-in-Start : goal.returns-in-Start
 unfolding start_name class half id_of
 returns-in-Start c =
     rw c.in-Start.is
-    (λ w at. named_some c.args.o _ c.key.result at c.requires.0 c.key.ensures)
+    (λ w at. named_some c.args.o _ c.key.result at c.key.ensures)
 
 pub returns-in-End : goal.returns-in-End
 unfolding start_name class half id_of

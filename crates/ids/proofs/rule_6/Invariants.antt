@@ -4,7 +4,7 @@ use Rattle.ids.proofs.MeetingLaws.{Meeting}
 use Rattle.ids.proofs.rule_6.Given as goal
 
 abbrev pub invariant-loop-at : goal.invariant-loop-at
-invariant-loop-at l = Meeting l.t l.keys l.links l.heads l.n l.o l.at
+invariant-loop-at l = Meeting l.t l.ids.keys l.ids.count l.o l.at
 
 abbrev pub decreases-loop-at : goal.decreases-loop-at
 decreases-loop-at l = length l.t - l.at

@@ -4,7 +4,7 @@ use Rattle.xliff.specs.Parse.{unit}
 use Rattle.xliff.specs.Unit.{orders}
 use Rattle.xliff.specs.Bytes.{among}
 use native.Mathlib.Omega.{arith}
-use mathlib.Core.Path.{sym}
+use mathlib.Core.Path.{sym, ◌∙◌}
 use Rattle.join_orders.proofs.is_order.Goals as goal
 
 -- the loop's start: while at < t.len()
@@ -15,8 +15,8 @@ loop-at-init c =
     searched_start t (Sets args.q) (among args.q (orders (unit t).parts)) c.requires (unit_sets args.q (unit t))
 
 -- return true: return true;
-pub returns-then-g-q : goal.returns-then-g-q
-returns-then-g-q c =
+pub returns-then-sets : goal.returns-then-sets
+returns-then-sets c =
     let loop = c.loop-at in
     let args = c.args in
     let t = args.t.now in
@@ -27,7 +27,7 @@ returns-then-g-q c =
     let test = c.loop-at-test.true in
     let v = searched_here t (Sets q) told loop.at g seen loop.invariant test in
     let same = sets_walked q t loop.at loop.invariant.rs g v in
-    sym (searched_found t (Sets q) told loop.at g seen loop.invariant test _ same c.if-g-q.true)
+    sym (searched_found t (Sets q) told loop.at g seen loop.invariant test _ (c.sets.ensures ∙ same) c.if-sets.true)
 
 -- at += g.width: at += g.width;
 pub overflow_add-at : goal.overflow_add-at
@@ -70,7 +70,7 @@ loop-at-preserved c =
     let test = c.loop-at-test.true in
     let v = searched_here t (Sets q) told loop.at g seen loop.invariant test in
     let same = sets_walked q t loop.at loop.invariant.rs g v in
-    searched_on t (Sets q) told loop.at g seen loop.invariant test _ same c.if-g-q.false
+    searched_on t (Sets q) told loop.at g seen loop.invariant test _ (c.sets.ensures ∙ same) c.if-sets.false
 
 -- false
 pub returns : goal.returns

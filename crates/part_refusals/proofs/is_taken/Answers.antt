@@ -19,7 +19,7 @@ loop-at-init c =
     let id = c.args.id in
     searched_start t (has_record_id id) (id_taken (unit t).parts id) c.requires (taken_any t id c.if-id-eq0.false)
 
--- has_id(t, at, (g.head == 0) | g.marker, id): has_id(t, at, (g.head == 0) | g.marker, id)
+-- has_id(t, at, g.head.is_part() | g.marker, id): has_id(t, at, g.head.is_part() | g.marker, id)
 pub has_id-requires : goal.has_id-requires
 has_id-requires c =
     let loop = c.loop-at in
@@ -29,7 +29,8 @@ has_id-requires c =
     let g = c.glance_at-g.result in
     let test = c.loop-at-test.true in
     let v = searched_here t (has_record_id id) (id_taken (unit t).parts id) loop.at g c.glance_at-g.ensures loop.invariant test in
-    id_fits t loop.at loop.invariant.rs g loop.invariant.there v
+    rw c.is_part.ensures
+    (id_fits t loop.at loop.invariant.rs g loop.invariant.there v)
 
 -- return true: return true;
 pub returns-then-has_id : goal.returns-then-has_id
@@ -45,7 +46,7 @@ returns-then-has_id c =
     let test = c.loop-at-test.true in
     let v = searched_here t (has_record_id id) told loop.at g seen loop.invariant test in
     let same = has_walked t loop.at loop.invariant.rs g loop.invariant.there v id other in
-    sym (searched_found t (has_record_id id) told loop.at g seen loop.invariant test _ (c.has_id.ensures ∙ same) c.if-has_id.true)
+    sym (searched_found t (has_record_id id) told loop.at g seen loop.invariant test _ ((rw c.is_part.ensures at c.has_id.ensures) ∙ same) c.if-has_id.true)
 
 -- at += g.width: at += g.width;
 pub overflow_add-at : goal.overflow_add-at
@@ -85,7 +86,7 @@ loop-at-preserved c =
     let test = c.loop-at-test.true in
     let v = searched_here t (has_record_id id) told loop.at g seen loop.invariant test in
     let same = has_walked t loop.at loop.invariant.rs g loop.invariant.there v id other in
-    searched_on t (has_record_id id) told loop.at g seen loop.invariant test _ (c.has_id.ensures ∙ same) c.if-has_id.false
+    searched_on t (has_record_id id) told loop.at g seen loop.invariant test _ ((rw c.is_part.ensures at c.has_id.ensures) ∙ same) c.if-has_id.false
 
 -- false
 pub returns : goal.returns
