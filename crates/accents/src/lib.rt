@@ -8,16 +8,16 @@ ghost use Rattle.part_at.specs.Stands.{Checked};
 ghost use Rattle.accents.specs.Accents.{accent_of, CutsOffAccentIs, AccentPartedIs};
 
 use part_at::{Cuts, PartPlace};
-use text::Char;
+use text::Character;
 
 // Whether what the decoder found is an accent.
-fn is_accent(found: Char) -> bool
+fn is_accent(found: Option<Character>) -> bool
     ensures { result ≡ accent_of found }
 {
-    match found {
-        Char::Point(_, _, accent) => accent,
-        Char::Bad => false,
-    }
+    let Some(c) = found else {
+        return false;
+    };
+    c.accent
 }
 
 // Whether a cut of a content parts an accent from the text before it. Both then stand in one text: no text stands

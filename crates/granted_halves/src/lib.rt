@@ -20,14 +20,7 @@ fn number_after(head: bool, n: usize) -> usize
 }
 
 // Whether the item at an offset is a half of the id, in a content of the side, and its part `n` is outside the grant.
-fn stands_outside(
-    t: &[u8],
-    at: usize,
-    grant: Grant,
-    n: usize,
-    inside: bool,
-    id: u16,
-) -> bool
+fn stands_outside(t: &[u8], at: usize, grant: Grant, n: usize, inside: bool, id: u16) -> bool
     ensures { result ≡ (inside && half_of_id id (item_at t.now at))
         && not (within (grant_of grant.entry.role grant.entry.positions.now) n) }
 {
@@ -48,6 +41,7 @@ pub fn halves_within(t: &[u8], grant: Grant, side: u8, id: u16) -> bool
     let mut at: usize = 0;
     let mut n: usize = 0;
     let mut inside = false;
+    // The lent table is read record by record through the walker.
     while at < t.len() {
         let g = walker::glance_at(t, at);
         if stands_outside(t, at, grant, n, inside, id) {

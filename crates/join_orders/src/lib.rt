@@ -17,6 +17,7 @@ pub fn is_order(t: &[u8], q: u16) -> bool
     ensures { result ≡ among q (orders (unit t.now).parts) }
 {
     let mut at = 0;
+    // The lent table is read record by record through the walker.
     while at < t.len() {
         let g = walker::glance_at(t, at);
         if g.head.sets(q) {
@@ -32,6 +33,7 @@ fn highest_unused(t: &[u8], n: u16) -> u16
     requires { Passes t.now }
     ensures { result ≡ highest_unused n (orders (unit t.now).parts) }
 {
+    // Downwards: a range turned round has the items that it gave in place of the count of those passed.
     for passed in 0..n {
         let k = n - passed;
         if !is_order(t, k) {

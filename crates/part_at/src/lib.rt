@@ -37,6 +37,7 @@ fn content_end(t: &[u8], start: usize) -> usize
     ensures { ContentEnds t.now start result }
 {
     let mut at = start;
+    // The lent table is read record by record through the walker.
     while at < t.len() {
         let r = walker::known_at(t, at);
         if !is_content(r) {
@@ -98,7 +99,11 @@ impl PartPlace {
         requires { Standing t.now self }
         ensures { TargetHeld t.now self result.now }
     {
-        let start = if self.has_target() { self.target + marks::TARGET_WIDTH } else { self.end };
+        let start = if self.has_target() {
+            self.target + marks::TARGET_WIDTH
+        } else {
+            self.end
+        };
         &t[start..self.end]
     }
 }
@@ -179,6 +184,7 @@ pub fn count_records(t: &[u8]) -> usize
 {
     let mut at = 0;
     let mut n = 0;
+    // The lent table is read record by record through the walker.
     while at < t.len() {
         let g = walker::glance_at(t, at);
         at += g.width;

@@ -67,6 +67,7 @@ pub fn is_taken(t: &[u8], id: u16) -> bool
         return false;
     }
     let mut at = 0;
+    // The lent table is read record by record through the walker.
     while at < t.len() {
         let g = walker::glance_at(t, at);
         if has_id(t, at, g.head.is_part() | g.marker, id) {

@@ -37,6 +37,7 @@ fn count_records(c: &[u8]) -> usize
 {
     let mut at: usize = 0;
     let mut n: usize = 0;
+    // The lent content is read record by record through the walker.
     while at < c.len() {
         at += walker::width_at(c, at);
         n += 1;

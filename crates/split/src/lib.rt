@@ -10,13 +10,7 @@ use answers::Answer;
 use part_at::{Cuts, PartPlace};
 
 // 12, 13, 23, 14, 15, then the bytes: every refusal is decided before the first store.
-fn split_there(
-    table: &[u8],
-    n: usize,
-    place: PartPlace,
-    cuts: Cuts,
-    out: &mut [u8],
-) -> Answer
+fn split_there(table: &[u8], n: usize, place: PartPlace, cuts: Cuts, out: &mut [u8]) -> Answer
     requires { CheckedPart table.now n place }
     ensures { Answers (split table.now n cuts.source cuts.target cuts.new_id (length out.old)) result out.old out.new }
 {
@@ -61,6 +55,10 @@ pub fn split(
     let Some(place) = part_at::part_at(table, n) else {
         return Answer::Refused(11, 0);
     };
-    let cuts = Cuts { source: usize::from(source_cut), target: usize::from(target_cut), new_id };
+    let cuts = Cuts {
+        source: usize::from(source_cut),
+        target: usize::from(target_cut),
+        new_id,
+    };
     split_there(table, n, place, cuts, out)
 }

@@ -22,7 +22,15 @@ fn put_split_part(out: &mut [u8], t: &[u8], place: PartPlace, cuts: Cuts) -> usi
     let s = place.source;
     let g = place.target;
     let e = place.end;
-    halves_of_part::put_halves(out, &t[h..s], &t[s..g], &t[g..e], cuts.source, cuts.target, cuts.new_id)
+    halves_of_part::put_halves(
+        out,
+        &t[h..s],
+        &t[s..g],
+        &t[g..e],
+        cuts.source,
+        cuts.target,
+        cuts.new_id,
+    )
 }
 
 // The parts of the table, the one at `place` split.

@@ -35,8 +35,7 @@ returns-in_default-request_of c =
 pub call_read-requires : goal.call_read-requires
 call_read-requires c =
     let checked = c.check-checked in
-    let read = c.request_of in
-    (
+    let read = c.request_of in (
       checked_none c.args.table.now checked.result _ checked.ensures c.in-Accepted.is,
       read_size c.args.request.now read.result _ c.in-Some.is read.ensures.1,
     )

@@ -58,8 +58,7 @@ join_pair-requires c =
     let table = args.table.now in
     let (b, p, a, f, s) = rw (c.in-Some.is, c.from-n.ensures) at c.part_at.ensures in
     let (c2, q, d, g, u) = rw (c.in-Some-part_at.is, c.from-n.ensures) at c.part_at-2.ensures in
-    let k = next_part table args.part c.in-Some.x c.in-Some-part_at.y b p a f s c2 q d g u in
-    (
+    let k = next_part table args.part c.in-Some.x c.in-Some-part_at.y b p a f s c2 q d g u in (
       checked_none table checked.result _ checked.ensures c.in-Accepted.is,
       k.before,
       k.first,

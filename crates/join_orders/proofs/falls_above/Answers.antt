@@ -27,7 +27,7 @@ returns-in_default c =
     let t = c.args.t.now in
     one_falls t c.args.x c.args.y c.highest_unused.result
     (elim c.in_default.branch [
-      in_default-via-in-Some+in_default w ↦ rw (w.in_default.is-0, w.in_default.is-1) refl
+      | in_default-via-in-Some+in_default w ↦ rw (w.in_default.is-0, w.in_default.is-1) refl
       | in_default-via-in_default w ↦ rw w.in_default.is-0 refl
     ])
     (c.highest_unused.ensures

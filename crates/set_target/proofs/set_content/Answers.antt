@@ -20,8 +20,7 @@ old_content-old-requires c =
 pub is_lost-requires : goal.is_lost-requires
 is_lost-requires c =
     let written = c.args.content.now in
-    let (b, p, a, e, s, f) = c.requires.0.1 in
-    (
+    let (b, p, a, e, s, f) = c.requires.0.1 in (
       old_content p.source p.target,
       content written,
       c.old_content-old.ensures b p a s,
@@ -46,8 +45,7 @@ returns-then-is_lost c =
 pub differs-requires : goal.differs-requires
 differs-requires c =
     let written = c.args.content.now in
-    let (b, p, a, e, s, f) = c.requires.0.1 in
-    (
+    let (b, p, a, e, s, f) = c.requires.0.1 in (
       old_content p.source p.target,
       content written,
       c.old_content-old.ensures b p a s,

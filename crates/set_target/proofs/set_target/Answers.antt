@@ -69,8 +69,7 @@ set_content-requires c =
     let content = args.content.now in
     let passed = checked_none table checked.result _ checked.ensures c.in-Accepted.is in
     let (b, p, a, f, s) = rw (c.in-Some.is, c.from.ensures) at c.part_at.ensures in
-    let fits = sym (c.state_fits.ensures table b p a s) ∙ not-false _ c.if-not-state_fits.false-raw in
-    (
+    let fits = sym (c.state_fits.ensures table b p a s) ∙ not-false _ c.if-not-state_fits.false-raw in (
       (passed, (b, p, a, f, s, fits)),
       accepted_without (content_fault content) content _ (rw c.in-Accepted-judged.is at c.content-judged.ensures),
     )

@@ -33,8 +33,7 @@ returns-in_default-part_at c =
 -- split_there(table, n, place, cuts, out)
 pub split_there-requires : goal.split_there-requires
 split_there-requires c =
-    let checked = c.check-checked in
-    (
+    let checked = c.check-checked in (
       checked_none c.args.table.now checked.result _ checked.ensures c.in-Accepted.is,
       rw c.in-Some.is at c.part_at.ensures,
     )

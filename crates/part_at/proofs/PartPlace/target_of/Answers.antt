@@ -15,6 +15,6 @@ returns c =
     λ b p a s.
     target_held t (bytes_known t c.type_inv.t) b p a place s c.if-has_target.start
     (elim c.if-has_target.branch [
-      then-has_target w ↦ w.start-is ∙ sym (ap choice (sym c.has_target.ensures ∙ w.if-has_target.true))
+      | then-has_target w ↦ w.start-is ∙ sym (ap choice (sym c.has_target.ensures ∙ w.if-has_target.true))
       | else-has_target w ↦ w.start-is ∙ sym (ap choice (sym c.has_target.ensures ∙ w.if-has_target.false))
     ])
