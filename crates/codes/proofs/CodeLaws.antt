@@ -1,8 +1,10 @@
 -- The code at the head of a good record is the item's, and it has twelve bytes.
 use Rattle.xliff.specs.Good.{GoodItem}
 use Prim.Native.Nat.{ℕ, ◌+◌, ◌≤◌}
-use mathlib.Core.Path.{◌≡◌, refl, ap}
+use mathlib.Core.Path.{◌≡◌, refl, sym, ap, ◌∙◌}
+use mathlib.Core.Bool.{true, true≢false}
 use mathlib.Core.List.{List, ◌++◌}
+use Rattle.std.specs.Prelude.{None, is_some}
 use native.Mathlib.Omega.{arith}
 use lib.ListN.{length, drop, length-append, length-drop}
 use Rattle.xliff.specs.Bytes.{two, four}
@@ -31,14 +33,14 @@ module _ (s : List ℕ) where
   item_code (annotation_end form_P i) g = refl
   item_code (annotation_end form_S i) g = refl
 
-  pub text_code : (cs : List ℕ) → code_at (record_bytes (text_run cs) ++ s) ≡ 0
+  pub text_code : (cs : List ℕ) → code_at (record_bytes (text_run cs) ++ s) ≡ None
   unfolding code_at mark_at mark_of is record_bytes two
   text_code cs = refl
 
-code_width : (x : Item) → 1 ≤ code x → length (record_bytes (inline x)) ≡ 12
+code_width : (x : Item) → is_some (code x) ≡ true → length (record_bytes (inline x)) ≡ 12
 unfolding record_bytes mark field_bytes code_bytes two
-code_width (text c) h = absurd (let y : ⊥ = omega arith in y)
-code_width (character c) h = absurd (let y : ⊥ = omega arith in y)
+code_width (text c) h = absurd (true≢false (sym h))
+code_width (character c) h = absurd (true≢false (sym h))
 code_width (standalone f) h = refl
 code_width (isolated start f) h = refl
 code_width (isolated end f) h = refl
@@ -46,23 +48,23 @@ code_width (pair start form_P f) h = refl
 code_width (pair start form_S f) h = refl
 code_width (pair end form_P f) h = refl
 code_width (pair end form_S f) h = refl
-code_width (annotation_start w i t) h = absurd (let y : ⊥ = omega arith in y)
-code_width (annotation_end w i) h = absurd (let y : ⊥ = omega arith in y)
+code_width (annotation_start w i t) h = absurd (true≢false (sym h))
+code_width (annotation_end w i) h = absurd (true≢false (sym h))
 
 -- a record that is a code has twelve bytes
-pub code_long : (r : Record) (s : List ℕ) → Inline r → 1 ≤ code_at (record_bytes r ++ s) → length (record_bytes r) ≡ 12
+pub code_long : (r : Record) (s : List ℕ) → Inline r → is_some (code_at (record_bytes r ++ s)) ≡ true → length (record_bytes r) ≡ 12
 code_long (Rattle.xliff.specs.Encode.opening _) s x3 h = elim x3 [ ]
 code_long Rattle.xliff.specs.Encode.closing s x3 h = elim x3 [ ]
 code_long (Rattle.xliff.specs.Encode.part_head _) s x5 h = elim x5 [ ]
 code_long (Rattle.xliff.specs.Encode.target_head _) s x6 h = elim x6 [ ]
 code_long Rattle.xliff.specs.Encode.ill_text s x6 h = elim x6 [ ]
 code_long (Rattle.xliff.specs.Encode.broken _) s x8 h = elim x8 [ ]
-code_long (inline x) s (an_item g) h = code_width x (let e = item_code s x g in omega arith)
-code_long (text_run cs) s (a_text a l) h = absurd (let e = text_code s cs in let y : ⊥ = omega arith in y)
+code_long (inline x) s (an_item g) h = code_width x (ap is_some (sym (item_code s x g)) ∙ h)
+code_long (text_run cs) s (a_text a l) h = absurd (true≢false (sym h ∙ ap is_some (text_code s cs)))
 
-pub begins_code : (t : List ℕ) → Begins t → 1 ≤ code_at t → 12 ≤ length t
+pub begins_code : (t : List ℕ) → Begins t → is_some (code_at t) ≡ true → 12 ≤ length t
 begins_code t (r, s, g, e) h =
-    let w : length (record_bytes r) ≡ 12 = code_long r s g (let z : code_at t ≡ code_at (record_bytes r ++ s) = ap code_at e in omega arith) in
+    let w : length (record_bytes r) ≡ 12 = code_long r s g (ap (λ (l : List ℕ). is_some (code_at l)) (sym e) ∙ h) in
     let l : length t ≡ length (record_bytes r ++ s) = ap length e in
     omega (arith, length-append (record_bytes r) s)
 
@@ -70,5 +72,5 @@ begins_code t (r, s, g, e) h =
 pub begins_there : (c : List ℕ) (at : ℕ) → Begins (drop at c) → at + 4 ≤ length c
 begins_there c at b = omega (arith, begins_least (drop at c) b, length-drop at c)
 
-pub code_there : (c : List ℕ) (at : ℕ) → Begins (drop at c) → 1 ≤ code_at (drop at c) → at + 12 ≤ length c
+pub code_there : (c : List ℕ) (at : ℕ) → Begins (drop at c) → is_some (code_at (drop at c)) ≡ true → at + 12 ≤ length c
 code_there c at b h = omega (arith, begins_code (drop at c) b h, length-drop at c)

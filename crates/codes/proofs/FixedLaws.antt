@@ -2,12 +2,11 @@
 use Rattle.xliff.specs.Good.{GoodItem}
 use Prim.Native.Nat.{ℕ, ◌+◌, ◌<◌, ◌≤◌}
 use mathlib.Core.Path.{◌≡◌, refl, sym, ap, ◌∙◌, subst}
-use mathlib.Core.Bool.{Bool, true, false, not, true≢false}
+use mathlib.Core.Bool.{true, false, true≢false}
 use mathlib.Core.List.{List, [], ◌∷◌, ◌++◌, map}
 use native.Mathlib.Omega.{arith}
 use lib.ListN.{length, get_or, drop}
-use lib.Dec.{eqb}
-use borrow.Author.Tests.{eqb-false}
+use Rattle.std.specs.Prelude.{is_some}
 use Rattle.xliff.specs.Bytes.{two, four, two_at, among, keep}
 use Rattle.xliff.specs.Item.{Item, Content, start, end, form_P, form_S, text, character, standalone, isolated, pair, annotation_start, annotation_end, mark, class, half, id_of, fields, is_fixed}
 use Rattle.xliff.specs.Encode.{Record, text_run, inline, code_bytes, field_bytes, record_bytes, spell}
@@ -19,7 +18,7 @@ use Rattle.walk.specs.Marks.{number, kind}
 use Rattle.walk.proofs.WalkLaws.{Next, item_kind, rest_end, first_of}
 use Rattle.codes.specs.Codes.{code_at}
 use Rattle.codes.proofs.CodeLaws.{code_long}
-use Rattle.codes.specs.Fixed.{fixed_at, fixed_here, Found}
+use Rattle.codes.specs.Fixed.{fixed_at, half_number, fixed_here, Found}
 
 module _ (s : List ℕ) where
   item_fixed : (x : Item) → GoodItem x → fixed_at (record_bytes (inline x) ++ s) ≡ is_fixed x
@@ -71,7 +70,7 @@ module _ (s : List ℕ) where
   item_letter (annotation_start w i t) e = absurd (true≢false (sym e))
   item_letter (annotation_end w i) e = absurd (true≢false (sym e))
 
-kind_half : (x : Item) → is_fixed x ≡ true → kind x ≡ half x
+kind_half : (x : Item) → is_fixed x ≡ true → half_number (kind x) ≡ half x
 unfolding is_fixed class among half
 kind_half (text c) e = absurd (true≢false (sym e))
 kind_half (character c) e = absurd (true≢false (sym e))
@@ -111,7 +110,7 @@ unfolding fixed_code
 fixed_read s x g f i =
     record {
       id = item_number s x f i;
-      half = (item_kind s x g ∙ kind_half x f) i;
+      half = (ap half_number (item_kind s x g) ∙ kind_half x f) i;
       letter = item_letter s x f i;
     }
 
@@ -130,13 +129,9 @@ first_on (inline x) rs s (an_item g) e =
 first_on (text_run cs) rs s (a_text a l) e = absurd (true≢false (sym e ∙ text_fixed s cs))
 
 -- a fixed code has twelve bytes
-a_code : (t : List ℕ) → fixed_at t ≡ true → 1 ≤ code_at t
+a_code : (t : List ℕ) → fixed_at t ≡ true → is_some (code_at t) ≡ true
 unfolding fixed_at
-a_code t e = by (eqb (code_at t) 0) refl (and_left (not (eqb (code_at t) 0)) _ e)
-  where
-    by : (b : Bool) → eqb (code_at t) 0 ≡ b → not b ≡ true → 1 ≤ code_at t
-    by true p q = absurd (true≢false (sym q))
-    by false p q = let z = eqb-false (code_at t) 0 p in omega arith
+a_code t e = and_left (is_some (code_at t)) _ e
 
 -- at a fixed code: what stands behind it, and its place in the list
 pub record Code (c : List ℕ) (rs : List Record) (at : ℕ) : Type 0 where

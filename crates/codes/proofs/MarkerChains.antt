@@ -3,6 +3,7 @@ use Prim.Native.Nat.{ℕ, ◌+◌, ◌<◌, ◌≤◌}
 use mathlib.Core.Path.{◌≡◌, refl, sym, ap, ap₂, ◌∙◌}
 use mathlib.Core.Bool.{Bool, true, false, not, ◌&&◌, ◌||◌, true≢false}
 use mathlib.Core.List.{List, [], ◌∷◌}
+use Rattle.std.specs.Prelude.{is_some}
 use lib.ListN.{length, get_or, drop}
 use lib.Dec.{eqb, ltb}
 use borrow.Author.Tests.{eqb-true, ltb-true, ltb-false, lt-ltb}
@@ -24,7 +25,7 @@ found_room c rs at m l = (found_code c rs at m l).room
 -- the letter of a fixed code is F or N
 fixed_letter : (t : List ℕ) → fixed_at t ≡ true → eqb (get_or t 11 0) 'N' ≡ false → get_or t 11 0 ≡ 'F'
 unfolding fixed_at among
-fixed_letter t e n = by (eqb (get_or t 11 0) 'F') refl (eqb (get_or t 11 0) 'N') n (and_right (not (eqb (code_at t) 0)) _ e)
+fixed_letter t e n = by (eqb (get_or t 11 0) 'F') refl (eqb (get_or t 11 0) 'N') n (and_right (is_some (code_at t)) _ e)
   where
     by : (f : Bool) → eqb (get_or t 11 0) 'F' ≡ f → (n : Bool) → n ≡ false → f || (n || false) ≡ true → get_or t 11 0 ≡ 'F'
     by true p n q h = eqb-true _ _ p

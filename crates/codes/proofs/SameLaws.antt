@@ -1,10 +1,11 @@
 -- Two codes are the same when flattened where their numbers and the bytes of their fields are equal.
 use Rattle.xliff.specs.Good.{GoodItem, gets}
-use Prim.Native.Nat.{ℕ, ◌≤◌, ◌/◌, ◌%◌}
+use Prim.Native.Nat.{ℕ, ◌/◌, ◌%◌}
 use mathlib.Core.Path.{◌≡◌, refl, sym, ap, ◌∙◌}
-use mathlib.Core.Bool.{Bool, true, false, not, ◌&&◌, true≢false}
+use mathlib.Core.Bool.{Bool, true, false, ◌&&◌, true≢false}
 use mathlib.Core.List.{List, ◌++◌}
 use native.Mathlib.Omega.{arith}
+use Rattle.std.specs.Prelude.{is_some}
 use lib.Dec.{eqb}
 use borrow.Author.Tests.{eqb-true, eq-eqb}
 use Rattle.xliff.specs.Bytes.{two, four, equal, among}
@@ -13,7 +14,7 @@ use Rattle.xliff.specs.Parse.{is, mark_of, mark_at}
 use Rattle.xliff.specs.Encode.{inline, code_bytes, field_bytes, record_bytes, text_run}
 use Rattle.xliff.specs.SetTarget.{same_flat}
 use Rattle.xliff.proofs.lists.Tests.{two_value}
-use Rattle.codes.specs.Codes.{code_at, code}
+use Rattle.codes.specs.Codes.{code_at, code, are_same}
 use Rattle.codes.proofs.CodeLaws.{item_code}
 use Rattle.codes.specs.Lost.{non_removable_at, fields_at, same_at, is_code_at}
 
@@ -41,13 +42,13 @@ fields_same f g =
     (two_same f.copy_of g.copy_of _ ∙ ap (λ (r : Bool). eqb f.copy_of g.copy_of && r) (two_same f.data_ref g.data_ref _))
 
 -- a code and any item, flattened
-flat_same : (x y : Item) → 1 ≤ code x
-    → same_flat x y ≡ not (eqb (code y) 0) && (eqb (code x) (code y) && equal (code_numbers (fields x)) (code_numbers (fields y)))
+flat_same : (x y : Item) → is_some (code x) ≡ true
+    → same_flat x y ≡ are_same (code y) (code x) && equal (code_numbers (fields x)) (code_numbers (fields y))
 unfolding same_flat same flat in_form mark numbers fields equal
-flat_same (text c) y h = absurd (let z : ⊥ = omega arith in z)
-flat_same (character c) y h = absurd (let z : ⊥ = omega arith in z)
-flat_same (annotation_start w i t) y h = absurd (let z : ⊥ = omega arith in z)
-flat_same (annotation_end w i) y h = absurd (let z : ⊥ = omega arith in z)
+flat_same (text c) y h = absurd (true≢false (sym h))
+flat_same (character c) y h = absurd (true≢false (sym h))
+flat_same (annotation_start w i t) y h = absurd (true≢false (sym h))
+flat_same (annotation_end w i) y h = absurd (true≢false (sym h))
 flat_same (standalone f) (text d) h = refl
 flat_same (standalone f) (character d) h = refl
 flat_same (standalone f) (standalone g) h = refl
@@ -96,10 +97,10 @@ flat_same (pair end w f) (annotation_end v j) h = refl
 
 -- what is read of the bytes of an item
 module _ (s : List ℕ) where
-  item_fields : (x : Item) → 1 ≤ code x → fields_at (record_bytes (inline x) ++ s) ≡ code_bytes (fields x)
+  item_fields : (x : Item) → is_some (code x) ≡ true → fields_at (record_bytes (inline x) ++ s) ≡ code_bytes (fields x)
   unfolding fields_at gets record_bytes mark field_bytes code_bytes two fields
-  item_fields (text c) h = absurd (let z : ⊥ = omega arith in z)
-  item_fields (character c) h = absurd (let z : ⊥ = omega arith in z)
+  item_fields (text c) h = absurd (true≢false (sym h))
+  item_fields (character c) h = absurd (true≢false (sym h))
   item_fields (standalone f) h = refl
   item_fields (isolated start f) h = refl
   item_fields (isolated end f) h = refl
@@ -107,8 +108,8 @@ module _ (s : List ℕ) where
   item_fields (pair start form_S f) h = refl
   item_fields (pair end form_P f) h = refl
   item_fields (pair end form_S f) h = refl
-  item_fields (annotation_start w i t) h = absurd (let z : ⊥ = omega arith in z)
-  item_fields (annotation_end w i) h = absurd (let z : ⊥ = omega arith in z)
+  item_fields (annotation_start w i t) h = absurd (true≢false (sym h))
+  item_fields (annotation_end w i) h = absurd (true≢false (sym h))
 
   pub item_non_removable : (x : Item) → GoodItem x → non_removable_at (record_bytes (inline x) ++ s) ≡ non_removable x
   unfolding non_removable_at code_at mark_at mark_of is record_bytes mark field_bytes code_bytes two four non_removable class fields among
@@ -151,7 +152,7 @@ module _ (s : List ℕ) where
   text_same t cs = refl
 
   -- a code is told from the items of a content by its bytes as by the flattened item
-  pub code_same : (x : Item) → GoodItem x → 1 ≤ code x → (y : Item) → is_code_at (record_bytes (inline x) ++ s) y ≡ same_flat x y
+  pub code_same : (x : Item) → GoodItem x → is_some (code x) ≡ true → (y : Item) → is_code_at (record_bytes (inline x) ++ s) y ≡ same_flat x y
   unfolding is_code_at
   code_same x g h y =
       rw (item_code s x g, item_fields x h, fields_same (fields x) (fields y)) (sym (flat_same x y h))

@@ -14,7 +14,7 @@ fn is_fixed(c: &[u8], at: usize) -> bool
     requires { Begins (drop at c.now) }
     ensures { result ≡ fixed_at (drop at c.now) }
 {
-    if code_at(c, at) == 0 {
+    if code_at(c, at).is_none() {
         return false;
     }
     let reorder = c[at + CAN_REORDER];

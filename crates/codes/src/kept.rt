@@ -8,15 +8,18 @@ ghost use Rattle.codes.specs.Lost.{non_removable_at, fields_at, same_at, HasCode
 
 use super::code_at;
 
+// Where the letter canDelete stands in a code.
+const CAN_DELETE: usize = 9;
+
 // Whether the record at `at` is a code with canDelete N.
 fn is_non_removable(c: &[u8], at: usize) -> bool
     requires { Begins (drop at c.now) }
     ensures { result ≡ non_removable_at (drop at c.now) }
 {
-    if code_at(c, at) == 0 {
+    if code_at(c, at).is_none() {
         return false;
     }
-    c[at + 9] == b'N'
+    c[at + CAN_DELETE] == b'N'
 }
 
 // Whether the fields of two codes are equal: the bytes behind their marks.
@@ -24,12 +27,7 @@ fn same_fields(t: &[u8], u: &[u8]) -> bool
     requires { (12 ≤ length t.now) × (12 ≤ length u.now) }
     ensures { result ≡ equal (fields_at t.now) (fields_at u.now) }
 {
-    for i in 2..12 {
-        if !(t[i] == u[i]) {
-            return false;
-        }
-    }
-    true
+    t[2..marks::CODE_WIDTH] == u[2..marks::CODE_WIDTH]
 }
 
 // Whether the records at `at` and at `to` are the same code, marks compared as when flattened.
@@ -37,14 +35,10 @@ fn same_code(old: &[u8], at: usize, new: &[u8], to: usize) -> bool
     requires { Begins (drop at old.now) × Begins (drop to new.now) }
     ensures { result ≡ same_at (drop at old.now) (drop to new.now) }
 {
-    let k = code_at(new, to);
-    if k == 0 {
+    let (Some(a), Some(b)) = (code_at(old, at), code_at(new, to)) else {
         return false;
-    }
-    if !(code_at(old, at) == k) {
-        return false;
-    }
-    same_fields(&old[at..], &new[to..])
+    };
+    (a == b) & same_fields(&old[at..], &new[to..])
 }
 
 // Whether the new content has the code at `at`.

@@ -11,22 +11,31 @@ ghost use Rattle.codes.specs.Codes.{code_of, code_at};
 
 use marks::Mark;
 
-// The inline code of a mark: 1 PO SC, 2 PC EC, 3 PH, 4 IS, 5 IE; 0 for text, a character or an annotation.
-fn code_of(m: Mark) -> u8
+#[derive(Clone, Copy, PartialEq, Eq)]
+enum Code {
+    PairStart,
+    PairEnd,
+    Standalone,
+    IsolatedStart,
+    IsolatedEnd,
+}
+
+// The inline code of a mark; none for text, a character or an annotation.
+fn code_of(m: Mark) -> Option<Code>
     ensures { result ≡ code_of (meaning m) }
 {
     match m {
-        Mark::PO | Mark::SC => 1,
-        Mark::PC | Mark::EC => 2,
-        Mark::PH => 3,
-        Mark::IS => 4,
-        Mark::IE => 5,
-        _ => 0,
+        Mark::PO | Mark::SC => Some(Code::PairStart),
+        Mark::PC | Mark::EC => Some(Code::PairEnd),
+        Mark::PH => Some(Code::Standalone),
+        Mark::IS => Some(Code::IsolatedStart),
+        Mark::IE => Some(Code::IsolatedEnd),
+        _ => None,
     }
 }
 
 // The inline code that the record at `at` is.
-fn code_at(c: &[u8], at: usize) -> u8
+fn code_at(c: &[u8], at: usize) -> Option<Code>
     ensures { result ≡ code_at (drop at c.now) }
 {
     code_of(walker::mark_at(c, at))

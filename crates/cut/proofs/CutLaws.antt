@@ -6,6 +6,7 @@ use mathlib.Core.Bool.{Bool, true, false, ◌&&◌, ◌||◌, cond}
 use mathlib.Core.List.{List, [], ◌∷◌, ◌++◌, map, append-nil}
 use native.Mathlib.Omega.{arith}
 use lib.ListN.{length, take, drop}
+use Rattle.std.specs.Prelude.{None}
 use Rattle.xliff.specs.Bytes.{two, four, any, two_at}
 use Rattle.xliff.specs.Item.{Item, Content, start, end, form_P, form_S, text, character, standalone, isolated, pair, annotation_start, annotation_end, mark, id_of, class, half, alike, other_half, in_form}
 use Rattle.xliff.specs.Encode.{Record, text_run, inline, code_bytes, field_bytes, record_bytes, spell, content_records, content_bytes, item_before}
@@ -75,7 +76,7 @@ any_other x [] = refl
 any_other x (y ∷ ys) = ap₂ ◌||◌ (other_is x y) (any_other x ys)
 
 -- what is no half has no other half
-no_other : (i : ℕ) (ys : Content) → has_other 0 i ys ≡ false
+pub no_other : (i : ℕ) (ys : Content) → has_other None i ys ≡ false
 unfolding any has_other
 no_other i [] = refl
 no_other i (y ∷ ys) = no_other i ys
@@ -152,15 +153,14 @@ cut_one (inline x) ys (an_item g) =
     ∙ cut_if x (any (other_half x) ys) g
 cut_one (text_run cs) ys (a_text a l) = text_stays cs ys
 
--- the bytes that are written, where the record's mark and number are read
-pub cut_written : (r : Record) (qs : List Record) (t o l : List ℕ) (m : Mark) (k i : ℕ) (b : Bool) → Inline r → t ≡ record_bytes r
-    → m ≡ mark_at t
-    → k ≡ kind_of m → i ≡ number t → b ≡ has_other k i (items qs) → l ≡ lead (turn_if b t) o
+-- the bytes that are written, where the record's mark is read
+pub cut_written : (r : Record) (qs : List Record) (t o l : List ℕ) (m : Mark) (b : Bool) → Inline r → t ≡ record_bytes r
+    → m ≡ mark_at t → b ≡ has_other (kind_of m) (number t) (items qs) → l ≡ lead (turn_if b t) o
     → l ≡ lead (record_bytes (cut_record (items qs) r)) o
 unfolding kind_at
-cut_written r qs t o l m k i b g e mark kind id turn out =
+cut_written r qs t o l m b g e mark turn out =
     let found : b ≡ has_other (kind_at t) (number t) (items qs) = turn
-    ∙ ap₂ (λ (x y : ℕ). has_other x y (items qs)) (kind ∙ ap kind_of mark) id in
+    ∙ ap (λ (x : Mark). has_other (kind_of x) (number t) (items qs)) mark in
     out ∙ ap (λ (x : Bool). lead (turn_if x t) o) found
     ∙ ap (λ (x : List ℕ). lead (turn_if (has_other (kind_at x) (number x) (items qs)) x) o) e
     ∙ ap (λ (x : List ℕ). lead x o) (cut_one r (items qs) g)

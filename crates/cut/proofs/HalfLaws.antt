@@ -17,6 +17,8 @@ use Rattle.xliff.specs.Good.{Allowed, no_text, one_point}
 use Rattle.xliff.proofs.records.Parse.{reading_content, onto}
 use Rattle.walker.specs.Offsets.{WidthAt}
 use Rattle.walk.specs.Kept.{Kept, kept_end, kept_item, kept_text, Of, Holds, items, an_item, text_in}
+use Rattle.std.specs.Prelude.{Option}
+use Rattle.walk.specs.declared.HalfKind.{HalfKind}
 use Rattle.walk.specs.Marks.{kind, is_other, has_other}
 use Rattle.walk.specs.Place.{Inside, over, between, within, Parted}
 use Rattle.walk.specs.declared.Place.{Place}
@@ -56,7 +58,7 @@ beyond_texts cs ys x =
     ∙ sym (any_other x ys))
 
 -- nor at its end
-texts_behind : (k i : ℕ) (ys : Content) (cs : List ℕ) → has_other k i (ys ++ map text cs) ≡ has_other k i ys
+texts_behind : (k : Option HalfKind) (i : ℕ) (ys : Content) (cs : List ℕ) → has_other k i (ys ++ map text cs) ≡ has_other k i ys
 unfolding has_other any
 texts_behind k i [] cs = ap (has_other k i) (sym (append-nil (map text cs))) ∙ texts_other k i cs []
 texts_behind k i (y ∷ ys) cs = ap (λ (b : Bool). is_other k i y || b) (texts_behind k i ys cs)

@@ -5,6 +5,7 @@ ghost use Rattle.std.specs.Prelude.{◌≡◌, ◌+◌, ◌<◌, ◌≤◌, leng
 ghost use Rattle.marks.specs.Marks.{meaning};
 ghost use Rattle.writer.specs.Pieces.{lead};
 ghost use Rattle.walk.specs.Kept.{Fair};
+ghost use Rattle.walk.specs.Marks.{number, kind_of, FoundOther};
 ghost use Rattle.walk.specs.Place.{One};
 ghost use Rattle.cut.specs.Turned.{turned_mark, turn_if, CutOne, CutAll, text_piece};
 ghost use Rattle.xliff.specs.Parse.{mark_at};
@@ -46,13 +47,23 @@ fn put_turned(out: &mut [u8], m: Mark, t: &[u8], turn: bool)
     }
 }
 
+// Whether the other half of the record `t` of the mark `m` stands beyond the cut.
+fn is_parted(m: Mark, t: &[u8], beyond: &[u8]) -> bool
+    requires { (4 ≤ length t.now) × Fair beyond.now }
+    ensures { FoundOther beyond.now (kind_of (meaning m)) (number t.now) result }
+{
+    match walk::kind_of(m) {
+        Some(kind) => walk::has_other(beyond, kind, marks::number_at(t, 2)),
+        None => false,
+    }
+}
+
 // One record of the mark `m`, turned if its other half stands beyond the cut.
 fn put_cut_one(out: &mut [u8], m: Mark, t: &[u8], beyond: &[u8])
     requires { One t.now × (meaning m ≡ mark_at t.now) × Fair beyond.now × (length t.now ≤ length out.old) }
     ensures { CutOne t.now beyond.now out.old out.new }
 {
-    let turn = walk::has_other(beyond, walk::kind_of(m), marks::number_at(t, 2));
-    put_turned(out, m, t, turn);
+    put_turned(out, m, t, is_parted(m, t, beyond));
 }
 
 // All records of `a`.

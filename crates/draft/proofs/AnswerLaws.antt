@@ -6,11 +6,12 @@ use mathlib.Core.List.{List}
 use mathlib.Core.Option.{Option, none}
 use lib.ListN.{length}
 use lib.Dec.{ltb}
+use Rattle.std.specs.Borrow.{MutBor}
 use Rattle.xliff.specs.Answer.{Refusal, refusal, applies, ◌then◌, refused, accepted, Outcome, result, refuse, unless, answer, output}
 use Rattle.xliff.specs.Check.{table_refusal}
 use Rattle.outcomes.proofs.OutcomeLaws.{answers_refused, answers_result}
 use Rattle.draft.specs.declared.Draft.{Draft}
-use Rattle.draft.specs.Drafts.{started, Wrote}
+use Rattle.draft.specs.Drafts.{Began, Wrote}
 use Rattle.draft.proofs.DraftLaws.{measured_stays, measured_tells, written_used, written_there}
 
 -- its outcome: the table's check, 15, the text
@@ -41,22 +42,26 @@ module _ (t : List ℕ) (room : ℕ) (text : List ℕ) where
     unfolding applies unless
     text_written h = passed ∙ rw h
 
-module _ (o : Outcome) (text out : List ℕ)
-    (short : ltb (length out) (length text) ≡ true → o ≡ refuse (record { number = 15; place = 0 }))
-    (enough : ltb (length out) (length text) ≡ false → o ≡ result text)
-    (b : Draft) (s : b ≡ started true) (out₁ : List ℕ) (m : Draft) (w : Wrote text out b out₁ m) where
-  told : m.full ≡ ltb (length out) (length text)
-  told = measured_tells text out b s out₁ m w
+module _ (o : Outcome) (text : List ℕ) (out : MutBor (List ℕ))
+    (short : ltb (length out.now) (length text) ≡ true → o ≡ refuse (record { number = 15; place = 0 }))
+    (enough : ltb (length out.now) (length text) ≡ false → o ≡ result text)
+    (b : Draft) (s : Began true out b) (m : Draft) (w : Wrote text b m) where
+  told : m.full ≡ ltb (length out.now) (length text)
+  told = measured_tells text out b s m w
 
-  pub answers_15 : m.full ≡ true → (refused 15 0 ≡ answer o) × (out₁ ≡ output o out)
-  answers_15 f =
-      let a = answers_refused o 15 0 out (short (sym told ∙ f)) in
-      (a.0, measured_stays text out b s out₁ m w ∙ a.1)
+  -- `last`: the output once the draft is let go
+  pub answers_15 : m.full ≡ true → {last : List ℕ} → last ≡ m.out.now
+      → (refused 15 0 ≡ answer o) × (last ≡ output o out.now)
+  answers_15 f l =
+      let a = answers_refused o 15 0 out.now (short (sym told ∙ f)) in
+      (a.0, l ∙ measured_stays text out b s m w ∙ a.1)
 
   -- and then written
-  module _ (f : m.full ≡ false) (c : Draft) (r : c ≡ started false) (out₂ : List ℕ) (k : Draft)
-      (x : Wrote text out₁ c out₂ k) where
-    pub answers_written : (accepted k.used ≡ answer o) × (out₂ ≡ output o out)
-    answers_written =
-        answers_result o text k.used out out₂ (enough (sym told ∙ f))
-        (written_used text out b s out₁ m w f c r out₂ k x) (written_there text out b s out₁ m w f c r out₂ k x)
+  module _ (f : m.full ≡ false) (out₁ : MutBor (List ℕ)) (same : out₁.now ≡ m.out.now)
+      (c : Draft) (r : Began false out₁ c) (k : Draft) (x : Wrote text c k) where
+    pub answers_written : {n : ℕ} → n ≡ k.used → {last : List ℕ} → last ≡ k.out.now
+        → (accepted n ≡ answer o) × (last ≡ output o out.now)
+    answers_written {n} u l =
+        let a = answers_result o text k.used out.now k.out.now (enough (sym told ∙ f))
+        (written_used text out b s m w f out₁ same c r k x) (written_there text out b s m w f out₁ same c r k x) in
+        (ap accepted u ∙ a.0, l ∙ a.1)

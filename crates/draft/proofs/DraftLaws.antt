@@ -1,5 +1,5 @@
 -- Pieces put one behind the other, and a text that is begun.
-use Prim.Native.Nat.{ℕ, ◌≤◌}
+use Prim.Native.Nat.{ℕ}
 use mathlib.Core.Path.{◌≡◌, refl, sym, ap, ◌∙◌, subst}
 use mathlib.Core.Bool.{Bool, true, false}
 use mathlib.Core.List.{List, [], ◌++◌, append_assoc, append-nil}
@@ -7,69 +7,72 @@ use native.Mathlib.Omega.{arith}
 use lib.ListN.{length}
 use lib.Dec.{ltb}
 use borrow.Author.Tests.{le-ltb}
+use Rattle.std.specs.Borrow.{MutBor}
 use Rattle.writer.specs.Pieces.{lead}
 use Rattle.draft.specs.declared.Draft.{Draft}
-use Rattle.draft.specs.Drafts.{Drafted, started, Wrote}
+use Rattle.draft.specs.Drafts.{Drafted, Began, Wrote}
 
-pub wrote_nothing : {o : List ℕ} {d : Draft} → d.used ≤ length o → Wrote [] o d o d
-wrote_nothing {o} {d} h =
+pub wrote_nothing : {d : Draft} → Wrote [] d d
+wrote_nothing {d} =
     record {
+      same = refl;
       room = refl;
-      inside = h;
-      on = λ m first text k. subst (λ (x : List ℕ). Drafted m first o d x) (sym (append-nil text)) k;
+      on = λ m first text k. subst (λ (x : List ℕ). Drafted m first d x) (sym (append-nil text)) k;
     }
 
-pub wrote_then : {a b o p q : List ℕ} {d e f : Draft} → Wrote a o d p e → Wrote b p e q f → Wrote (a ++ b) o d q f
-wrote_then {a} {b} {o} {p} {q} {d} {e} {f} v w =
+pub wrote_then : {a b : List ℕ} {d e f : Draft} → Wrote a d e → Wrote b e f → Wrote (a ++ b) d f
+wrote_then {a} {b} {d} {e} {f} v w =
     record {
+      same = w.same ∙ v.same;
       room = w.room ∙ v.room;
-      inside = w.inside;
       on = λ m first text k.
-          subst (λ (x : List ℕ). Drafted m first q f x) (append_assoc text a b)
+          subst (λ (x : List ℕ). Drafted m first f x) (append_assoc text a b)
           (w.on m first (text ++ a) (v.on m first text k));
     }
 
 -- the same piece, said otherwise
-pub wrote_as : {a b o p : List ℕ} {d e : Draft} → a ≡ b → Wrote a o d p e → Wrote b o d p e
-wrote_as {a} {b} {o} {p} {d} {e} h w = subst (λ (x : List ℕ). Wrote x o d p e) h w
+pub wrote_as : {a b : List ℕ} {d e : Draft} → a ≡ b → Wrote a d e → Wrote b d e
+wrote_as {a} {b} {d} {e} h w = subst (λ (x : List ℕ). Wrote x d e) h w
 
 -- no text yet
-pub begun : (m : Bool) (o : List ℕ) → Drafted m o o (started m) []
-begun m o =
+begun : (m : Bool) (out : MutBor (List ℕ)) (d : Draft) → Began m out d → Drafted m out.now d []
+begun m out d b =
     record {
-      room = refl;
-      inside = omega arith;
-      mode = refl;
-      told = sym (le-ltb (length o) 0 (omega arith));
-      used = λ e. refl;
-      stays = λ e. refl;
-      written = λ e h. refl;
+      room = ap length b.output;
+      mode = b.mode;
+      told = b.full ∙ sym (le-ltb (length out.now) 0 (omega arith));
+      used = λ e. b.used;
+      stays = λ e. b.output;
+      written = λ e h. b.output;
     }
 
 -- A text that is only measured: the output stays, and it is told whether it is too short
-module _ (text out : List ℕ) (b : Draft) (s : b ≡ started true) (out₁ : List ℕ) (m : Draft)
-    (w : Wrote text out b out₁ m) where
-  measured : Drafted true out out₁ m text
-  measured = w.on true out [] (subst (λ (x : Draft). Drafted true out out x []) (sym s) (begun true out))
+module _ (text : List ℕ) (out : MutBor (List ℕ)) (b : Draft) (s : Began true out b) (m : Draft)
+    (w : Wrote text b m) where
+  measured : Drafted true out.now m text
+  measured = w.on true out.now [] (begun true out b s)
 
-  pub measured_stays : out₁ ≡ out
+  pub measured_stays : m.out.now ≡ out.now
   measured_stays = measured.stays measured.mode
 
-  pub measured_tells : m.full ≡ ltb (length out) (length text)
+  pub measured_tells : m.full ≡ ltb (length out.now) (length text)
   measured_tells = measured.told
 
   -- where it is not, the text written behind it stands at the head of the output
-  module _ (f : m.full ≡ false) (c : Draft) (r : c ≡ started false) (out₂ : List ℕ) (k : Draft)
-      (x : Wrote text out₁ c out₂ k) where
-    drafted : Drafted false out₁ out₂ k text
-    drafted = x.on false out₁ [] (subst (λ (y : Draft). Drafted false out₁ out₁ y []) (sym r) (begun false out₁))
+  module _ (f : m.full ≡ false) (out₁ : MutBor (List ℕ)) (o : out₁.now ≡ m.out.now)
+      (c : Draft) (r : Began false out₁ c) (k : Draft) (x : Wrote text c k) where
+    drafted : Drafted false out₁.now k text
+    drafted = x.on false out₁.now [] (begun false out₁ c r)
+
+    stayed : out₁.now ≡ out.now
+    stayed = o ∙ measured_stays
 
     not_full : k.full ≡ false
     not_full =
-        drafted.told ∙ ap (λ (l : List ℕ). ltb (length l) (length text)) measured_stays ∙ sym measured_tells ∙ f
+        drafted.told ∙ ap (λ (l : List ℕ). ltb (length l) (length text)) stayed ∙ sym measured_tells ∙ f
 
     pub written_used : k.used ≡ length text
     written_used = drafted.used not_full
 
-    pub written_there : out₂ ≡ lead text out
-    written_there = drafted.written drafted.mode not_full ∙ ap (λ (l : List ℕ). lead text l) measured_stays
+    pub written_there : k.out.now ≡ lead text out.now
+    written_there = drafted.written drafted.mode not_full ∙ ap (λ (l : List ℕ). lead text l) stayed

@@ -1,3 +1,2 @@
 pub mod DraftLaws
-pub mod PutLaws
 pub mod AnswerLaws

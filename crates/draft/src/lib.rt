@@ -2,51 +2,61 @@
 #![tactic(auto)]
 
 ghost use Rattle.std.specs.Prelude.{◌≡◌, ◌≤◌, length};
-ghost use Rattle.draft.specs.Drafts.{started, Wrote};
 
-// How many bytes are used, whether the text is longer than the output, and whether it is only measured.
-#[derive(Clone, Copy)]
-pub struct Draft {
-    pub used: usize,
-    pub full: bool,
-    pub measured: bool,
+// The output, how many bytes of it are used, whether the text is longer than it, and whether it is only measured.
+#[derive(Drop)]
+pub struct Draft<'a> {
+    out: &'a mut [u8],
+    used: usize,
+    full: bool,
+    measured: bool,
+    pub ghost inside: { used ≤ length out.now },
 }
 
-// No text yet.
-pub fn begin(measured: bool) -> Draft
-    ensures { result ≡ started measured }
-{
-    Draft {
-        used: 0,
-        full: false,
-        measured: measured,
-    }
-}
+impl<'a> Draft<'a> {
+    ghost use Rattle.draft.specs.Drafts.{Began, Wrote};
 
-// These bytes behind the text. Where they don't fit, nothing is written from here on.
-pub fn put(out: &mut [u8], draft: Draft, bytes: &[u8]) -> Draft
-    requires { draft.used ≤ length out.old }
-    ensures { Wrote bytes.now out.old draft out.new result }
-{
-    if draft.full {
-        return draft;
+    // No text yet.
+    pub fn begin(out: &'a mut [u8], measured: bool) -> Draft<'a>
+        ensures { Began measured out.entry result }
+    {
+        Draft {
+            out,
+            used: 0,
+            full: false,
+            measured,
+        }
     }
-    let used = draft.used;
-    if out.len() - used < bytes.len() {
-        return Draft {
-            used: used,
-            full: true,
-            measured: draft.measured,
-        };
+
+    // How many bytes of the output are used.
+    pub fn used(&self) -> usize
+        ensures { result ≡ self.now.used }
+    {
+        self.used
     }
-    let behind = Draft {
-        used: used + bytes.len(),
-        full: false,
-        measured: draft.measured,
-    };
-    if draft.measured {
-        return behind;
+
+    // Is the text longer than the output?
+    pub fn is_full(&self) -> bool
+        ensures { result ≡ self.now.full }
+    {
+        self.full
     }
-    let n = writer::put(&mut out[used..], bytes);
-    behind
+
+    // These bytes behind the text. Where they don't fit, nothing is written from here on.
+    pub fn put(&mut self, bytes: &[u8])
+        ensures { Wrote bytes.now self.old self.new }
+    {
+        if self.full {
+            return;
+        }
+        if self.out.len() - self.used < bytes.len() {
+            self.full = true;
+            return;
+        }
+        let behind = self.used + bytes.len();
+        if !self.measured {
+            self.out[self.used..behind].copy_from_slice(bytes);
+        }
+        self.used = behind;
+    }
 }

@@ -44,7 +44,7 @@ pub fn granted_call(
     let Some(r) = requests::request_of(request) else {
         return Answer::Refused(2, 0);
     };
-    if requests::size_of(r) != request.len() {
+    if r.size() != request.len() {
         return Answer::Refused(2, 0);
     }
     call_read(Grant { role, positions }, table, r, request, out)

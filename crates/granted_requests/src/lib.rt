@@ -54,10 +54,10 @@ pub fn granted(grant: Grant, table: &[u8], r: Request) -> bool
     ensures { GrantedIs (grant_of grant.entry.role grant.entry.positions.now) table.now r result }
 {
     match r {
-        Request::Split(_, _, _, _) => is_engineer(grant.role),
-        Request::Join(_) => is_engineer(grant.role),
-        Request::SetTarget(part, _, _) => grant.has_part(usize::from(part)),
-        Request::RemoveTarget(part) => grant.has_part(usize::from(part)),
-        Request::Rewrite(side, id, _) => rewrite_granted(grant, table, side, id),
+        Request::Split { .. } => is_engineer(grant.role),
+        Request::Join { .. } => is_engineer(grant.role),
+        Request::SetTarget { part, .. } => grant.has_part(usize::from(part)),
+        Request::RemoveTarget { part } => grant.has_part(usize::from(part)),
+        Request::Rewrite { side, id, .. } => rewrite_granted(grant, table, side, id),
     }
 }

@@ -39,8 +39,7 @@ module _ (bytes : List ℕ) (some : SomeHead bytes) (st : ℕ) (array : List ℕ
 
 -- and from there put behind the text
 pub shown_put : (bytes array : List ℕ) (n : ℕ) (last : List ℕ) → WroteState 'I' bytes array n last
-    → (out : List ℕ) (draft : Draft) (out' : List ℕ) (r : Draft) → Wrote (take n last) out draft out' r
-    → PutHead bytes out draft out' r
-shown_put bytes array n last w out draft out' r put h e =
+    → (draft draft' : Draft) → Wrote (take n last) draft draft' → PutHead bytes draft draft'
+shown_put bytes array n last w draft draft' put h e =
     let there = w h e in
     wrote_as (at_head (head_bytes (with_state 'I' h)) array last n there.0 there.1) put

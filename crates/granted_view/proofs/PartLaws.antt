@@ -29,19 +29,18 @@ unfolding shown
 hidden_bytes p inside e = sym (bared_bytes p) ∙ ap (λ (i : Bool). shown_bytes i p) (sym e)
 
 module _ (t : List ℕ) (b : List Part) (p : Part) (a : List Part) (place : PartPlace) (s : PartStands t b p a place)
-    (inside : Bool) (out : List ℕ) (draft : Draft) where
+    (inside : Bool) (draft : Draft) where
   -- within the grant
-  pub whole_put : inside ≡ true → (last : List ℕ) (r : Draft)
-      → Wrote (take (place.end - place.head) (drop place.head t)) out draft last r
-      → Wrote (shown_bytes inside p) out draft last r
-  whole_put e last r w = wrote_as (s.whole.is ∙ whole_bytes p inside e) w
+  pub whole_put : inside ≡ true → (last : Draft)
+      → Wrote (take (place.end - place.head) (drop place.head t)) draft last
+      → Wrote (shown_bytes inside p) draft last
+  whole_put e last w = wrote_as (s.whole.is ∙ whole_bytes p inside e) w
 
   -- outside
-  pub hidden_put : inside ≡ false → (out₁ : List ℕ) (headed : Draft)
-      → PutHead (take (place.source - place.head) (drop place.head t)) out draft out₁ headed
-      → (last : List ℕ) (r : Draft)
-      → Wrote (take (place.target - place.source) (drop place.source t)) out₁ headed last r
-      → Wrote (shown_bytes inside p) out draft last r
-  hidden_put e out₁ headed put last r w =
+  pub hidden_put : inside ≡ false → (headed : Draft)
+      → PutHead (take (place.source - place.head) (drop place.head t)) draft headed
+      → (last : Draft) → Wrote (take (place.target - place.source) (drop place.source t)) headed last
+      → Wrote (shown_bytes inside p) draft last
+  hidden_put e headed put last w =
       wrote_as (hidden_bytes p inside e)
       (wrote_then (put p.head (sym s.head.is)) (wrote_as s.source.is w))

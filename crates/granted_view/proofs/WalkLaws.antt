@@ -29,8 +29,8 @@ view_by_part g n (p ∷ ps) =
     ∙ sym (spell_append (part_records (shown (within g n) p)) (gather part_records (view_parts g (suc n) ps)))
 
 -- a part written as inside or outside, where that is what the grant says of its number
-pub shown_as_within : {t : List ℕ} {place : PartPlace} {out : List ℕ} {draft : Draft} {last : List ℕ} {r : Draft}
-    (g : Grant) (n : ℕ) (inside : Bool) → inside ≡ within g n → pieces.PutPart inside t place out draft last r
-    → PutPart (shown_part g n) t place out draft last r
+pub shown_as_within : {t : List ℕ} {place : PartPlace} {draft draft' : Draft}
+    (g : Grant) (n : ℕ) (inside : Bool) → inside ≡ within g n → pieces.PutPart inside t place draft draft'
+    → PutPart (shown_part g n) t place draft draft'
 shown_as_within g n inside e put b p a s =
     wrote_as (ap (λ (i : Bool). spell (part_records (shown i p))) e) (put b p a s)

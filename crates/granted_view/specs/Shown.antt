@@ -10,12 +10,12 @@ use Rattle.draft.specs.Drafts.{Wrote}
 use Rattle.grants.specs.View.{shown}
 
 -- the head of these bytes is written, its state shown as I
-abbrev pub PutHead : List ℕ → List ℕ → Draft → List ℕ → Draft → Type 0
-PutHead bytes out draft last r =
-    (h : Head) → head_bytes h ≡ bytes → Wrote (head_bytes (with_state 'I' h)) out draft last r
+abbrev pub PutHead : List ℕ → Draft → Draft → Type 0
+PutHead bytes draft draft' =
+    (h : Head) → head_bytes h ≡ bytes → Wrote (head_bytes (with_state 'I' h)) draft draft'
 
 -- the part at the place is written as the view shows it
-abbrev pub PutPart : Bool → List ℕ → PartPlace → List ℕ → Draft → List ℕ → Draft → Type 0
-PutPart inside t place out draft last r =
+abbrev pub PutPart : Bool → List ℕ → PartPlace → Draft → Draft → Type 0
+PutPart inside t place draft draft' =
     (b : List Part) (p : Part) (a : List Part) → PartStands t b p a place
-    → Wrote (spell (part_records (shown inside p))) out draft last r
+    → Wrote (spell (part_records (shown inside p))) draft draft'

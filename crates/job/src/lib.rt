@@ -44,10 +44,7 @@ fn answer_request(r: Request, s: &[u8], table: &mut [u8], n: usize, out: &mut [u
     let a = operations::perform(&table[..n], r, s, &mut result);
     let printed = lines::put_line(out, a);
     let length = keep(table, n, a, &result);
-    Step {
-        printed: printed,
-        length: length,
-    }
+    Step { printed, length }
 }
 
 // The last lines where the request at the offset `at` is unreadable.
@@ -73,17 +70,13 @@ fn put_requests(job: &[u8], n: usize, table: &mut [u8], out: &mut [u8]) -> usize
     let mut m = n;
     let mut k: usize = 0;
     while at < job.len() {
-        match requests::request_of(&job[at..]) {
-            Some(r) => {
-                let s = answer_request(r, &job[at..], table, m, &mut out[k..]);
-                k += s.printed;
-                m = s.length;
-                at += requests::size_of(r);
-            }
-            None => {
-                return k + put_unreadable(&mut out[k..], at, &table[..m]);
-            }
-        }
+        let Some(r) = requests::request_of(&job[at..]) else {
+            return k + put_unreadable(&mut out[k..], at, &table[..m]);
+        };
+        let step = answer_request(r, &job[at..], table, m, &mut out[k..]);
+        k += step.printed;
+        m = step.length;
+        at += r.size();
     }
     k + lines::put_table(&mut out[k..], &table[..m])
 }
@@ -107,7 +100,7 @@ fn put_answers(job: &[u8], n: usize, a: Answer, out: &mut [u8]) -> usize
 {
     match a {
         Answer::Accepted(_) => put_accepted(job, n, out),
-        Answer::Refused(k, at) => lines::put_line(out, Answer::Refused(k, at)),
+        Answer::Refused(_, _) => lines::put_line(out, a),
     }
 }
 

@@ -1,6 +1,6 @@
 -- The size of a record by its mark, and the walk to the first UE.
 use Prim.Native.Nat.{ℕ, zero, suc, ◌+◌, ◌-◌, ◌≤◌, ◌<◌}
-use mathlib.Core.Path.{◌≡◌, refl, sym, ap, ◌∙◌}
+use mathlib.Core.Path.{◌≡◌, refl, sym, ap, subst, ◌∙◌}
 use mathlib.Core.Bool.{Bool, true, false, cond, false≢true}
 use mathlib.Core.List.{List, [], ◌∷◌}
 use mathlib.Core.Option.{Option, none, some}
@@ -17,13 +17,18 @@ use Rattle.marks.specs.Marks.{marked, meaning, fixed_width}
 use Rattle.marks.specs.declared.Mark.{Mark}
 use Rattle.marks.proofs.MarkLaws.{fixed_or_text}
 use Rattle.requests.proofs.RequestLaws.{enough_yes, enough_not}
-use Rattle.job_table.specs.Sizes.{whole_of}
+use Rattle.std.specs.Prelude.{Option as RustOption, Some, None}
+use Rattle.job_table.specs.Sizes.{whole_of, SizeIs}
 
-pub whole_not : (n : ℕ) (s : List ℕ) → length s < n → 0 ≡ whole_of n s
+pub whole_zero : (n : ℕ) (s : List ℕ) → n ≡ 0 → whole_of n s ≡ 0
+unfolding whole_of enough
+whole_zero n s e = ap (λ (k : ℕ). whole_of k s) e
+
+pub whole_not : (n : ℕ) (s : List ℕ) → length s < n → whole_of n s ≡ 0
 unfolding whole_of
 whole_not n s h = rw (enough_not n s h) refl
 
-pub whole_yes : (n : ℕ) (s : List ℕ) → n ≤ length s → n ≡ whole_of n s
+pub whole_yes : (n : ℕ) (s : List ℕ) → n ≤ length s → whole_of n s ≡ n
 unfolding whole_of
 whole_yes n s h = rw (enough_yes n s h) refl
 
@@ -32,7 +37,7 @@ pub short_size : (m : Mark) (s : List ℕ) → length s < 4 → meaning m ≡ ma
 unfolding whole_size whole_of two_at
 short_size m s h e =
     fixed_or_text m s (ap (λ (n : ℕ). whole_of n s))
-    (λ x. ap (λ (n : Mark). whole_of (fixed_width n) s) x ∙ sym (whole_not 4 s (omega arith)) ∙ whole_not (4 + two_at s 2) s (omega arith)
+    (λ x. ap (λ (n : Mark). whole_of (fixed_width n) s) x ∙ whole_not 4 s (omega arith) ∙ sym (whole_not (4 + two_at s 2) s (omega arith))
     ∙ sym (ap (λ (n : Mark). whole_of (size_of (meaning n) s) s) x))
     ∙ ap (λ (k : parse.Mark). whole_of (size_of k s) s) e
 
@@ -51,6 +56,13 @@ unfolding is_UE
 end_short [] h = refl
 end_short (a ∷ []) h = refl
 end_short (a ∷ b ∷ s) h = absurd (omega arith)
+
+-- what was found
+pub none_found : (o : RustOption ℕ) (n : ℕ) → SizeIs o n → o ≡ None → n ≡ 0
+none_found o n s e = subst (λ (q : RustOption ℕ). SizeIs q n) e s
+
+pub size_found : (o : RustOption ℕ) (n k : ℕ) → SizeIs o n → o ≡ Some k → (n ≡ k) × (1 ≤ k)
+size_found o n k s e = subst (λ (q : RustOption ℕ). SizeIs q n) e s
 
 -- The walk from an offset on, with steps enough
 pub record Walk (job : List ℕ) (at : ℕ) : Type 0 where

@@ -3,22 +3,25 @@
 
 ghost use Rattle.std.specs.Prelude.{◌≡◌, ◌≤◌, length};
 ghost use Rattle.xliff.specs.Desk.{whole_size, is_UE, table_length};
-ghost use Rattle.job_table.specs.Sizes.{whole_of};
+ghost use Rattle.job_table.specs.Sizes.{whole_of, SizeIs};
 
-// `n`, if there are so many bytes, else 0.
-fn whole(t: &[u8], n: usize) -> usize
-    ensures { result ≡ whole_of n t.now }
+// The size `n`, if there are so many bytes. No record has no bytes.
+fn whole(t: &[u8], n: usize) -> Option<usize>
+    ensures { SizeIs result (whole_of n t.now) }
 {
-    if t.len() < n {
-        return 0;
+    if n == 0 {
+        return None;
     }
-    n
+    if t.len() < n {
+        return None;
+    }
+    Some(n)
 }
 
-// The size of the whole record at the head of `t`, by its mark alone; 0 where there is none.
+// The size of the whole record at the head of `t`, by its mark alone.
 // A text's length is read where four bytes are there; of fewer it is cut, whatever its length.
-fn record_size(t: &[u8]) -> usize
-    ensures { result ≡ whole_size t.now }
+fn record_size(t: &[u8]) -> Option<usize>
+    ensures { SizeIs result (whole_size t.now) }
 {
     if t.len() < 4 {
         return whole(t, marks::fixed_width(marks::mark_of(t)));
@@ -44,10 +47,9 @@ pub fn table_length(job: &[u8]) -> usize
         if is_end(&job[at..]) {
             return at + 2;
         }
-        let n = record_size(&job[at..]);
-        if n == 0 {
+        let Some(n) = record_size(&job[at..]) else {
             return job.len();
-        }
+        };
         at += n;
     }
     job.len()

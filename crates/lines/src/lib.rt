@@ -83,8 +83,7 @@ fn put_hex(out: &mut [u8], t: &[u8]) -> usize
     ensures { (result ≡ length (hex t.now)) × (out.new ≡ lead (hex t.now) out.old) × (result ≡ 2 * length t.now) }
 {
     let mut at: usize = 0;
-    for i in 0..t.len() {
-        let b = t[i];
+    for &b in t {
         let k = writer::put_byte(out, at, hex_digit(b / 16));
         at = writer::put_byte(out, k, hex_digit(b % 16));
     }

@@ -8,15 +8,15 @@ ghost use Rattle.outcomes.specs.Outcomes.{Answers};
 ghost use Rattle.requests.specs.Requests.{request_size, call_with};
 
 use answers::Answer;
-use requests::Request;
+use requests::{CONTENT_AT, Request};
 
 // The content stands in the middle of the job: it is handed on as that part of the slice.
 fn set_content(table: &[u8], part: u16, state: u8, s: &[u8], n: u16, out: &mut [u8]) -> Answer
     requires { 7 + n ≤ length s.now }
     ensures { Answers (set_target table.now part state (take n (drop 7 s.now)) (length out.old)) result out.old out.new }
 {
-    let e = 7 + n as usize;
-    set_target::set_target(table, part, state, &s[7..e], out)
+    let end = CONTENT_AT + usize::from(n);
+    set_target::set_target(table, part, state, &s[CONTENT_AT..end], out)
 }
 
 // The request `r` at the head of `s`, on an output of any length.
@@ -26,12 +26,19 @@ pub fn perform(table: &[u8], r: Request, s: &[u8], out: &mut [u8]) -> Answer
         out.old out.new }
 {
     match r {
-        Request::Split(part, source, target, id) => split::split(
-            table, part, source, target, id, out,
-        ),
-        Request::Join(part) => join::join(table, part, out),
-        Request::SetTarget(part, state, n) => set_content(table, part, state, s, n, out),
-        Request::RemoveTarget(part) => remove_target::remove_target(table, part, out),
-        Request::Rewrite(side, id, form) => rewrite::rewrite(table, side, id, form, out),
+        Request::Split {
+            part,
+            source_cut,
+            target_cut,
+            id,
+        } => split::split(table, part, source_cut, target_cut, id, out),
+        Request::Join { part } => join::join(table, part, out),
+        Request::SetTarget {
+            part,
+            state,
+            length,
+        } => set_content(table, part, state, s, length, out),
+        Request::RemoveTarget { part } => remove_target::remove_target(table, part, out),
+        Request::Rewrite { side, id, form } => rewrite::rewrite(table, side, id, form, out),
     }
 }

@@ -32,30 +32,29 @@ texts_behind text n (q ∷ b) p =
     ∙ sym (append_assoc (text n q) (part_texts text (suc n) b) (text (n + suc (length b)) p))
 
 -- the parts before an offset are written; part n is the next
-pub record PartsPut (text : ℕ → Part → List ℕ) (t first : List ℕ) (begun : Draft) (at n : ℕ) (out : List ℕ)
-    (draft : Draft) : Type 0 where
-  pub behind : List Part
-  pub ahead : List Part
-  pub walked : Walked t at behind ahead
-  pub number : n ≡ 1 + length behind
-  pub wrote : Wrote (part_texts text 1 behind) first begun out draft
+pub record PartsPut (text : ℕ → Part → List ℕ) (t : List ℕ) (begun : Draft) (at n : ℕ) (draft : Draft) : Type 0
+  where
+    pub behind : List Part
+    pub ahead : List Part
+    pub walked : Walked t at behind ahead
+    pub number : n ≡ 1 + length behind
+    pub wrote : Wrote (part_texts text 1 behind) begun draft
 
-pub put_start : (text : ℕ → Part → List ℕ) (t out : List ℕ) (draft : Draft) → Passes t → draft.used ≤ length out
-    → PartsPut text t out draft 3 1 out draft
+pub put_start : (text : ℕ → Part → List ℕ) (t : List ℕ) (draft : Draft) → Passes t → PartsPut text t draft 3 1 draft
 unfolding part_texts
-put_start text t out draft p h =
+put_start text t draft p =
     record {
       behind = [];
       ahead = (unit t).parts;
       walked = walked_start t p;
       number = omega arith;
-      wrote = wrote_nothing h;
+      wrote = wrote_nothing;
     }
 
-module _ {text : ℕ → Part → List ℕ} {t : List ℕ} (h : Passes t) {first : List ℕ} {begun : Draft} {at n : ℕ}
-    {out : List ℕ} {draft : Draft} (l : PartsPut text t first begun at n out draft) where
+module _ {text : ℕ → Part → List ℕ} {t : List ℕ} (h : Passes t) {begun : Draft} {at n : ℕ} {draft : Draft}
+    (l : PartsPut text t begun at n draft) where
   -- no part is ahead
-  pub put_end : is_part (read (drop at t)) ≡ false → Wrote (part_texts text 1 (unit t).parts) first begun out draft
+  pub put_end : is_part (read (drop at t)) ≡ false → Wrote (part_texts text 1 (unit t).parts) begun draft
   put_end e =
       wrote_as (ap (part_texts text 1) (sym (walked_all t h at l.behind l.ahead l.walked e))) l.wrote
 
@@ -97,9 +96,9 @@ module _ {text : ℕ → Part → List ℕ} {t : List ℕ} (h : Passes t) {first
             l.walked.offset,
           )
 
-      pub put_on : (out' : List ℕ) (draft' : Draft) → PutPart (text n) t place out draft out' draft'
-          → PartsPut text t first begun place.end (n + 1) out' draft'
-      put_on out' draft' put =
+      pub put_on : (draft' : Draft) → PutPart (text n) t place draft draft'
+          → PartsPut text t begun place.end (n + 1) draft'
+      put_on draft' put =
           let p = next.0 in
           let behind = ap (λ (k : ℕ). part_texts text 1 l.behind ++ text k p) l.number
           ∙ sym (texts_behind text 1 l.behind p) in

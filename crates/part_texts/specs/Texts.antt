@@ -12,6 +12,6 @@ part_texts text n [] = []
 part_texts text n (p ∷ ps) = text n p ++ part_texts text (suc n) ps
 
 -- the part at the place, whichever it is, is written by that rule
-abbrev pub PutPart : (Part → List ℕ) → List ℕ → PartPlace → List ℕ → Draft → List ℕ → Draft → Type 0
-PutPart text t place out draft last r =
-    (b : List Part) (p : Part) (a : List Part) → PartStands t b p a place → Wrote (text p) out draft last r
+abbrev pub PutPart : (Part → List ℕ) → List ℕ → PartPlace → Draft → Draft → Type 0
+PutPart text t place draft draft' =
+    (b : List Part) (p : Part) (a : List Part) → PartStands t b p a place → Wrote (text p) draft draft'

@@ -8,27 +8,56 @@ ghost use Rattle.xliff.specs.Calls.{SP, JN, ST, RT, RW};
 ghost use Rattle.xliff.specs.Desk.{lent, asked, request};
 ghost use Rattle.requests.specs.Requests.{request_size, Asks};
 
-// The numbers and letters of a request. Set target has the length of its content, which stands behind its first seven
-// bytes.
+// The bytes of a request by its mark; those of set target without its content, which stands behind them.
+const SPLIT_SIZE: usize = 10;
+
+const JOIN_SIZE: usize = 4;
+
+pub const CONTENT_AT: usize = 7;
+
+const REMOVE_SIZE: usize = 4;
+
+const REWRITE_SIZE: usize = 6;
+
+// The numbers and letters of a request. Set target has the length of its content.
 #[derive(Clone, Copy)]
 pub enum Request {
-    Split(u16, u16, u16, u16),
-    Join(u16),
-    SetTarget(u16, u8, u16),
-    RemoveTarget(u16),
-    Rewrite(u8, u16, u8),
+    Split {
+        part: u16,
+        source_cut: u16,
+        target_cut: u16,
+        id: u16,
+    },
+    Join {
+        part: u16,
+    },
+    SetTarget {
+        part: u16,
+        state: u8,
+        length: u16,
+    },
+    RemoveTarget {
+        part: u16,
+    },
+    Rewrite {
+        side: u8,
+        id: u16,
+        form: u8,
+    },
 }
 
-// The number of bytes of a request.
-pub fn size_of(r: Request) -> usize
-    ensures { result ≡ request_size r }
-{
-    match r {
-        Request::Split(_, _, _, _) => 10,
-        Request::Join(_) => 4,
-        Request::SetTarget(_, _, n) => 7 + marks::wide(n),
-        Request::RemoveTarget(_) => 4,
-        Request::Rewrite(_, _, _) => 6,
+impl Request {
+    // The number of bytes.
+    pub fn size(self) -> usize
+        ensures { result ≡ request_size self }
+    {
+        match self {
+            Request::Split { .. } => SPLIT_SIZE,
+            Request::Join { .. } => JOIN_SIZE,
+            Request::SetTarget { length, .. } => CONTENT_AT + usize::from(length),
+            Request::RemoveTarget { .. } => REMOVE_SIZE,
+            Request::Rewrite { .. } => REWRITE_SIZE,
+        }
     }
 }
 
@@ -37,24 +66,27 @@ fn split_of(s: &[u8]) -> Option<Request>
     ensures { Asks s.now result (asked s.now 10
         (SP (two_at s.now 2) (two_at s.now 4) (two_at s.now 6) (two_at s.now 8) lent)) }
 {
-    if s.len() < 10 {
+    if s.len() < SPLIT_SIZE {
         return None;
     }
-    let part = marks::number_at(s, 2);
-    let source = marks::number_at(s, 4);
-    let target = marks::number_at(s, 6);
-    let id = marks::number_at(s, 8);
-    Some(Request::Split(part, source, target, id))
+    Some(Request::Split {
+        part: marks::number_at(s, 2),
+        source_cut: marks::number_at(s, 4),
+        target_cut: marks::number_at(s, 6),
+        id: marks::number_at(s, 8),
+    })
 }
 
 // JN part
 fn join_of(s: &[u8]) -> Option<Request>
     ensures { Asks s.now result (asked s.now 4 (JN (two_at s.now 2) lent)) }
 {
-    if s.len() < 4 {
+    if s.len() < JOIN_SIZE {
         return None;
     }
-    Some(Request::Join(marks::number_at(s, 2)))
+    Some(Request::Join {
+        part: marks::number_at(s, 2),
+    })
 }
 
 // ST part, state, length, content
@@ -63,24 +95,30 @@ fn set_of(s: &[u8]) -> Option<Request>
         (asked s.now (7 + two_at s.now 5) (ST (two_at s.now 2) (get_or s.now 4 0)
         (take (two_at s.now 5) (drop 7 s.now)) lent)) none) }
 {
-    if s.len() < 7 {
+    if s.len() < CONTENT_AT {
         return None;
     }
-    let n = marks::number_at(s, 5);
-    if s.len() < 7 + marks::wide(n) {
+    let length = marks::number_at(s, 5);
+    if s.len() < CONTENT_AT + usize::from(length) {
         return None;
     }
-    Some(Request::SetTarget(marks::number_at(s, 2), s[4], n))
+    Some(Request::SetTarget {
+        part: marks::number_at(s, 2),
+        state: s[4],
+        length,
+    })
 }
 
 // RT part
 fn remove_of(s: &[u8]) -> Option<Request>
     ensures { Asks s.now result (asked s.now 4 (RT (two_at s.now 2) lent)) }
 {
-    if s.len() < 4 {
+    if s.len() < REMOVE_SIZE {
         return None;
     }
-    Some(Request::RemoveTarget(marks::number_at(s, 2)))
+    Some(Request::RemoveTarget {
+        part: marks::number_at(s, 2),
+    })
 }
 
 // RW side, id, form
@@ -88,10 +126,14 @@ fn rewrite_of(s: &[u8]) -> Option<Request>
     ensures { Asks s.now result (asked s.now 6
         (RW (get_or s.now 2 0) (two_at s.now 3) (get_or s.now 5 0) lent)) }
 {
-    if s.len() < 6 {
+    if s.len() < REWRITE_SIZE {
         return None;
     }
-    Some(Request::Rewrite(s[2], marks::number_at(s, 3), s[5]))
+    Some(Request::Rewrite {
+        side: s[2],
+        id: marks::number_at(s, 3),
+        form: s[5],
+    })
 }
 
 // The request at the head of `s`.

@@ -22,6 +22,7 @@ use Rattle.text.specs.declared.points.Points.{Points}
 use Rattle.table.specs.Known.{Known}
 use Rattle.table.specs.Meaning.{item, meaning, body}
 use Rattle.table.specs.declared.Item.{Item}
+use Rattle.table.specs.declared.Record.{Record}
 use Rattle.table.specs.declared.Record.TheVariants.{Unit as UnitStart, UnitEnd, Segment, Ignorable, Target, Text, Inline}
 use Rattle.table.specs.declared.Read.{Read}
 use Rattle.table.specs.declared.Read.TheVariants.{Good, Ill, Broken}
@@ -291,3 +292,9 @@ pub known_next : (c : List ℕ) (at left : ℕ) (xs : Content) → Ahead c at le
 known_next c at left xs m h l r k =
     let z : left ≡ 0 = omega arith in
     (z, read_next c at xs (subst (λ (n : ℕ). Ahead c at n xs) z m) l r k)
+
+-- it is a good record
+pub good_next : (c : List ℕ) (at : ℕ) (r : Read) → ReadNext c at r → ((x : Record) (w : ℕ) → r ≡ Good x w → ⊥) → ⊥
+good_next c at (Good x w) n other = other x w refl
+good_next c at Ill n other = n
+good_next c at (Broken b) n other = n

@@ -24,40 +24,31 @@ use Rattle.sheet.specs.Column.{cell, shown, shown_all, fits, column_cells}
 use Rattle.sheet.proofs.Widths.{shown_within}
 use Rattle.sheet_columns.specs.declared.Filling.{Filling}
 use Rattle.sheet_columns.specs.Taken.{taken, untaken, Ends, next_row}
-use Rattle.sheet_columns.specs.Filled.{Ahead, Going, goes_on, Step, Filled, TextNext, ItemNext, entered, RowItems, PutItems, RowPut}
+use Rattle.sheet_columns.specs.Filled.{Ahead, SomeAhead, Going, goes_on, Step, Filled, TextNext, ItemNext, RowItems, PutRow}
 use Rattle.sheet_columns.proofs.TakenLaws.{takes_fitting, ends_full, ends_over, ends_filled, takes_points}
 use Rattle.sheet_columns.proofs.CursorLaws.{Run, run, ahead_end}
-use Rattle.sheet_columns.proofs.ByteLaws.{text_cells, text_long, bytes_long, item_bytes}
+use Rattle.sheet_columns.proofs.ByteLaws.{text_cells, text_long, item_bytes}
 
 -- code points of a text
 module _ (c : List ℕ) (f : Filling) (p : Points)
-    (passes : PassedOver (take (f.at + f.left - f.at) (drop f.at c)) f.room p) where
-  the_run : (xs : Content) → Ahead c f.at f.left xs → Run c f.at f.left f.room p xs
-  the_run xs m = run c f.at f.left xs m f.room p passes
+    (passes : PassedOver (take (f.next.at + f.next.left - f.next.at) (drop f.next.at c)) f.room p) where
+  the_run : (xs : Content) → Ahead c f.next.at f.next.left xs → Run c f.next.at f.next.left f.room p xs
+  the_run xs m = run c f.next.at f.next.left xs m f.room p passes
 
-  -- they have at most four bytes for each cell
-  pub points_fit : (xs : Content) → Ahead c f.at f.left xs → f.room ≤ 33
-      → (p.bytes ≤ f.left) × (length (take (f.at + p.bytes - f.at) (drop f.at c)) ≤ 132)
-  points_fit xs m h =
-      let r = the_run xs m in
-      let few = length-take f.room r.points in
-      let long : length (take (f.at + p.bytes - f.at) (drop f.at c)) ≡ length (utf8s (take f.room r.points))
-      = ap length r.shown in
-      (r.fits, omega (arith, long, few, bytes_long (take f.room r.points)))
+  pub points_fit : (xs : Content) → Ahead c f.next.at f.next.left xs → p.bytes ≤ f.next.left
+  points_fit xs m = (the_run xs m).fits
 
-  module _ (out last : List ℕ) (d : Draft)
-      (w : Wrote (map cell (take (f.at + p.bytes - f.at) (drop f.at c))) out f.draft last d) where
+  module _ (more : f.full ≡ false) (draft draft' : Draft)
+      (w : Wrote (map cell (take (f.next.at + p.bytes - f.next.at) (drop f.next.at c))) draft draft') where
     abbrev behind : Filling
     behind =
         record {
-          at = f.at + p.bytes;
-          left = f.at + f.left - (f.at + p.bytes);
+          next = record { at = f.next.at + p.bytes; left = f.next.at + f.next.left - (f.next.at + p.bytes) };
           room = p.left;
-          full = false;
-          draft = d;
+          full = f.full;
         }
 
-    points_step : (xs : Content) → Ahead c f.at f.left xs → Step c f out behind last xs
+    points_step : (xs : Content) → Ahead c f.next.at f.next.left xs → Step c f draft behind draft' xs
     points_step xs m =
         let r = the_run xs m in
         let cs = r.points in
@@ -73,30 +64,30 @@ module _ (c : List ℕ) (f : Filling) (p : Points)
           leaves = ap (untaken k) r.all ∙ u ∙ ap (λ (n : ℕ). untaken n after) left;
           cells = omega (arith, text_long (take k cs), length-take k cs, r.room);
           wrote = wrote_as (ap (map cell) r.shown ∙ text_cells (take k cs)) w;
-          ended = λ e. absurd (true≢false (sym e));
+          ended = λ e. absurd (true≢false (sym e ∙ more));
         }
 
-    pub points_filled : (xs : Content) → Ahead c f.at f.left xs → 0 < f.left → 0 < f.room
-        → Filled c f out behind last
+    pub points_filled : (xs : Content) → Ahead c f.next.at f.next.left xs → 0 < f.next.left → 0 < f.room
+        → Filled c f draft behind draft'
     points_filled xs m h k =
         let some = (the_run xs m).some h k in (
-          record { onward = λ e. omega arith; stays = λ e. absurd (true≢false (sym e)) },
+          record { onward = λ e. omega arith; stays = λ e. absurd (true≢false (sym e ∙ more)) },
           points_step,
         )
 
 -- an item that is no text
-module _ (c : List ℕ) (f : Filling) (out : List ℕ) (z : f.left ≡ 0) (i : Item) (w : ℕ)
-    (next : ItemNext c f.at i w) where
-  from_record : (xs : Content) → Ahead c f.at f.left xs → Ahead c f.at 0 xs
-  from_record xs m = subst (λ (n : ℕ). Ahead c f.at n xs) z m
+module _ (c : List ℕ) (f : Filling) (more : f.full ≡ false) (z : f.next.left ≡ 0) (i : Item) (w : ℕ)
+    (next : ItemNext c f.next.at i w) (draft : Draft) where
+  from_record : (xs : Content) → Ahead c f.next.at f.next.left xs → Ahead c f.next.at 0 xs
+  from_record xs m = subst (λ (n : ℕ). Ahead c f.next.at n xs) z m
 
   -- it fits
   module _ (n : ℕ) (cells : n ≡ length (shown (item i))) where
-    module _ (h : n ≤ f.room) (last : List ℕ) (d : Draft) (wrote : Wrote (shown (item i)) out f.draft last d) where
+    module _ (h : n ≤ f.room) (draft' : Draft) (wrote : Wrote (shown (item i)) draft draft') where
       abbrev past : Filling
-      past = record { at = f.at + w; left = 0; room = f.room - n; full = false; draft = d }
+      past = record { next = record { at = f.next.at + w; left = f.next.left }; room = f.room - n; full = f.full }
 
-      item_step : (xs : Content) → Ahead c f.at f.left xs → Step c f out past last xs
+      item_step : (xs : Content) → Ahead c f.next.at f.next.left xs → Step c f draft past draft' xs
       unfolding shown_all gather fits
       item_step xs m =
           let t = next.then xs (from_record xs m) in
@@ -107,24 +98,24 @@ module _ (c : List ℕ) (f : Filling) (out : List ℕ) (z : f.left ≡ 0) (i : I
           record {
             took = x ∷ [];
             after = t.others;
-            ahead = t.ahead;
+            ahead = subst (λ (k : ℕ). Ahead c (f.next.at + w) k t.others) (sym z) t.ahead;
             takes = ap (taken f.room) t.all ∙ a ∙ ap (λ (k : ℕ). x ∷ taken k t.others) left;
             leaves = ap (untaken f.room) t.all ∙ b ∙ ap (λ (k : ℕ). untaken k t.others) left;
             cells = omega (arith, cells, length-append (shown x) []);
             wrote = wrote_as (sym (ap utf8s (append-nil (shown x)) ∙ item_bytes i)) wrote;
-            ended = λ e. absurd (true≢false (sym e));
+            ended = λ e. absurd (true≢false (sym e ∙ more));
           }
 
-      pub item_filled : Filled c f out past last
+      pub item_filled : Filled c f draft past draft'
       item_filled =
-          (record { onward = λ e. omega (arith, next.wide); stays = λ e. absurd (true≢false (sym e)) }, item_step)
+          (record { onward = λ e. omega (arith, next.wide); stays = λ e. absurd (true≢false (sym e ∙ more)) }, item_step)
 
     -- it does not, and nothing is taken
-    module _ (h : f.room < n) (inside : f.draft.used ≤ length out) where
+    module _ (h : f.room < n) where
       abbrev full : Filling
-      full = record { at = f.at; left = 0; room = f.room; full = true; draft = f.draft }
+      full = record { next = f.next; room = f.room; full = true }
 
-      full_step : (xs : Content) → Ahead c f.at f.left xs → Step c f out full out xs
+      full_step : (xs : Content) → Ahead c f.next.at f.next.left xs → Step c f draft full draft xs
       unfolding shown_all gather utf8s fits
       full_step xs m =
           let t = next.then xs (from_record xs m) in
@@ -133,34 +124,37 @@ module _ (c : List ℕ) (f : Filling) (out : List ℕ) (z : f.left ≡ 0) (i : I
           record {
             took = [];
             after = xs;
-            ahead = from_record xs m;
+            ahead = m;
             takes = refl;
             leaves = refl;
             cells = omega arith;
-            wrote = wrote_nothing inside;
+            wrote = wrote_nothing;
             ended = λ e. subst (Ends f.room) (sym t.all) (ends_full f.room x t.others over);
           }
 
-      pub full_filled : Filled c f out full out
+      pub full_filled : Filled c f draft full draft
       full_filled =
           let few = shown_within (item i) in
           (record { onward = λ e. absurd (true≢false e); stays = λ e. (refl, refl, omega (arith, cells)) }, full_step)
 
 -- a text that is entered: nothing of it is taken yet
-pub entered_filled : (c : List ℕ) (f : Filling) (out : List ℕ) → f.left ≡ 0 → (w : ℕ) → TextNext c f.at w
-    → f.draft.used ≤ length out → Filled c f out (entered f w) out
+abbrev pub entered : Filling → ℕ → Filling
+entered f w = record { next = record { at = f.next.at + 4; left = w - 4 }; room = f.room; full = f.full }
+
+pub entered_filled : (c : List ℕ) (f : Filling) (draft : Draft) → f.full ≡ false → f.next.left ≡ 0 → (w : ℕ)
+    → TextNext c f.next.at w → Filled c f draft (entered f w) draft
 unfolding shown_all gather utf8s
-entered_filled c f out z w next inside = (
-  record { onward = λ e. omega arith; stays = λ e. absurd (true≢false (sym e)) },
+entered_filled c f draft more z w next = (
+  record { onward = λ e. omega arith; stays = λ e. absurd (true≢false (sym e ∙ more)) },
   λ xs m. record {
     took = [];
     after = xs;
-    ahead = next.then xs (subst (λ (n : ℕ). Ahead c f.at n xs) z m);
+    ahead = next.then xs (subst (λ (n : ℕ). Ahead c f.next.at n xs) z m);
     takes = refl;
     leaves = refl;
     cells = omega arith;
-    wrote = wrote_nothing inside;
-    ended = λ e. absurd (true≢false (sym e));
+    wrote = wrote_nothing;
+    ended = λ e. absurd (true≢false (sym e ∙ more));
   },
 )
 
@@ -169,10 +163,10 @@ shown_then : (xs ys : Content) → shown_all (xs ++ ys) ≡ shown_all xs ++ show
 unfolding shown_all
 shown_then xs ys = gather_append shown xs ys
 
-step_then : (c : List ℕ) (f : Filling) (out : List ℕ) (g : Filling) (mid : List ℕ) (r : Filling) (last : List ℕ)
+step_then : (c : List ℕ) (f : Filling) (first : Draft) (g : Filling) (mid : Draft) (r : Filling) (last : Draft)
     (xs : Content)
-    → (s : Step c f out g mid xs) → Step c g mid r last s.after → Step c f out r last xs
-step_then c f out g mid r last xs s t =
+    → (s : Step c f first g mid xs) → Step c g mid r last s.after → Step c f first r last xs
+step_then c f first g mid r last xs s t =
     let a = s.took in
     let b = t.took in
     let both : shown_all (a ++ b) ≡ shown_all a ++ shown_all b = shown_then a b in
@@ -190,20 +184,19 @@ step_then c f out g mid r last xs s t =
 
 -- what a loop measures: the bytes ahead, none where the row is full
 abbrev pub bytes_left : List ℕ → Filling → ℕ
-bytes_left c f = cond f.full 0 (suc (length c - f.at))
+bytes_left c f = cond f.full 0 (suc (length c - f.next.at))
 
 -- The loop: a row so far
-pub record SoFar (c : List ℕ) (begun : Filling) (out : List ℕ) (f : Filling) (last : List ℕ) : Type 0 where
-  pub forth : begun.at ≤ f.at
-  pub further : f.room < column_cells → begun.at < f.at
+pub record SoFar (c : List ℕ) (begun : Filling) (first : Draft) (f : Filling) (draft : Draft) : Type 0 where
+  pub forth : begun.next.at ≤ f.next.at
+  pub further : f.room < column_cells → begun.next.at < f.next.at
   pub full : f.full ≡ true → f.room < column_cells
-  pub steps : (xs : Content) → Ahead c begun.at begun.left xs → Step c begun out f last xs
+  pub steps : (xs : Content) → Ahead c begun.next.at begun.next.left xs → Step c begun first f draft xs
 
-pub so_far_start : (c : List ℕ) (begun : Filling) (out : List ℕ) → Going c begun out → begun.room ≡ 33
-    → begun.full ≡ false
-    → SoFar c begun out begun out
+pub so_far_start : (c : List ℕ) (begun : Filling) (draft : Draft) → begun.room ≡ 33 → begun.full ≡ false
+    → SoFar c begun draft begun draft
 unfolding shown_all gather utf8s
-so_far_start c begun out (s, room, inside) all more =
+so_far_start c begun draft all more =
     record {
       forth = omega arith;
       further = λ h. absurd (let z : ⊥ = omega arith in z);
@@ -215,7 +208,7 @@ so_far_start c begun out (s, room, inside) all more =
         takes = refl;
         leaves = refl;
         cells = omega arith;
-        wrote = wrote_nothing inside;
+        wrote = wrote_nothing;
         ended = λ e. absurd (true≢false (sym e ∙ more));
       };
     }
@@ -226,25 +219,22 @@ and_apart true true false e = absurd (true≢false (sym e))
 and_apart true false c e = absurd (true≢false (sym e))
 and_apart false b c e = absurd (true≢false (sym e))
 
-pub more_room : (f : Filling) (n : ℕ) → goes_on f n ≡ true → (f.full ≡ false) × (0 < f.room) × (f.at < n)
+pub more_room : (f : Filling) (n : ℕ) → goes_on f n ≡ true → (f.full ≡ false) × (0 < f.room) × (f.next.at < n)
 more_room f n e =
-    let (a, b, d) = and_apart (not f.full) (ltb 0 f.room) (ltb f.at n) e in
-    (not-true f.full a, ltb-true 0 f.room b, ltb-true f.at n d)
+    let (a, b, d) = and_apart (not f.full) (ltb 0 f.room) (ltb f.next.at n) e in
+    (not-true f.full a, ltb-true 0 f.room b, ltb-true f.next.at n d)
 
-module _ (c : List ℕ) (begun : Filling) (out : List ℕ) (f : Filling) (last : List ℕ) (going : Going c begun out)
-    (s : SoFar c begun out f last) where
+module _ (c : List ℕ) (begun : Filling) (first : Draft) (f : Filling) (draft : Draft) (some : SomeAhead c begun.next)
+    (s : SoFar c begun first f draft) where
   -- a step that it can go on with
-  so_far : Step c begun out f last going.0.0
-  so_far = s.steps going.0.0 going.0.1
+  so_far : Step c begun first f draft some.0
+  so_far = s.steps some.0 some.1
 
-  pub goes : Going c f last
-  goes = ((so_far.after, so_far.ahead), omega (arith, so_far.cells, going.1), so_far.wrote.inside)
-
-  pub room_kept : length last ≡ length out
-  room_kept = so_far.wrote.room
+  pub goes : f.full ≡ false → Going c f
+  goes more = ((so_far.after, so_far.ahead), more)
 
   -- one step more
-  pub so_far_on : (r : Filling) (next : List ℕ) → Filled c f last r next → SoFar c begun out r next
+  pub so_far_on : (r : Filling) (next : Draft) → Filled c f draft r next → SoFar c begun first r next
   so_far_on r next (moved, steps) =
       record {
         forth = by r.full refl;
@@ -252,14 +242,14 @@ module _ (c : List ℕ) (begun : Filling) (out : List ℕ) (f : Filling) (last :
         full = λ e. (moved.stays e).2;
         steps = λ xs m.
             let t = s.steps xs m in
-            step_then c begun out f last r next xs t (steps t.after t.ahead);
+            step_then c begun first f draft r next xs t (steps t.after t.ahead);
       }
     where
-      by : (b : Bool) → r.full ≡ b → begun.at ≤ r.at
+      by : (b : Bool) → r.full ≡ b → begun.next.at ≤ r.next.at
       by true e = omega (arith, (moved.stays e).0, s.forth)
       by false e = omega (arith, moved.onward e, s.forth)
 
-      on : (b : Bool) → r.full ≡ b → r.room < column_cells → begun.at < r.at
+      on : (b : Bool) → r.full ≡ b → r.room < column_cells → begun.next.at < r.next.at
       on true e h =
           let (there, room, less) = moved.stays e in
           let z = s.further (omega (arith, room)) in
@@ -267,34 +257,34 @@ module _ (c : List ℕ) (begun : Filling) (out : List ℕ) (f : Filling) (last :
       on false e h = omega (arith, moved.onward e, s.forth)
 
   -- the bytes that are left fall, or the row is full
-  pub falls : (r : Filling) (next : List ℕ) → Filled c f last r next → goes_on f (length c) ≡ true
+  pub falls : (r : Filling) (next : Draft) → Filled c f draft r next → goes_on f (length c) ≡ true
       → bytes_left c r < bytes_left c f
   falls r next (moved, steps) e = by f.full r.full refl refl
     where
       by : (a b : Bool) → f.full ≡ a → r.full ≡ b
-          → cond b 0 (suc (length c - r.at)) < cond a 0 (suc (length c - f.at))
+          → cond b 0 (suc (length c - r.next.at)) < cond a 0 (suc (length c - f.next.at))
       by true b x y = absurd (true≢false (sym x ∙ (more_room f (length c) e).0))
       by false true x y = omega arith
       by false false x y = omega (arith, moved.onward y, (more_room f (length c) e).2)
 
   -- nothing more is taken
   module _ (e : goes_on f (length c) ≡ false) where
-    ends : (xs : Content) → Ahead c f.at f.left xs → (f.full ≡ true → Ends f.room xs) → Ends f.room xs
-    ends xs m ended = by f.full refl (ltb 0 f.room) refl (ltb f.at (length c)) refl
+    ends : (xs : Content) → Ahead c f.next.at f.next.left xs → (f.full ≡ true → Ends f.room xs) → Ends f.room xs
+    ends xs m ended = by f.full refl (ltb 0 f.room) refl (ltb f.next.at (length c)) refl
       where
-        by : (a : Bool) → f.full ≡ a → (b : Bool) → ltb 0 f.room ≡ b → (d : Bool) → ltb f.at (length c) ≡ d
+        by : (a : Bool) → f.full ≡ a → (b : Bool) → ltb 0 f.room ≡ b → (d : Bool) → ltb f.next.at (length c) ≡ d
             → Ends f.room xs
         by true x b y d z = ended x
         by false x false y d z =
             let none : 0 ≡ f.room = omega (arith, ltb-false 0 f.room y) in
             subst (λ (n : ℕ). Ends n xs) none (ends_filled xs)
         by false x true y false z =
-            let over : xs ≡ [] = ahead_end c f.at f.left xs m (ltb-false f.at (length c) z) in
+            let over : xs ≡ [] = ahead_end c f.next.at f.next.left xs m (ltb-false f.next.at (length c) z) in
             subst (Ends f.room) (sym over) (ends_over f.room)
         by false x true y true z = absurd (true≢false (sym (rw (x, y, z) refl) ∙ e))
 
-    row_items : begun.room ≡ 33 → (xs : Content) → Ahead c begun.at begun.left xs
-        → RowItems c begun out f last xs
+    row_items : begun.room ≡ 33 → (xs : Content) → Ahead c begun.next.at begun.next.left xs
+        → RowItems c first f draft xs
     row_items all xs m =
         let t = s.steps xs m in
         let (a, b) = ends t.after t.ahead t.ended in
@@ -306,32 +296,32 @@ module _ (c : List ℕ) (begun : Filling) (out : List ℕ) (f : Filling) (last :
         record {
           cells = ap (λ (l : Content). length (shown_all l) + f.room) took ∙ t.cells ∙ all;
           wrote = wrote_as (ap (λ (l : Content). utf8s (shown_all l)) (sym took)) t.wrote;
-          ahead = subst (Ahead c f.at f.left) (sym leaves) t.ahead;
+          ahead = subst (Ahead c f.next.at f.next.left) (sym leaves) t.ahead;
         }
 
-    further : begun.at < length c → begun.at < f.at
-    further h = by f.full refl (ltb 0 f.room) refl (ltb f.at (length c)) refl
+    further : begun.next.at < length c → begun.next.at < f.next.at
+    further h = by f.full refl (ltb 0 f.room) refl (ltb f.next.at (length c)) refl
       where
-        by : (a : Bool) → f.full ≡ a → (b : Bool) → ltb 0 f.room ≡ b → (d : Bool) → ltb f.at (length c) ≡ d
-            → begun.at < f.at
+        by : (a : Bool) → f.full ≡ a → (b : Bool) → ltb 0 f.room ≡ b → (d : Bool) → ltb f.next.at (length c) ≡ d
+            → begun.next.at < f.next.at
         by true x b y d z = s.further (s.full x)
         by false x false y d z = s.further (omega (arith, ltb-false 0 f.room y))
-        by false x true y false z = omega (arith, ltb-false f.at (length c) z)
+        by false x true y false z = omega (arith, ltb-false f.next.at (length c) z)
         by false x true y true z = absurd (true≢false (sym (rw (x, y, z) refl) ∙ e))
 
-    pub row_done : begun.room ≡ 33 → PutItems c begun out f last
-    row_done all = (s.forth, further, row_items all)
-
--- the padding
-pub row_put : (c : List ℕ) (begun : Filling) (out : List ℕ) (f : Filling) (mid : List ℕ) (xs : Content)
-    → RowItems c begun out f mid xs
-    → (last : List ℕ) (d : Draft) → Wrote (replicate f.room blank) mid f.draft last d
-    → RowPut c out begun.draft last (record { next = record { at = f.at; left = f.left }; draft = d }) xs
-unfolding next_row
-row_put c begun out f mid xs r last d w =
-    let s = shown_all (taken column_cells xs) in
-    let room : f.room ≡ column_cells - length s = omega (arith, r.cells) in
-    record {
-      wrote = wrote_as (ap (λ (n : ℕ). utf8s s ++ replicate n blank) room) (wrote_then r.wrote w);
-      ahead = r.ahead;
-    }
+    -- and the padding
+    pub row_put : begun.room ≡ 33 → (last : Draft) → Wrote (replicate f.room blank) draft last
+        → PutRow c begun.next first last f.next
+    unfolding next_row
+    row_put all last w = (
+      s.forth,
+      further,
+      λ xs m.
+          let r = row_items all xs m in
+          let shown = shown_all (taken column_cells xs) in
+          let room : f.room ≡ column_cells - length shown = omega (arith, r.cells) in
+          record {
+            wrote = wrote_as (ap (λ (n : ℕ). utf8s shown ++ replicate n blank) room) (wrote_then r.wrote w);
+            ahead = r.ahead;
+          },
+    )

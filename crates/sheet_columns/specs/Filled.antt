@@ -17,7 +17,6 @@ use Rattle.draft.specs.Drafts.{Wrote}
 use Rattle.sheet.specs.Column.{shown_all, column_cells}
 use Rattle.sheet_columns.specs.declared.Cursor.{Cursor}
 use Rattle.sheet_columns.specs.declared.Filling.{Filling}
-use Rattle.sheet_columns.specs.declared.Row.{Row}
 use Rattle.sheet_columns.specs.Taken.{taken, untaken, Ends, next_row}
 
 -- the items ahead of an offset of a content: the code points in the bytes left of a text, then records
@@ -36,31 +35,31 @@ abbrev pub SomeAhead : List ℕ → Cursor → Type 0
 SomeAhead c k = (xs : Content) × Ahead c k.at k.left xs
 
 -- a row can be filled on
-abbrev pub Going : List ℕ → Filling → List ℕ → Type 0
-Going c f out =
-    ((xs : Content) × Ahead c f.at f.left xs) × (f.room ≤ column_cells) × (f.draft.used ≤ length out)
+abbrev pub Going : List ℕ → Filling → Type 0
+Going c f = SomeAhead c f.next × (f.full ≡ false)
 
 abbrev pub goes_on : Filling → ℕ → Bool
-goes_on f n = not f.full && (ltb 0 f.room && ltb f.at n)
+goes_on f n = not f.full && (ltb 0 f.room && ltb f.next.at n)
 
 -- from one row begun to another: items taken, shown and written
-pub record Step (c : List ℕ) (f : Filling) (out : List ℕ) (r : Filling) (last : List ℕ) (xs : Content) : Type 0 where
+pub record Step (c : List ℕ) (f : Filling) (draft : Draft) (r : Filling) (draft' : Draft) (xs : Content) : Type 0 where
   pub took : Content
   pub after : Content
-  pub ahead : Ahead c r.at r.left after
+  pub ahead : Ahead c r.next.at r.next.left after
   pub takes : taken f.room xs ≡ took ++ taken r.room after
   pub leaves : untaken f.room xs ≡ untaken r.room after
   pub cells : length (shown_all took) + r.room ≡ f.room
-  pub wrote : Wrote (utf8s (shown_all took)) out f.draft last r.draft
+  pub wrote : Wrote (utf8s (shown_all took)) draft draft'
   pub ended : r.full ≡ true → Ends r.room after
 
 -- the content goes on behind what was taken; or nothing was, and that in a row with something in it
 pub record Moved (f r : Filling) : Type 0 where
-  pub onward : r.full ≡ false → f.at < r.at
-  pub stays : r.full ≡ true → (r.at ≡ f.at) × (r.room ≡ f.room) × (r.room < column_cells)
+  pub onward : r.full ≡ false → f.next.at < r.next.at
+  pub stays : r.full ≡ true → (r.next.at ≡ f.next.at) × (r.room ≡ f.room) × (r.room < column_cells)
 
-abbrev pub Filled : List ℕ → Filling → List ℕ → Filling → List ℕ → Type 0
-Filled c f out r last = Moved f r × ((xs : Content) → Ahead c f.at f.left xs → Step c f out r last xs)
+abbrev pub Filled : List ℕ → Filling → Draft → Filling → Draft → Type 0
+Filled c f draft r draft' =
+    Moved f r × ((xs : Content) → Ahead c f.next.at f.next.left xs → Step c f draft r draft' xs)
 
 -- a text comes next, so wide with its head; or another item
 pub record TextNext (c : List ℕ) (at w : ℕ) : Type 0 where
@@ -93,28 +92,18 @@ ReadNext c at (Good x w) = RecordNext c at x w
 ReadNext c at Ill = ⊥
 ReadNext c at (Broken b) = ⊥
 
--- a text is entered
-abbrev pub entered : Filling → ℕ → Filling
-entered f w = record { at = f.at + 4; left = w - 4; room = f.room; full = false; draft = f.draft }
-
 -- all that fits is taken
-pub record RowItems (c : List ℕ) (f : Filling) (out : List ℕ) (r : Filling) (last : List ℕ) (xs : Content) : Type 0
-  where
-    pub cells : length (shown_all (taken column_cells xs)) + r.room ≡ column_cells
-    pub wrote : Wrote (utf8s (shown_all (taken column_cells xs))) out f.draft last r.draft
-    pub ahead : Ahead c r.at r.left (untaken column_cells xs)
-
-abbrev pub PutItems : List ℕ → Filling → List ℕ → Filling → List ℕ → Type 0
-PutItems c f out r last =
-    (f.at ≤ r.at) × (f.at < length c → f.at < r.at)
-    × ((xs : Content) → Ahead c f.at f.left xs → RowItems c f out r last xs)
-
--- the next row of a column is written
-pub record RowPut (c : List ℕ) (out : List ℕ) (draft : Draft) (last : List ℕ) (r : Row) (xs : Content) : Type 0 where
-  pub wrote : Wrote (next_row xs) out draft last r.draft
+pub record RowItems (c : List ℕ) (draft : Draft) (r : Filling) (draft' : Draft) (xs : Content) : Type 0 where
+  pub cells : length (shown_all (taken column_cells xs)) + r.room ≡ column_cells
+  pub wrote : Wrote (utf8s (shown_all (taken column_cells xs))) draft draft'
   pub ahead : Ahead c r.next.at r.next.left (untaken column_cells xs)
 
-abbrev pub PutRow : List ℕ → Cursor → List ℕ → Draft → List ℕ → Row → Type 0
-PutRow c from out draft last r =
-    (from.at ≤ r.next.at) × (from.at < length c → from.at < r.next.at)
-    × ((xs : Content) → Ahead c from.at from.left xs → RowPut c out draft last r xs)
+-- the next row of a column is written
+pub record RowPut (c : List ℕ) (draft draft' : Draft) (next : Cursor) (xs : Content) : Type 0 where
+  pub wrote : Wrote (next_row xs) draft draft'
+  pub ahead : Ahead c next.at next.left (untaken column_cells xs)
+
+abbrev pub PutRow : List ℕ → Cursor → Draft → Draft → Cursor → Type 0
+PutRow c from draft draft' next =
+    (from.at ≤ next.at) × (from.at < length c → from.at < next.at)
+    × ((xs : Content) → Ahead c from.at from.left xs → RowPut c draft draft' next xs)

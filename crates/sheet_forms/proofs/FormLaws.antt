@@ -3,16 +3,16 @@ use Prim.Native.Nat.{ℕ, zero, suc, ◌+◌, ◌-◌, ◌<◌, ◌≤◌}
 use native.Mathlib.Omega.{arith}
 use native.Mathlib.Numerals.{add-one}
 use mathlib.Core.Path.{◌≡◌, refl, sym, ap, ap₂, ◌∙◌}
-use mathlib.Core.Bool.{Bool, ◌||◌, cond}
+use mathlib.Core.Bool.{Bool, true, false}
 use mathlib.Core.List.{List, [], ◌∷◌, ◌++◌, map, append-nil}
-use lib.ListN.{length, take, get_or, set, replicate}
-use lib.Seq.{take-suc, take-suc-set, take_all}
+use lib.ListN.{length, take, get_or, replicate}
+use lib.Seq.{take-suc, take_all}
 use lib.Dec.{eqb}
-use borrow.Author.Tests.{eq-eqb, ne_eqb}
+use borrow.Author.Tests.{eq-eqb, ne_eqb, eqb-false}
 use Rattle.xliff.specs.Bytes.{among}
 use Rattle.xliff.specs.Item.{Fields, Half, start, end, Form, isolated, pair}
 use Rattle.xliff.specs.Desk.{decimal, blank}
-use Rattle.xliff.proofs.lists.Tests.{or_none, map-append}
+use Rattle.xliff.proofs.lists.Tests.{map-append}
 use Rattle.sheet.specs.Column.{full_stop, cell, shown}
 use Rattle.sheet.specs.Sheet.{id_cells, right_aligned, padded}
 use Rattle.sheet_forms.specs.Forms.{half_form}
@@ -28,28 +28,41 @@ unfolding shown
 pair_shown start w f = refl
 pair_shown end w f = refl
 
--- the code's test of a byte, and its cell
-pub cell_by : (b : ℕ) (dotted : Bool) → eqb b 9 || (eqb b 10 || eqb b 13) ≡ dotted → cond dotted full_stop b ≡ cell b
+-- a tab or a line feed, and a byte that is neither nor a return
+pub tab_or_feed : (b : ℕ) → 9 ≤ b → b ≤ 10 → full_stop ≡ cell b
 unfolding cell among
-cell_by b dotted e = rw (or_none (eqb b 13)) (ap (λ (t : Bool). cond t full_stop b) (sym e))
+tab_or_feed b h k = by (eqb b 9) refl
+  where
+    by : (nine : Bool) → eqb b 9 ≡ nine → full_stop ≡ cell b
+    by true e = rw e
+    by false e = rw (e, eq-eqb b 10 (let n = eqb-false b 9 e in omega arith))
+
+pub other_cell : (b : ℕ) → (b ≡ 9 → ⊥) → (b ≡ 10 → ⊥) → (b ≡ 13 → ⊥) → b ≡ cell b
+unfolding cell among
+other_cell b h k l = rw (ne_eqb b 9 h, ne_eqb b 10 k, ne_eqb b 13 l)
 
 -- the cell of the next byte of a text
-pub text_more : (text cells : List ℕ) (i b : ℕ) → i < length text → i < length cells → b ≡ cell (get_or text i 0)
-    → take i cells ≡ map cell (take i text) → take (i + 1) (set cells i b) ≡ map cell (take (i + 1) text)
-text_more text cells i b h k e so_far =
-    rw (add-one, take-suc-set cells i b k, take-suc text i 0 h, map-append cell (take i text) (get_or text i 0 ∷ []))
-    (ap₂ (λ (p : List ℕ) (x : ℕ). p ++ (x ∷ [])) so_far e)
+pub text_more : (text : List ℕ) (i b : ℕ) → i < length text → b ≡ cell (get_or text i 0)
+    → map cell (take i text) ++ (b ∷ []) ≡ map cell (take (i + 1) text)
+text_more text i b h e =
+    ap (λ (x : ℕ). map cell (take i text) ++ (x ∷ [])) e
+    ∙ sym (map-append cell (take i text) (get_or text i 0 ∷ []))
+    ∙ ap (map cell) (sym (take-suc text i 0 h) ∙ ap (λ (n : ℕ). take n text) (sym (add-one i)))
 
 -- behind the last byte
-pub text_whole : (text cells : List ℕ) (i : ℕ) → length text ≤ i → take i cells ≡ map cell (take i text)
-    → take i cells ≡ map cell text
-text_whole text cells i h e = e ∙ ap (map cell) (take_all i text h)
+pub text_whole : (text : List ℕ) (i : ℕ) → length text ≤ i → map cell (take i text) ≡ map cell text
+text_whole text i h = ap (map cell) (take_all i text h)
 
--- the first ones of a number's copies
-pub take_replicate : (n m a : ℕ) → n ≤ m → take n (replicate m a) ≡ replicate n a
-take_replicate zero m a h = refl
-take_replicate (suc n) zero a h = absurd (let z : ⊥ = omega arith in z)
-take_replicate (suc n) (suc m) a h = ap {B = List ℕ} (λ l. a ∷ l) (take_replicate n m a (omega arith))
+-- one blank more
+pub one_blank : (n : ℕ) → replicate n blank ++ (blank ∷ []) ≡ replicate (n + 1) blank
+one_blank n = behind_blank n ∙ ap (λ (k : ℕ). replicate k blank) (sym (add-one n))
+  where
+    behind_blank : (n : ℕ) → replicate n blank ++ (blank ∷ []) ≡ replicate (suc n) blank
+    behind_blank zero = refl
+    behind_blank (suc n) = ap {B = List ℕ} (λ l. blank ∷ l) (behind_blank n)
+
+pub whole_blanks : (n i : ℕ) → n ≤ i → i ≤ n → replicate i blank ≡ replicate n blank
+whole_blanks n i h k = ap (λ (m : ℕ). replicate m blank) (let z : i ≡ n = omega arith in z)
 
 -- blanks before, as many as are missing: a number, k digits long
 pub aligned : (cells : ℕ) (s : List ℕ) {k before : ℕ} {d : List ℕ} → d ≡ s → k ≡ length s → before ≡ cells - k

@@ -1,7 +1,7 @@
 // What stands in a row of the review sheet: the shown forms of inline records, texts, numbers, blanks.
 #![tactic(auto)]
 
-ghost use Rattle.std.specs.Prelude.{◌≡◌, ◌∷◌, ◌++◌, map, ◌-◌, ◌≤◌, length, replicate};
+ghost use Rattle.std.specs.Prelude.{◌≡◌, ◌∷◌, ◌++◌, map, ◌≤◌, length, replicate};
 ghost use Rattle.xliff.specs.Desk.{decimal, blank};
 ghost use Rattle.writer.specs.Pieces.{Written};
 ghost use Rattle.table.specs.Meaning.{half, item};
@@ -15,9 +15,6 @@ use table::{Half, Item};
 
 // The cells of a column that shows a content.
 pub const COLUMN_CELLS: usize = 33;
-
-// As many bytes as a column's cells take at most: a code point takes one to four.
-pub const COLUMN_BYTES: usize = 132;
 
 // The longest shown form has a brace on both sides of a number, for which twenty digits are lent.
 pub const FORM_BYTES: usize = 22;
@@ -70,8 +67,7 @@ pub fn put_item(piece: &mut [u8], i: Item) -> usize
     match i {
         Item::Character(_) => writer::put(piece, b"#"),
         Item::Standalone(f) => put_standalone(piece, f.id),
-        Item::Isolated(h, f) => put_half(piece, h, f.id),
-        Item::Pair(_, h, f) => put_half(piece, h, f.id),
+        Item::Isolated(h, f) | Item::Pair(_, h, f) => put_half(piece, h, f.id),
         Item::AnnotationStart(_, id, _) => put_half(piece, Half::Start, id),
         Item::AnnotationEnd(_, id) => put_half(piece, Half::End, id),
     }
@@ -81,79 +77,61 @@ pub fn put_item(piece: &mut [u8], i: Item) -> usize
 fn cell_of(b: u8) -> u8
     ensures { result ≡ cell b }
 {
-    if (b == b'\t') | ((b == b'\n') | (b == b'\r')) {
-        b'.'
-    } else {
-        b
+    match b {
+        b'\t' | b'\n' | b'\r' => b'.',
+        _ => b,
     }
 }
 
-// A text of no more cells than a column has. A byte of a code point that takes more than one is above 127 and stays.
-pub fn put_text(out: &mut [u8], draft: Draft, text: &[u8]) -> Draft
-    requires { (draft.used ≤ length out.old) × (length text.now ≤ 132) }
-    ensures { Wrote (map cell text.now) out.old draft out.new result }
+// A text. A byte of a code point that takes more than one is above 127 and stays.
+pub fn put_text(draft: &mut Draft, text: &[u8])
+    ensures { Wrote (map cell text.now) draft.old draft.new }
 {
-    let mut cells = [0u8; COLUMN_BYTES];
-    let mut i: usize = 0;
-    while i < text.len() {
-        cells[i] = cell_of(text[i]);
-        i += 1;
+    for b in text {
+        draft.put(&[cell_of(*b)]);
     }
-    draft::put(out, draft, &cells[..i])
 }
 
-pub fn put_blanks(out: &mut [u8], draft: Draft, n: usize) -> Draft
-    requires { (draft.used ≤ length out.old) × (n ≤ 33) }
-    ensures { Wrote (replicate n blank) out.old draft out.new result }
+pub fn put_blanks(draft: &mut Draft, n: usize)
+    ensures { Wrote (replicate n blank) draft.old draft.new }
 {
-    let blanks = [b' '; COLUMN_CELLS];
-    draft::put(out, draft, &blanks[..n])
-}
-
-// The cells that are missing to `cells`.
-fn missing(used: usize, cells: usize) -> usize
-    ensures { (result ≡ cells - used) × (result ≤ cells) }
-{
-    if used < cells { cells - used } else { 0 }
+    for i in 0..n {
+        draft.put(b" ");
+    }
 }
 
 // Bytes between blanks.
-fn put_between(out: &mut [u8], draft: Draft, before: usize, bytes: &[u8], behind: usize) -> Draft
-    requires { (draft.used ≤ length out.old) × (before ≤ 33) × (behind ≤ 33) }
-    ensures { Wrote (replicate before blank ++ (bytes.now ++ replicate behind blank)) out.old
-        draft out.new result }
+fn put_between(draft: &mut Draft, before: usize, bytes: &[u8], behind: usize)
+    ensures { Wrote (replicate before blank ++ (bytes.now ++ replicate behind blank)) draft.old draft.new }
 {
-    let led = put_blanks(out, draft, before);
-    let told = draft::put(out, led, bytes);
-    put_blanks(out, told, behind)
+    put_blanks(draft, before);
+    draft.put(bytes);
+    put_blanks(draft, behind);
 }
 
 // A number in decimal, right-aligned.
-pub fn put_number(out: &mut [u8], draft: Draft, n: usize, cells: usize) -> Draft
-    requires { (draft.used ≤ length out.old) × (cells ≤ 33) }
-    ensures { Wrote (right_aligned cells (decimal n)) out.old draft out.new result }
+pub fn put_number(draft: &mut Draft, n: usize, cells: usize)
+    ensures { Wrote (right_aligned cells (decimal n)) draft.old draft.new }
 {
     let mut digits = [0u8; 20];
     let k = lines::put_decimal(&mut digits, n);
-    let blanks = missing(k, cells);
-    put_between(out, draft, blanks, &digits[..k], 0)
+    put_between(draft, cells.saturating_sub(k), &digits[..k], 0);
 }
 
 // An id, right-aligned; 0 is blank.
-pub fn put_id(out: &mut [u8], draft: Draft, id: u16, cells: usize) -> Draft
-    requires { (draft.used ≤ length out.old) × (cells ≤ 33) }
-    ensures { Wrote (right_aligned cells (id_cells id)) out.old draft out.new result }
+pub fn put_id(draft: &mut Draft, id: u16, cells: usize)
+    ensures { Wrote (right_aligned cells (id_cells id)) draft.old draft.new }
 {
     if id == 0 {
-        return put_blanks(out, draft, cells);
+        put_blanks(draft, cells);
+    } else {
+        put_number(draft, marks::wide(id), cells);
     }
-    put_number(out, draft, marks::wide(id), cells)
 }
 
 // Bytes, left-aligned.
-pub fn put_padded(out: &mut [u8], draft: Draft, bytes: &[u8], cells: usize) -> Draft
-    requires { (draft.used ≤ length out.old) × (cells ≤ 33) }
-    ensures { Wrote (padded cells bytes.now) out.old draft out.new result }
+pub fn put_padded(draft: &mut Draft, bytes: &[u8], cells: usize)
+    ensures { Wrote (padded cells bytes.now) draft.old draft.new }
 {
-    put_between(out, draft, 0, bytes, missing(bytes.len(), cells))
+    put_between(draft, 0, bytes, cells.saturating_sub(bytes.len()));
 }

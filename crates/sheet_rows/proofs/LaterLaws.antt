@@ -3,7 +3,7 @@ use Prim.Native.Nat.{ℕ, ◌+◌, ◌-◌, ◌<◌, ◌≤◌}
 use native.Mathlib.Omega.{arith}
 use mathlib.Core.Path.{◌≡◌, refl, sym, ap, ap₂, ◌∙◌}
 use mathlib.Core.Bool.{Bool, true, false, ◌||◌, false≢true}
-use mathlib.Core.List.{List, [], ◌++◌, append_assoc, append-nil}
+use mathlib.Core.List.{List, ◌++◌, append_assoc, append-nil}
 use lib.ListN.{length, replicate}
 use lib.Dec.{ltb}
 use borrow.Author.Tests.{ltb-true, ltb-false}
@@ -14,38 +14,24 @@ use Rattle.xliff.proofs.lists.Tests.{or_left, or_right}
 use Rattle.walk.specs.Kept.{Holds}
 use Rattle.draft.specs.declared.Draft.{Draft}
 use Rattle.draft.specs.Drafts.{Wrote}
-use Rattle.draft.proofs.DraftLaws.{wrote_nothing, wrote_then, wrote_as}
+use Rattle.draft.proofs.DraftLaws.{wrote_then, wrote_as}
 use Rattle.sheet.specs.Sheet.{row_bytes}
 use Rattle.sheet_columns.specs.declared.Cursor.{Cursor}
 use Rattle.sheet_columns.specs.Filled.{Ahead}
 use Rattle.sheet_columns.proofs.CursorLaws.{ahead_start, ahead_end, ahead_more}
 use Rattle.sheet_rows.specs.declared.Columns.{Columns}
-use Rattle.sheet_rows.specs.Rows.{columns, rest_rows, goes_on, Onward, ColumnsPut, PutColumns, PutLater, content_rows, PutContents}
+use Rattle.sheet_rows.specs.Rows.{columns, rest_rows, goes_on, Onward, PutColumns, content_rows}
 use Rattle.sheet_rows.proofs.ByRowLaws.{left_of, rest_none, rest_next}
 
 -- so far is written, and the rows of the items that are left give the rest
-pub record Shown (source target first out : List ℕ) (begun : Draft) (row : Columns) (xs ys : Content) : Type 0 where
+pub record Shown (source target : List ℕ) (begun : Draft) (row : Columns) (draft : Draft) (xs ys : Content) : Type 0 where
   pub done : List ℕ
   pub sources : Content
   pub targets : Content
   pub source_ahead : Ahead source row.source.at row.source.left sources
   pub target_ahead : Ahead target row.target.at row.target.left targets
-  pub wrote : Wrote done first begun out row.draft
-  pub all : done ++ gather row_bytes (rest_rows sources targets) ≡ gather row_bytes (rest_rows xs ys)
-
-pub shown_start : (source target out : List ℕ) (row : Columns) (xs ys : Content) → row.draft.used ≤ length out
-    → Ahead source row.source.at row.source.left xs → Ahead target row.target.at row.target.left ys
-    → Shown source target out out row.draft row xs ys
-shown_start source target out row xs ys h a b =
-    record {
-      done = [];
-      sources = xs;
-      targets = ys;
-      source_ahead = a;
-      target_ahead = b;
-      wrote = wrote_nothing h;
-      all = refl;
-    }
+  pub wrote : Wrote done begun draft
+  pub all : done ++ gather row_bytes (rest_rows sources targets) ≡ content_rows xs ys
 
 -- a column goes on, or none
 either_less : (a n b m : ℕ) → ltb a n || ltb b m ≡ true → (x y : ℕ) → (a < n → 1 ≤ x) → (b < m → 1 ≤ y) → 1 ≤ x + y
@@ -75,11 +61,31 @@ fewer_left source target row next e s t =
     (λ h. let f = s.further h in omega arith) (λ h. let f = t.further h in omega arith) in
     omega (arith, passed, s.forth, t.forth)
 
-module _ (source target first out : List ℕ) (begun : Draft) (row : Columns) (xs ys : Content)
-    (l : Shown source target first out begun row xs ys) where
+-- the rows of two contents from their starts
+abbrev begin : Cursor
+begin = record { at = 0; left = 0 }
+
+-- behind the first row
+pub shown_start : (source target : List ℕ) (begun : Draft) (row : Columns) (draft : Draft)
+    → PutColumns source target (record { source = begin; target = begin }) begun row draft
+    → (xs ys : Content) → Holds source xs → Holds target ys → Shown source target begun row draft xs ys
+unfolding content_rows
+shown_start source target begun row draft (f, g, put) xs ys h k =
+    let p = put xs ys (ahead_start source xs h) (ahead_start target ys k) in
+    record {
+      done = columns xs ys;
+      sources = left_of xs;
+      targets = left_of ys;
+      source_ahead = p.source_ahead;
+      target_ahead = p.target_ahead;
+      wrote = p.wrote;
+      all = refl;
+    }
+
+module _ (source target : List ℕ) (begun : Draft) (row : Columns) (draft : Draft) (xs ys : Content)
+    (l : Shown source target begun row draft xs ys) where
   -- no item is left: all rows are written
-  pub shown_end : goes_on row (length source) (length target) ≡ false
-      → Wrote (gather row_bytes (rest_rows xs ys)) first begun out row.draft
+  pub shown_end : goes_on row (length source) (length target) ≡ false → Wrote (content_rows xs ys) begun draft
   shown_end e =
       let (s, t) = neither_less row.source.at (length source) row.target.at (length target) e in
       let no_source = ahead_end source row.source.at row.source.left l.sources l.source_ahead s in
@@ -89,10 +95,10 @@ module _ (source target first out : List ℕ) (begun : Draft) (row : Columns) (x
 
   -- one row more
   pub shown_on : goes_on row (length source) (length target) ≡ true
-      → (out₁ : List ℕ) (led : Draft) → Wrote (replicate 12 blank) out row.draft out₁ led
-      → (out₂ : List ℕ) (next : Columns) → PutColumns source row.source target row.target out₁ led out₂ next
-      → Shown source target first out₂ begun next xs ys
-  shown_on e out₁ led w out₂ next (f, g, put) =
+      → (led : Draft) → Wrote (replicate 12 blank) draft led
+      → (next : Columns) (last : Draft) → PutColumns source target row led next last
+      → Shown source target begun next last xs ys
+  shown_on e led w next last (f, g, put) =
       let p = put l.sources l.targets l.source_ahead l.target_ahead in
       let some = either_less row.source.at (length source) row.target.at (length target) e
       (length l.sources) (length l.targets)
@@ -110,20 +116,3 @@ module _ (source target first out : List ℕ) (begun : Draft) (row : Columns) (x
         all = append_assoc l.done line rest
             ∙ ap (λ (x : List ℕ). l.done ++ x) (sym (rest_next l.sources l.targets some)) ∙ l.all;
       }
-
--- the rows of two contents from their starts
-abbrev begin : Cursor
-begin = record { at = 0; left = 0 }
-
-module _ (source target out : List ℕ) (draft : Draft) (out₁ : List ℕ) (first : Columns)
-    (put : PutColumns source begin target begin out draft out₁ first) where
-  pub first_put : (xs ys : Content) → Holds source xs → Holds target ys
-      → ColumnsPut source target out draft out₁ first xs ys
-  first_put xs ys h k = put.2 xs ys (ahead_start source xs h) (ahead_start target ys k)
-
-  pub contents_put : (last : List ℕ) (r : Draft) → PutLater source target first out₁ last r
-      → PutContents source target out draft last r
-  unfolding content_rows
-  contents_put last r later xs ys h k =
-      let p = first_put xs ys h k in
-      wrote_then p.wrote (later (left_of xs) (left_of ys) p.source_ahead p.target_ahead)

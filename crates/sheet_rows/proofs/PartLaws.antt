@@ -35,18 +35,18 @@ same_head g h e = cc
 
 -- the margin of what was read, where that is the head of a part
 margin_read : (n : ℕ) (cs : List ℕ) (r : Read) (h : Head) → meaning cs r ≡ part_head h
-    → (out : List ℕ) (draft : Draft) (last : List ℕ) (x : Draft) → ReadMargin n r out draft last x
-    → Wrote (head_margin n h) out draft last x
+    → (draft draft' : Draft) → ReadMargin n r draft draft'
+    → Wrote (head_margin n h) draft draft'
 unfolding is_part is_broken
-margin_read n cs (Good (UnitStart u) w) h e out draft last x m = absurd (false≢true (ap is_part e))
-margin_read n cs (Good UnitEnd w) h e out draft last x m = absurd (false≢true (ap is_part e))
-margin_read n cs (Good (Segment f) w) h e out draft last x m = wrote_as (ap (head_margin n) (same_head _ _ e)) m
-margin_read n cs (Good (Ignorable i) w) h e out draft last x m = wrote_as (ap (head_margin n) (same_head _ _ e)) m
-margin_read n cs (Good (Target q) w) h e out draft last x m = absurd (false≢true (ap is_part e))
-margin_read n cs (Good Text w) h e out draft last x m = absurd (false≢true (ap is_part e))
-margin_read n cs (Good (Inline i) w) h e out draft last x m = absurd (false≢true (ap is_part e))
-margin_read n cs Ill h e out draft last x m = absurd (false≢true (ap is_part e))
-margin_read n cs (Broken b) h e out draft last x m = absurd (true≢false (ap is_broken e))
+margin_read n cs (Good (UnitStart u) w) h e draft draft' m = absurd (false≢true (ap is_part e))
+margin_read n cs (Good UnitEnd w) h e draft draft' m = absurd (false≢true (ap is_part e))
+margin_read n cs (Good (Segment f) w) h e draft draft' m = wrote_as (ap (head_margin n) (same_head _ _ e)) m
+margin_read n cs (Good (Ignorable i) w) h e draft draft' m = wrote_as (ap (head_margin n) (same_head _ _ e)) m
+margin_read n cs (Good (Target q) w) h e draft draft' m = absurd (false≢true (ap is_part e))
+margin_read n cs (Good Text w) h e draft draft' m = absurd (false≢true (ap is_part e))
+margin_read n cs (Good (Inline i) w) h e draft draft' m = absurd (false≢true (ap is_part e))
+margin_read n cs Ill h e draft draft' m = absurd (false≢true (ap is_part e))
+margin_read n cs (Broken b) h e draft draft' m = absurd (true≢false (ap is_broken e))
 
 module _ (t : List ℕ) (b : List Part) (p : Part) (a : List Part) (place : PartPlace)
     (s : PartStands t b p a place) where
@@ -72,15 +72,14 @@ module _ (t : List ℕ) (b : List Part) (p : Part) (a : List Part) (place : Part
       (known_read t place.head (part_head p.head ∷ others) r there within k).0 ∙ head_next.reads
 
   pub head_margined : (n : ℕ) (r : Read) → Known (drop place.head t) r
-      → (out : List ℕ) (draft : Draft) (last : List ℕ) (x : Draft) → ReadMargin n r out draft last x
-      → Wrote (head_margin n p.head) out draft last x
+      → (draft draft' : Draft) → ReadMargin n r draft draft'
+      → Wrote (head_margin n p.head) draft draft'
   head_margined n r k = margin_read n (body (drop place.head t)) r p.head (head_read r k)
 
   -- all of its rows, from bytes that hold its contents
-  pub part_put : (n : ℕ) (out : List ℕ) (draft : Draft) (out₁ : List ℕ) (headed : Draft)
-      → Wrote (head_margin n p.head) out draft out₁ headed
+  pub part_put : (n : ℕ) (draft headed : Draft) → Wrote (head_margin n p.head) draft headed
       → (source target : List ℕ) → Holds source p.source → Holds target (target_items p.target)
-      → (last : List ℕ) (r : Draft) → PutContents source target out₁ headed last r
-      → Wrote (gather row_bytes (part_rows n p)) out draft last r
-  part_put n out draft out₁ headed w source target x y last r put =
+      → (last : Draft) → PutContents source target headed last
+      → Wrote (gather row_bytes (part_rows n p)) draft last
+  part_put n draft headed w source target x y last put =
       wrote_as (sym (part_written n p part_good)) (wrote_then w (put p.source (target_items p.target) x y))

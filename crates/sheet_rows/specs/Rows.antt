@@ -37,19 +37,19 @@ abbrev pub rest_rows : Content → Content → List Row
 rest_rows xs ys = later_rows (rows_left xs) (rows_left ys)
 
 -- the margin of a head is written
-abbrev pub HeadMargin : ℕ → Record → List ℕ → Draft → List ℕ → Draft → Type 0
-HeadMargin n (UnitStart u) out draft last r = Unit {0}
-HeadMargin n UnitEnd out draft last r = Unit {0}
-HeadMargin n (Segment f) out draft last r = Wrote (head_margin n (segment (segment_meaning f))) out draft last r
-HeadMargin n (Ignorable i) out draft last r = Wrote (head_margin n (ignorable i)) out draft last r
-HeadMargin n (Target q) out draft last r = Unit {0}
-HeadMargin n Text out draft last r = Unit {0}
-HeadMargin n (Inline i) out draft last r = Unit {0}
+abbrev pub HeadMargin : ℕ → Record → Draft → Draft → Type 0
+HeadMargin n (UnitStart u) draft draft' = Unit {0}
+HeadMargin n UnitEnd draft draft' = Unit {0}
+HeadMargin n (Segment f) draft draft' = Wrote (head_margin n (segment (segment_meaning f))) draft draft'
+HeadMargin n (Ignorable i) draft draft' = Wrote (head_margin n (ignorable i)) draft draft'
+HeadMargin n (Target q) draft draft' = Unit {0}
+HeadMargin n Text draft draft' = Unit {0}
+HeadMargin n (Inline i) draft draft' = Unit {0}
 
-abbrev pub ReadMargin : ℕ → Read → List ℕ → Draft → List ℕ → Draft → Type 0
-ReadMargin n (Good x w) out draft last r = HeadMargin n x out draft last r
-ReadMargin n Ill out draft last r = Unit {0}
-ReadMargin n (Broken b) out draft last r = Unit {0}
+abbrev pub ReadMargin : ℕ → Read → Draft → Draft → Type 0
+ReadMargin n (Good x w) draft draft' = HeadMargin n x draft draft'
+ReadMargin n Ill draft draft' = Unit {0}
+ReadMargin n (Broken b) draft draft' = Unit {0}
 
 abbrev pub goes_on : Columns → ℕ → ℕ → Bool
 goes_on c n m = ltb c.source.at n || ltb c.target.at m
@@ -60,35 +60,29 @@ pub record Onward (c : List ℕ) (from next : Cursor) : Type 0 where
   pub further : from.at < length c → from.at < next.at
 
 -- a row of both columns is written, of these items
-pub record ColumnsPut (source target out : List ℕ) (draft : Draft) (last : List ℕ) (r : Columns) (xs ys : Content)
-    : Type 0 where
-  pub wrote : Wrote (columns xs ys) out draft last r.draft
-  pub source_ahead : Ahead source r.source.at r.source.left (untaken column_cells xs)
-  pub target_ahead : Ahead target r.target.at r.target.left (untaken column_cells ys)
+pub record ColumnsPut (source target : List ℕ) (draft : Draft) (r : Columns) (draft' : Draft) (xs ys : Content) : Type 0
+  where
+    pub wrote : Wrote (columns xs ys) draft draft'
+    pub source_ahead : Ahead source r.source.at r.source.left (untaken column_cells xs)
+    pub target_ahead : Ahead target r.target.at r.target.left (untaken column_cells ys)
 
-abbrev pub PutColumns : List ℕ → Cursor → List ℕ → Cursor → List ℕ → Draft → List ℕ → Columns → Type 0
-PutColumns source from target to out draft last r =
-    Onward source from r.source × Onward target to r.target
-    × ((xs ys : Content) → Ahead source from.at from.left xs → Ahead target to.at to.left ys
-    → ColumnsPut source target out draft last r xs ys)
-
-abbrev pub PutLater : List ℕ → List ℕ → Columns → List ℕ → List ℕ → Draft → Type 0
-PutLater source target f out last r =
-    (xs ys : Content) → Ahead source f.source.at f.source.left xs
-    → Ahead target f.target.at f.target.left ys
-    → Wrote (gather row_bytes (rest_rows xs ys)) out f.draft last r
+abbrev pub PutColumns : List ℕ → List ℕ → Columns → Draft → Columns → Draft → Type 0
+PutColumns source target c draft r draft' =
+    Onward source c.source r.source × Onward target c.target r.target
+    × ((xs ys : Content) → Ahead source c.source.at c.source.left xs → Ahead target c.target.at c.target.left ys
+    → ColumnsPut source target draft r draft' xs ys)
 
 -- the rows of two contents side by side, behind the margin of the first
 unfoldable pub content_rows : Content → Content → List ℕ
 content_rows xs ys =
     columns xs ys ++ gather row_bytes (rest_rows (untaken column_cells xs) (untaken column_cells ys))
 
-abbrev pub PutContents : List ℕ → List ℕ → List ℕ → Draft → List ℕ → Draft → Type 0
-PutContents source target out draft last r =
-    (xs ys : Content) → Holds source xs → Holds target ys → Wrote (content_rows xs ys) out draft last r
+abbrev pub PutContents : List ℕ → List ℕ → Draft → Draft → Type 0
+PutContents source target draft draft' =
+    (xs ys : Content) → Holds source xs → Holds target ys → Wrote (content_rows xs ys) draft draft'
 
 -- all rows of a part
-abbrev pub PutPart : List ℕ → ℕ → PartPlace → List ℕ → Draft → List ℕ → Draft → Type 0
-PutPart t n place out draft last r =
+abbrev pub PutPart : List ℕ → ℕ → PartPlace → Draft → Draft → Type 0
+PutPart t n place draft draft' =
     (b : List Part) (p : Part) (a : List Part) → PartStands t b p a place
-    → Wrote (gather row_bytes (part_rows n p)) out draft last r
+    → Wrote (gather row_bytes (part_rows n p)) draft draft'

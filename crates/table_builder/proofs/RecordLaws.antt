@@ -16,71 +16,41 @@ use Rattle.xliff.specs.Parse.{is_part, most_bytes, most_records, most_parts}
 use Rattle.xliff.proofs.lists.Tests.{or_left}
 use Rattle.writer.specs.Pieces.{lead}
 use Rattle.writer.proofs.PieceLaws.{lead_length}
-use Rattle.table_builder.specs.declared.Built.{Built}
-use Rattle.table_builder.specs.Building.{run_records, with_run, past_limits, Holds, Building}
+use Rattle.table_builder.specs.declared.TableBuilder.{TableBuilder}
+use Rattle.table_builder.specs.Building.{run_records, with_run, past_limits, Holds}
 use Rattle.table_builder.proofs.LimitLaws.{spell_more, spell_size, count_more, no_run, Small, small, past_one_more}
 use Rattle.table_builder.proofs.LimitLaws.{Larger, past_stays, one_larger}
 
 -- nothing is held as yet
-pub empty : (t : List ℕ) → length t ≡ most_bytes
-    → Holds t (record { used = 0; records = 0; parts = 0; text = 0; over = false }) [] []
+pub empty : {builder : TableBuilder} → builder.used ≡ 0 → builder.records ≡ 0 → builder.parts ≡ 0 → builder.text ≡ 0
+    → builder.over ≡ false → Holds builder [] []
 unfolding with_run run_records past_limits spell gather part_heads utf8s
-empty t room =
+empty {builder} used records parts text free =
     record {
-      room = room;
-      told = refl;
-      within = λ e. record { used = refl; bytes = refl; records = refl; parts = refl; text = refl };
+      told = free;
+      within = λ e.
+          record {
+            used = used;
+            bytes = ap (λ (k : ℕ). take k builder.table.now) used;
+            records = records;
+            parts = parts;
+            text = text;
+          };
     }
 
--- the numbers that the code keeps are within the limits
-pub record Numbers (t : List ℕ) (built : Built) : Type 0 where
-  pub room : length t ≡ most_bytes
-  pub used : built.used ≤ most_bytes
-  pub records : built.records ≤ most_records
-  pub parts : built.parts ≤ most_parts
-
-module _ {t : List ℕ} {built : Built} {done : List Record} {run : List ℕ} (held : Holds t built done run)
-    (free : built.over ≡ false) where
-  pub held_small : Small (with_run done run)
-  held_small = small (with_run done run) (sym held.told ∙ free)
-
-  pub held_numbers : Numbers t built
-  held_numbers =
-      let w = held.within free in
-      let k = held_small in
-      record {
-        room = held.room;
-        used = omega (arith, w.used, k.bytes);
-        records = omega (arith, w.records, k.records);
-        parts = omega (arith, w.parts, k.parts);
-      }
-
--- some records are held where these are
-pub building : {t : List ℕ} {built : Built} {done : List Record} {run : List ℕ} → Holds t built done run → Building t built
-building {done = done} {run = run} held = record { done = done; run = run; holds = held }
-
-pub numbers : {t : List ℕ} {built : Built} → Building t built → built.over ≡ false → Numbers t built
-numbers b free = held_numbers b.holds free
+module _ {builder : TableBuilder} {done : List Record} {run : List ℕ} (held : Holds builder done run) where
+  pub held_small : builder.over ≡ false → Small (with_run done run)
+  held_small free = small (with_run done run) (sym held.told ∙ free)
 
 -- beyond a limit only that is told; and it stays so
-pub passed : {t : List ℕ} {built : Built} {done : List Record} {run : List ℕ} → length t ≡ most_bytes
-    → past_limits (with_run done run) ≡ true
-    → built.over ≡ true
-    → Holds t built done run
-passed room past e = record { room = room; told = e ∙ sym past; within = λ f. absurd (true≢false (sym e ∙ f)) }
+pub passed : {builder : TableBuilder} {done : List Record} {run : List ℕ} → past_limits (with_run done run) ≡ true
+    → builder.over ≡ true → Holds builder done run
+passed past e = record { told = e ∙ sym past; within = λ f. absurd (true≢false (sym e ∙ f)) }
 
-pub still_passed : {t : List ℕ} {built : Built} {done : List Record} {run : List ℕ} → Holds t built done run
-    → built.over ≡ true
-    → (done' : List Record) (run' : List ℕ) → Larger (with_run done run) (with_run done' run')
-    → Holds t built done' run'
+pub still_passed : {builder : TableBuilder} {done : List Record} {run : List ℕ} → Holds builder done run → builder.over ≡ true
+    → (done' : List Record) (run' : List ℕ) → Larger (with_run done run) (with_run done' run') → Holds builder done' run'
 still_passed {done = done} {run = run} held e done' run' l =
-    passed held.room (past_stays (with_run done run) (with_run done' run') l (sym held.told ∙ e)) e
-
--- there is room for what passes no limit
-pub room_left : (used n : ℕ) (others : Bool) → used ≤ most_bytes → ltb (most_bytes - used) n || others ≡ false
-    → used + n ≤ most_bytes
-room_left used n others h e =
-    omega (arith, ltb-false (most_bytes - used) n (or_left (ltb (most_bytes - used) n) others e))
+    passed (past_stays (with_run done run) (with_run done' run') l (sym held.told ∙ e)) e
 
 -- the bytes of a table and behind them those of a record
 bytes_behind : (t s p last : List ℕ) (used : ℕ) → used ≡ length s → take used t ≡ s
@@ -90,35 +60,25 @@ bytes_behind t s p last used e f g =
     rw (g, f, e, take-append-add)
     (ap (λ (l : List ℕ). s ++ l) (take-append_seam p (drop (length p) (drop (length s) t))))
 
-kept : (t p : List ℕ) (used : ℕ) → used + length p ≤ length t → length (take used t ++ lead p (drop used t)) ≡ length t
-kept t p used h =
-    let dropped = length-drop used t in
-    omega (
-      arith,
-      length-append (take used t) (lead p (drop used t)),
-      length-take-le used t (omega arith),
-      lead_length p (drop used t) (omega arith),
-    )
-
 -- a record behind what is held
-module _ {t : List ℕ} {built : Built} {done : List Record} {run : List ℕ} (held : Holds t built done run) (r : Record) where
+module _ {builder : TableBuilder} {done : List Record} {run : List ℕ} (held : Holds builder done run) (r : Record) where
   abbrev all : List Record
   all = with_run done run
 
   abbrev more : List Record
   more = with_run (all ++ (r ∷ [])) []
 
-  pub record_beyond : built.over ≡ true → Holds t built (all ++ (r ∷ [])) []
+  pub record_beyond : builder.over ≡ true → Holds builder (all ++ (r ∷ [])) []
   record_beyond e =
       still_passed held e (all ++ (r ∷ [])) [] (subst (Larger all) (sym (no_run (all ++ (r ∷ [])))) (one_larger all r))
 
-  module _ (free : built.over ≡ false) {bytes : List ℕ} {part : Bool} (spelled : record_bytes r ≡ bytes)
+  module _ (free : builder.over ≡ false) {bytes : List ℕ} {part : Bool} (spelled : record_bytes r ≡ bytes)
       (heads : is_part r ≡ part) where
     -- the test that the code makes
     abbrev past : Bool
     past =
-        ltb (most_bytes - built.used) (length bytes)
-        || (eqb built.records most_records || part && eqb built.parts most_parts)
+        ltb (most_bytes - builder.used) (length bytes)
+        || (eqb builder.records most_records || part && eqb builder.parts most_parts)
 
     past_told : past_limits more ≡ past
     past_told =
@@ -126,45 +86,33 @@ module _ {t : List ℕ} {built : Built} {done : List Record} {run : List ℕ} (h
         ap past_limits (no_run (all ++ (r ∷ []))) ∙ past_one_more all r (held_small held free)
         ∙ rw (spelled, heads, w.used, w.records, w.parts) refl
 
-    pub record_passes : {built' : Built} → past ≡ true → built'.over ≡ true → Holds t built' (all ++ (r ∷ [])) []
-    record_passes test e = passed held.room (past_told ∙ test) e
+    pub record_passes : {builder' : TableBuilder} → past ≡ true → builder'.over ≡ true → Holds builder' (all ++ (r ∷ [])) []
+    record_passes test e = passed (past_told ∙ test) e
 
-    more_size : length (spell more) ≡ built.used + length bytes
+    more_size : length (spell more) ≡ builder.used + length bytes
     more_size =
         ap (λ (q : List Record). length (spell q)) (no_run (all ++ (r ∷ []))) ∙ spell_size all r
         ∙ rw (spelled, (held.within free).used) refl
 
-    more_room : past ≡ false → built.used + length bytes ≤ length t
-    more_room test =
-        let n = held_numbers held free in
-        omega (arith, n.room, room_left built.used (length bytes) _ n.used test)
-
     -- within the limits the record's bytes stand behind the others
-    pub record_behind : {last : List ℕ} {wrote heading : ℕ} → past ≡ false → wrote ≡ length bytes → cond part 1 0 ≡ heading
-        → last ≡ take built.used t ++ lead bytes (drop built.used t)
-        → Holds last
-        (record {
-          used = built.used + wrote;
-          records = built.records + 1;
-          parts = built.parts + heading;
-          text = 0;
-          over = false;
-        })
-        (all ++ (r ∷ [])) []
-    record_behind {last} {wrote} {heading} test long p l =
+    pub record_behind : {builder' : TableBuilder} → past ≡ false → builder'.over ≡ false
+        → builder'.used ≡ builder.used + length bytes
+        → builder'.records ≡ builder.records + 1 → builder'.parts ≡ builder.parts + cond part 1 0 → builder'.text ≡ 0
+        → builder'.table.now ≡ take builder.used builder.table.now ++ lead bytes (drop builder.used builder.table.now)
+        → Holds builder' (all ++ (r ∷ [])) []
+    record_behind {builder'} test free' used records parts text last =
         let w = held.within free in
         let same = no_run (all ++ (r ∷ [])) in
         record {
-          room = ap length l ∙ kept t bytes built.used (more_room test) ∙ held.room;
-          told = sym (past_told ∙ test);
+          told = free' ∙ sym (past_told ∙ test);
           within = λ f.
               record {
-                used = ap (λ (k : ℕ). built.used + k) long ∙ sym more_size;
-                bytes = ap (λ (k : ℕ). take (built.used + k) last) long
-                    ∙ bytes_behind t (spell all) bytes last built.used w.used w.bytes l
+                used = used ∙ sym more_size;
+                bytes = ap (λ (k : ℕ). take k builder'.table.now) used
+                    ∙ bytes_behind builder.table.now (spell all) bytes builder'.table.now builder.used w.used w.bytes last
                     ∙ sym (ap spell same ∙ spell_more all r ∙ ap (λ (q : List ℕ). spell all ++ q) spelled);
-                records = sym (ap length same ∙ length-append all (r ∷ []) ∙ rw w.records refl);
-                parts = sym (ap part_heads same ∙ count_more all r ∙ rw (heads, p, w.parts) refl);
-                text = unfold utf8s gather in refl;
+                records = records ∙ sym (ap length same ∙ length-append all (r ∷ []) ∙ rw w.records refl);
+                parts = parts ∙ sym (ap part_heads same ∙ count_more all r ∙ rw (heads, w.parts) refl);
+                text = text ∙ (unfold utf8s gather in refl);
               };
         }

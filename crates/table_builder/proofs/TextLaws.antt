@@ -17,11 +17,11 @@ use Rattle.xliff.proofs.lists.Tests.{gather_append}
 use Rattle.xliff.proofs.text.Utf8.{utf8s_nonempty}
 use Rattle.writer.specs.Pieces.{lead, overlay, number_bytes}
 use Rattle.writer.proofs.PieceLaws.{lead_length, over_lead}
-use Rattle.table_builder.specs.declared.Built.{Built}
+use Rattle.table_builder.specs.declared.TableBuilder.{TableBuilder}
 use Rattle.table_builder.specs.Building.{run_records, with_run, past_limits, Holds}
 use Rattle.table_builder.proofs.LimitLaws.{spell_more, count_more, no_run, Stretched, past_stretched}
 use Rattle.table_builder.proofs.LimitLaws.{Larger, one_larger, stretched_larger}
-use Rattle.table_builder.proofs.RecordLaws.{held_small, held_numbers, passed, still_passed}
+use Rattle.table_builder.proofs.RecordLaws.{held_small, passed, still_passed}
 
 -- the bytes of one code point, and of a run with one more
 utf8s_one : (c : ℕ) → utf8s (c ∷ []) ≡ utf8 c
@@ -118,9 +118,8 @@ run_larger done (d ∷ ds) c =
     stretched_larger (with_run done (d ∷ ds)) (with_run done ((d ∷ ds) ++ (c ∷ []))) (length (utf8 c))
     (stretched done (d ∷ ds) c (utf8s_nonempty d ds))
 
-pub text_beyond : {t : List ℕ} {built : Built} {done : List Record} {run : List ℕ} → Holds t built done run
-    → built.over ≡ true
-    → (c : ℕ) → Holds t built done (run ++ (c ∷ []))
+pub text_beyond : {builder : TableBuilder} {done : List Record} {run : List ℕ} → Holds builder done run → builder.over ≡ true
+    → (c : ℕ) → Holds builder done (run ++ (c ∷ []))
 text_beyond {done = done} {run = run} held e c = still_passed held e done (run ++ (c ∷ [])) (run_larger done run c)
 
 -- the record of one code point: its mark, its length, its text
@@ -156,28 +155,42 @@ first_run done c =
     ∙ ap (λ (q : List Record). q ++ (text_run (c ∷ []) ∷ [])) (no_run done)
     ∙ sym (with_more done [] c)
 
-pub first_held : {t : List ℕ} {put : Built} (done : List Record) (run : List ℕ) (c : ℕ) {wide : ℕ} → length (utf8s run) ≡ 0
-    → Holds t put (with_run done run ++ (text_run (c ∷ []) ∷ [])) []
-    → wide ≡ length (utf8 c)
-    → Holds t
-    (record { used = put.used; records = put.records; parts = put.parts; text = wide; over = put.over })
-    done (run ++ (c ∷ []))
-first_held done (d ∷ ds) c e h w = absurd (omega (arith, e, utf8s_nonempty d ds))
-first_held done [] c e h w =
-    let same = first_run done c in
-    record {
-      room = h.room;
-      told = h.told ∙ ap past_limits same;
-      within = λ f.
-          let k = h.within f in
-          record {
-            used = k.used ∙ ap (λ (q : List Record). length (spell q)) same;
-            bytes = k.bytes ∙ ap spell same;
-            records = k.records ∙ ap length same;
-            parts = k.parts ∙ ap part_heads same;
-            text = w ∙ sym (ap length (utf8s_one c));
-          };
-    }
+-- the record is put by `put`, and then its text counts, unless a limit is passed
+module _ {put : TableBuilder} (done : List Record) (run : List ℕ) (c : ℕ) (closed : length (utf8s run) ≡ 0)
+    (held : Holds put (with_run done run ++ (text_run (c ∷ []) ∷ [])) []) where
+  same_records : with_run (with_run done run ++ (text_run (c ∷ []) ∷ [])) [] ≡ with_run done (run ++ (c ∷ []))
+  same_records = by run closed
+    where
+      by : (q : List ℕ) → length (utf8s q) ≡ 0
+          → with_run (with_run done q ++ (text_run (c ∷ []) ∷ [])) [] ≡ with_run done (q ++ (c ∷ []))
+      by [] e = first_run done c
+      by (d ∷ ds) e = absurd (omega (arith, e, utf8s_nonempty d ds))
+
+  no_text : utf8s run ≡ []
+  no_text = by run closed
+    where
+      by : (q : List ℕ) → length (utf8s q) ≡ 0 → utf8s q ≡ []
+      by [] e = unfold utf8s gather in refl
+      by (d ∷ ds) e = absurd (omega (arith, e, utf8s_nonempty d ds))
+
+  pub first_passed : put.over ≡ true → Holds put done (run ++ (c ∷ []))
+  first_passed e = passed (sym (ap past_limits same_records) ∙ sym held.told ∙ e) e
+
+  pub first_held : {last : TableBuilder} → put.over ≡ false → last.over ≡ put.over → last.table.now ≡ put.table.now → last.used ≡ put.used
+      → last.records ≡ put.records → last.parts ≡ put.parts → last.text ≡ length (utf8 c) → Holds last done (run ++ (c ∷ []))
+  first_held free over table used records parts text =
+      let k = held.within free in
+      record {
+        told = over ∙ held.told ∙ ap past_limits same_records;
+        within = λ f.
+            record {
+              used = used ∙ k.used ∙ ap (λ (q : List Record). length (spell q)) same_records;
+              bytes = ap₂ take used table ∙ k.bytes ∙ ap spell same_records;
+              records = records ∙ k.records ∙ ap length same_records;
+              parts = parts ∙ k.parts ∙ ap part_heads same_records;
+              text = text ∙ sym (ap length (utf8s_more run c ∙ ap (λ (l : List ℕ). l ++ utf8 c) no_text));
+            };
+      }
 
 -- a piece that stands at the head is overlaid in its middle
 patched_by : (h m n x r : List ℕ) → length n ≡ length m
@@ -210,36 +223,30 @@ further_bytes t h m n x q t1 t2 used at e f g k l d =
     d ∙ ap (λ (p : List ℕ). overlay p at n) first ∙ patched t h m n (x ++ q) at k l
 
 -- a code point behind the open run
-module _ {t : List ℕ} {built : Built} {done : List Record} {run : List ℕ} (held : Holds t built done run)
-    (free : built.over ≡ false) (opened : 1 ≤ built.text) where
+module _ {builder : TableBuilder} {done : List Record} {run : List ℕ} (held : Holds builder done run)
+    (free : builder.over ≡ false) (opened : 1 ≤ builder.text) where
   some_text : 1 ≤ length (utf8s run)
   some_text = omega (arith, opened, (held.within free).text)
 
-  -- the mark and the length stand before the text
-  pub text_inside : built.text + 4 ≤ built.used
-  text_inside =
-      let w = held.within free in
-      omega (arith, w.used, w.text, now_size done run 0 some_text, marked_size done)
-
   module _ (c : ℕ) {wide : ℕ} (w : wide ≡ length (utf8 c)) where
     -- the test that the code makes
-    further_told : past_limits (with_run done (run ++ (c ∷ []))) ≡ ltb (most_bytes - built.used) wide
+    further_told : past_limits (with_run done (run ++ (c ∷ []))) ≡ ltb (most_bytes - builder.used) wide
     further_told =
         past_stretched (with_run done run) (with_run done (run ++ (c ∷ []))) (length (utf8 c))
         (stretched done run c some_text) (held_small held free)
         ∙ rw (w, (held.within free).used) refl
 
-    pub further_passes : {built' : Built} → most_bytes - built.used < wide → built'.over ≡ true
-        → Holds t built' done (run ++ (c ∷ []))
-    further_passes test e = passed held.room (further_told ∙ lt-ltb (most_bytes - built.used) wide test) e
+    pub further_passes : {builder' : TableBuilder} → most_bytes - builder.used < wide → builder'.over ≡ true → Holds builder' done (run ++ (c ∷ []))
+    further_passes test e = passed (further_told ∙ lt-ltb (most_bytes - builder.used) wide test) e
 
     -- the code point stands behind the table, and the length before the text says all of it
-    module _ {t1 t2 : List ℕ} {end : ℕ} (e : end ≡ built.used + length (utf8 c)) (f : t1 ≡ overlay t built.used (utf8 c))
-        (g : t2 ≡ overlay t1 (end - (built.text + wide) - 2) (number_bytes (built.text + wide))) where
+    module _ {t1 t2 : List ℕ} {end : ℕ} (e : end ≡ builder.used + length (utf8 c))
+        (f : t1 ≡ overlay builder.table.now builder.used (utf8 c))
+        (g : t2 ≡ overlay t1 (end - (builder.text + wide) - 2) (number_bytes (builder.text + wide))) where
       abbrev all : List ℕ
       all = spell (with_run done (run ++ (c ∷ [])))
 
-      length_at : end - (built.text + wide) - 2 ≡ length (marked done)
+      length_at : end - (builder.text + wide) - 2 ≡ length (marked done)
       length_at =
           let k = held.within free in
           omega (arith, e, w, k.used, k.text, now_size done run c some_text)
@@ -247,35 +254,35 @@ module _ {t : List ℕ} {built : Built} {done : List Record} {run : List ℕ} (h
       all_size : end ≡ length all
       all_size = omega (arith, e, (held.within free).used, (stretched done run c some_text).bytes)
 
-      all_spelled : marked done ++ (two (built.text + wide) ++ (utf8s run ++ utf8 c)) ≡ all
+      all_spelled : marked done ++ (two (builder.text + wide) ++ (utf8s run ++ utf8 c)) ≡ all
       all_spelled = rw ((held.within free).text, w) (sym (more_spelled done run c some_text))
 
-      further_wrote : t2 ≡ lead all t
+      further_wrote : t2 ≡ lead all builder.table.now
       unfolding two
       further_wrote =
           let k = held.within free in
           let spelled = now_spelled done run c some_text in
-          further_bytes t (marked done) (two (length (utf8s run))) (two (built.text + wide)) (utf8s run) (utf8 c) t1 t2
-          built.used (end - (built.text + wide) - 2) (k.used ∙ ap length spelled) (k.bytes ∙ spelled) f length_at refl g
-          ∙ ap (λ (p : List ℕ). lead p t) all_spelled
+          let at = end - (builder.text + wide) - 2 in
+          further_bytes builder.table.now (marked done) (two (length (utf8s run))) (two (builder.text + wide)) (utf8s run)
+          (utf8 c) t1 t2 builder.used at (k.used ∙ ap length spelled) (k.bytes ∙ spelled) f length_at refl g
+          ∙ ap (λ (p : List ℕ). lead p builder.table.now) all_spelled
 
-      pub further_held : wide ≤ most_bytes - built.used
-          → Holds t2
-          (record { used = end; records = built.records; parts = built.parts; text = built.text + wide; over = false })
-          done (run ++ (c ∷ []))
-      further_held fits =
+      pub further_held : {builder' : TableBuilder} → wide ≤ most_bytes - builder.used → builder'.over ≡ false
+          → builder'.table.now ≡ t2 → builder'.used ≡ end
+          → builder'.records ≡ builder.records → builder'.parts ≡ builder.parts → builder'.text ≡ builder.text + wide
+          → Holds builder' done (run ++ (c ∷ []))
+      further_held fits free' table used records parts text =
           let k = held.within free in
-          let n = held_numbers held free in
           let s = stretched done run c some_text in
           record {
-            room = ap length further_wrote ∙ lead_length all t (omega (arith, all_size, e, w)) ∙ held.room;
-            told = sym (further_told ∙ le-ltb (most_bytes - built.used) wide fits);
+            told = free' ∙ sym (further_told ∙ le-ltb (most_bytes - builder.used) wide fits);
             within = λ h.
                 record {
-                  used = all_size;
-                  bytes = ap₂ take all_size further_wrote ∙ take-append_seam all (drop (length all) t);
-                  records = k.records ∙ sym s.records;
-                  parts = k.parts ∙ sym s.parts;
-                  text = omega (arith, w, k.text, utf8s_size run c);
+                  used = used ∙ all_size;
+                  bytes = ap₂ take (used ∙ all_size) (table ∙ further_wrote)
+                      ∙ take-append_seam all (drop (length all) builder.table.now);
+                  records = records ∙ k.records ∙ sym s.records;
+                  parts = parts ∙ k.parts ∙ sym s.parts;
+                  text = text ∙ omega (arith, w, k.text, utf8s_size run c);
                 };
           }

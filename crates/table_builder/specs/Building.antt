@@ -1,10 +1,11 @@
 -- What a table holds while it is built, record by record and, within a text, code point by code point. Stepping stones.
-use Rattle.std.specs.Prelude.{ℕ, ◌≡◌, Bool, false, ◌||◌, List, [], ◌∷◌, ◌++◌, length, take, ltb}
+use Rattle.std.specs.Prelude.{ℕ, ◌+◌, ◌≡◌, Bool, true, false, ◌||◌, List, [], ◌∷◌, ◌++◌, length, take, ltb, Option as RustOption, Some, None}
+use Rattle.std.specs.Borrow.{Bor}
 use Rattle.xliff.specs.Text.{utf8s}
 use Rattle.xliff.specs.Encode.{Record, text_run, record_bytes, spell}
 use Rattle.xliff.specs.Good.{part_heads}
 use Rattle.xliff.specs.Parse.{is_part, most_bytes, most_records, most_parts}
-use Rattle.table_builder.specs.declared.Built.{Built}
+use Rattle.table_builder.specs.declared.TableBuilder.{TableBuilder}
 
 -- the records of a run of code points: none of an empty run
 unfoldable pub run_records : List ℕ → List Record
@@ -21,36 +22,35 @@ past_limits rs =
     ltb most_bytes (length (spell rs)) || (ltb most_records (length rs) || ltb most_parts (part_heads rs))
 
 -- the array and the numbers, for records within the limits
-pub record Within (table : List ℕ) (built : Built) (done : List Record) (run : List ℕ) : Type 0 where
-  pub used : built.used ≡ length (spell (with_run done run))
-  pub bytes : take built.used table ≡ spell (with_run done run)
-  pub records : built.records ≡ length (with_run done run)
-  pub parts : built.parts ≡ part_heads (with_run done run)
-  pub text : built.text ≡ length (utf8s run)
+pub record Within (builder : TableBuilder) (done : List Record) (run : List ℕ) : Type 0 where
+  pub used : builder.used ≡ length (spell (with_run done run))
+  pub bytes : take builder.used builder.table.now ≡ spell (with_run done run)
+  pub records : builder.records ≡ length (with_run done run)
+  pub parts : builder.parts ≡ part_heads (with_run done run)
+  pub text : builder.text ≡ length (utf8s run)
 
 -- beyond a limit only that is told
-pub record Holds (table : List ℕ) (built : Built) (done : List Record) (run : List ℕ) : Type 0 where
-  pub room : length table ≡ most_bytes
-  pub told : built.over ≡ past_limits (with_run done run)
-  pub within : built.over ≡ false → Within table built done run
-
--- some records are held
-pub record Building (table : List ℕ) (built : Built) : Type 0 where
-  pub done : List Record
-  pub run : List ℕ
-  pub holds : Holds table built done run
+pub record Holds (builder : TableBuilder) (done : List Record) (run : List ℕ) : Type 0 where
+  pub told : builder.over ≡ past_limits (with_run done run)
+  pub within : builder.over ≡ false → Within builder done run
 
 -- a record is put behind what is held
-unfoldable pub RecordPut : List ℕ → Built → List ℕ → Bool → List ℕ → Built → Type 0
-RecordPut table built bytes part table' built' =
-    (done : List Record) (run : List ℕ) (r : Record) → Holds table built done run → record_bytes r ≡ bytes → is_part r ≡ part
-    → Holds table' built' (with_run done run ++ (r ∷ [])) []
+unfoldable pub RecordPut : TableBuilder → List ℕ → Bool → TableBuilder → Type 0
+RecordPut builder bytes part builder' =
+    (done : List Record) (run : List ℕ) (r : Record) → Holds builder done run → record_bytes r ≡ bytes → is_part r ≡ part
+    → Holds builder' (with_run done run ++ (r ∷ [])) []
+
+-- a record that is put within the limits has its bytes
+abbrev pub Grows : TableBuilder → List ℕ → TableBuilder → Type 0
+Grows builder bytes builder' =
+    builder.over ≡ false → builder'.over ≡ false → builder'.used ≡ builder.used + length bytes
 
 -- a code point is put into the open run
-unfoldable pub CodePointPut : List ℕ → Built → ℕ → List ℕ → Built → Type 0
-CodePointPut table built c table' built' =
-    (done : List Record) (run : List ℕ) → Holds table built done run → Holds table' built' done (run ++ (c ∷ []))
+unfoldable pub CodePointPut : TableBuilder → ℕ → TableBuilder → Type 0
+CodePointPut builder c builder' =
+    (done : List Record) (run : List ℕ) → Holds builder done run → Holds builder' done (run ++ (c ∷ []))
 
--- nothing is held as yet
-unfoldable pub HoldsNothing : Built → Type 0
-HoldsNothing built = (table : List ℕ) → length table ≡ most_bytes → Holds table built [] []
+-- the table within the limits
+abbrev pub TableTold : TableBuilder → RustOption (Bor (List ℕ)) → Type 0
+TableTold builder None = builder.over ≡ true
+TableTold builder (Some table) = (builder.over ≡ false) × (table.now ≡ take builder.used builder.table.now)

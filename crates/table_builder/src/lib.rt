@@ -2,127 +2,131 @@
 // by code point. Beyond a limit of a table nothing more is written, and that is told.
 #![tactic(auto)]
 
-ghost use Rattle.std.specs.Prelude.{◌≡◌, true, false, ◌≤◌};
-ghost use Rattle.table_builder.specs.Building.{HoldsNothing, Building, RecordPut, CodePointPut};
+ghost use Rattle.std.specs.Prelude.{[], ◌≡◌, false, ◌+◌, ◌≤◌, length};
+ghost use Rattle.xliff.specs.Parse.{most_bytes, most_records, most_parts};
 
 use limits::{MOST_BYTES, MOST_PARTS, MOST_RECORDS};
 
-// How many bytes, records and parts the table has so far, how many bytes the text has that stands last (0: none does),
-// and whether a limit is passed.
-#[derive(Clone, Copy)]
-pub struct Built {
-    pub used: usize,
-    pub records: usize,
-    pub parts: usize,
-    pub text: usize,
-    pub over: bool,
+// The array, how many bytes, records and parts the table has so far, how many bytes of text stand last, and whether a
+// limit is passed. A text that stands last has its mark and its length before it.
+#[derive(Drop)]
+pub struct TableBuilder<'a> {
+    table: &'a mut [u8],
+    used: usize,
+    records: usize,
+    parts: usize,
+    text: usize,
+    over: bool,
+    pub ghost room: { length table.now ≡ most_bytes },
+    pub ghost inside: { used ≤ most_bytes },
+    pub ghost few_records: { records ≤ most_records },
+    pub ghost few_parts: { parts ≤ most_parts },
+    pub ghost text_inside: { 1 ≤ text → text + 4 ≤ used },
 }
 
-// Nothing as yet.
-pub fn nothing() -> Built
-    ensures { HoldsNothing result }
-{
-    Built {
-        used: 0,
-        records: 0,
-        parts: 0,
-        text: 0,
-        over: false,
-    }
-}
+impl<'a> TableBuilder<'a> {
+    ghost use Rattle.table_builder.specs.Building.{Holds, RecordPut, CodePointPut, Grows, TableTold};
 
-fn past_limit(built: Built) -> Built
-    ensures { result.over ≡ true }
-{
-    Built {
-        used: built.used,
-        records: built.records,
-        parts: built.parts,
-        text: built.text,
-        over: true,
-    }
-}
-
-// A record behind what is built; whether it is the head of a part.
-pub fn put_record(table: &mut [u8], built: Built, bytes: &[u8], heads_part: bool) -> Built
-    requires { Building table.old built }
-    ensures { RecordPut table.old built bytes.now heads_part table.new result }
-{
-    if built.over {
-        return built;
-    }
-    if (MOST_BYTES - built.used < bytes.len())
-        | ((built.records == MOST_RECORDS) | (heads_part & (built.parts == MOST_PARTS)))
+    // Nothing as yet.
+    pub fn new(table: &'a mut [u8]) -> TableBuilder<'a>
+        requires { length table.old ≡ most_bytes }
+        ensures { Holds result [] [] }
     {
-        return past_limit(built);
+        TableBuilder {
+            table,
+            used: 0,
+            records: 0,
+            parts: 0,
+            text: 0,
+            over: false,
+        }
     }
-    let used = built.used;
-    let wrote = writer::put(&mut table[used..], bytes);
-    let end = used + wrote;
-    let records = built.records + 1;
-    let more: usize = if heads_part { 1 } else { 0 };
-    let parts = built.parts + more;
-    Built {
-        used: end,
-        records: records,
-        parts: parts,
-        text: 0,
-        over: false,
-    }
-}
 
-// The first code point of a text.
-fn put_first(table: &mut [u8], built: Built, c: u32) -> Built
-    requires { (c ≤ 0x10FFFF) × Building table.old built × (built.over ≡ false) × (built.text ≡ 0) }
-    ensures { CodePointPut table.old built c table.new result }
-{
-    let wide = utf8::width(c);
-    let mut bytes = [0u8; 8];
-    let length_at = writer::put_mark(&mut bytes, 0, b"TX");
-    let text_at = writer::put_number(&mut bytes, length_at, wide as u16);
-    let end = utf8::put_code_point(&mut bytes, text_at, c);
-    let put = put_record(table, built, &bytes[..end], false);
-    Built {
-        used: put.used,
-        records: put.records,
-        parts: put.parts,
-        text: wide,
-        over: put.over,
+    // Whether a limit is passed.
+    pub fn is_over(&self) -> bool
+        ensures { result ≡ self.now.over }
+    {
+        self.over
     }
-}
 
-// A further one.
-fn put_further(table: &mut [u8], built: Built, c: u32) -> Built
-    requires { (c ≤ 0x10FFFF) × Building table.old built × (built.over ≡ false) × (1 ≤ built.text) }
-    ensures { CodePointPut table.old built c table.new result }
-{
-    let wide = utf8::width(c);
-    if MOST_BYTES - built.used < wide {
-        return past_limit(built);
+    // The table, unless a limit is passed.
+    pub fn table(&self) -> Option<&[u8]>
+        ensures { TableTold self.now result }
+    {
+        if self.over {
+            return None;
+        }
+        Some(&self.table[..self.used])
     }
-    let long = built.text + wide;
-    let end = utf8::put_code_point(table, built.used, c);
-    let length_at = end - long - 2;
-    let text_at = writer::put_number(table, length_at, long as u16);
-    Built {
-        used: end,
-        records: built.records,
-        parts: built.parts,
-        text: long,
-        over: false,
-    }
-}
 
-// A code point behind what is built: in the text that stands last, or in a new one.
-pub fn put_code_point(table: &mut [u8], built: Built, c: u32) -> Built
-    requires { (c ≤ 0x10FFFF) × Building table.old built }
-    ensures { CodePointPut table.old built c table.new result }
-{
-    if built.over {
-        return built;
+    // A record behind what is built; whether it is the head of a part.
+    pub fn put_record(&mut self, bytes: &[u8], heads_part: bool)
+        ensures put { RecordPut self.old bytes.now heads_part self.new }
+        ensures grows { Grows self.old bytes.now self.new }
+    {
+        if self.over {
+            return;
+        }
+        if (MOST_BYTES - self.used < bytes.len())
+            | ((self.records == MOST_RECORDS) | (heads_part & (self.parts == MOST_PARTS)))
+        {
+            self.over = true;
+            return;
+        }
+        let used = self.used;
+        let wrote = writer::put(&mut self.table[used..], bytes);
+        self.text = 0;
+        self.used = used + wrote;
+        self.records += 1;
+        self.parts += usize::from(heads_part);
     }
-    if built.text == 0 {
-        return put_first(table, built, c);
+
+    // The first code point of a text.
+    fn put_first(&mut self, c: u32)
+        requires { (c ≤ 0x10FFFF) × (self.old.over ≡ false) × (self.old.text ≡ 0) }
+        ensures { CodePointPut self.old c self.new }
+    {
+        let wide = utf8::width(c);
+        let mut bytes = [0u8; 8];
+        let length_at = writer::put_mark(&mut bytes, 0, b"TX");
+        let text_at = writer::put_number(&mut bytes, length_at, wide as u16);
+        let end = utf8::put_code_point(&mut bytes, text_at, c);
+        self.put_record(&bytes[..end], false);
+        if !self.over {
+            self.text = wide;
+        }
     }
-    put_further(table, built, c)
+
+    // A further one.
+    fn put_further(&mut self, c: u32)
+        requires { (c ≤ 0x10FFFF) × (self.old.over ≡ false) × (1 ≤ self.old.text) }
+        ensures { CodePointPut self.old c self.new }
+    {
+        let wide = utf8::width(c);
+        if MOST_BYTES - self.used < wide {
+            self.over = true;
+            return;
+        }
+        let long = self.text + wide;
+        let end = utf8::put_code_point(self.table, self.used, c);
+        let length_at = end - long - 2;
+        let text_at = writer::put_number(self.table, length_at, long as u16);
+        self.used = end;
+        self.text = long;
+    }
+
+    // A code point behind what is built: in the text that stands last, or in a new one.
+    pub fn put_code_point(&mut self, c: u32)
+        requires { c ≤ 0x10FFFF }
+        ensures { CodePointPut self.old c self.new }
+    {
+        if self.over {
+            return;
+        }
+        if self.text == 0 {
+            self.put_first(c);
+        } else {
+            self.put_further(c);
+        }
+    }
 }

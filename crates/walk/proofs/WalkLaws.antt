@@ -7,24 +7,27 @@ use mathlib.Core.List.{List, [], ◌∷◌, ◌++◌, map}
 use native.Mathlib.Omega.{arith}
 use lib.ListN.{length, take, drop}
 use lib.Dec.{eqb}
+use Rattle.std.specs.Prelude.{Option, Some, None}
 use Rattle.xliff.specs.Bytes.{two, four, two_at, any}
 use Rattle.xliff.specs.Item.{Item, Content, start, end, form_P, form_S, text, character, standalone, isolated, pair, annotation_start, annotation_end, mark, id_of}
 use Rattle.xliff.specs.Encode.{Record, text_run, inline, code_bytes, field_bytes, record_bytes, spell}
 use Rattle.xliff.specs.Parse.{is, mark_of, mark_at, reading, take_record, size_of}
-use Rattle.xliff.proofs.lists.Tests.{two_value, and_false}
+use Rattle.xliff.proofs.lists.Tests.{two_value}
 use Rattle.marks.specs.Marks.{meaning}
 use Rattle.marks.specs.declared.Mark.{Mark}
 use Rattle.marks.proofs.RecordLaws.{mark_front}
 use Rattle.walker.specs.Offsets.{MarkAt, WidthAt}
 use Rattle.walk.specs.Kept.{kept_item, kept_text, Of, items, Inline, an_item, a_text, InPart, item_in, text_in, InContent, Rest}
-use Rattle.walk.specs.Marks.{number, kind_at, kind, opposite, is_other, has_other}
+use Rattle.walk.specs.declared.HalfKind.{HalfKind}
+use Rattle.walk.specs.Marks.{number, kind_at, kind, are_opposite, is_other, has_other}
 use Rattle.walk.proofs.RecordLaws.{record_least, size_there, width_there, NextOf, next_of, none_left}
 
 -- what is no half has no other half
-pub no_opposite : (k : ℕ) → opposite k 0 ≡ false
-no_opposite k = simp and_false
+pub no_opposite : (k : Option HalfKind) → are_opposite k None ≡ false
+no_opposite None = refl
+no_opposite (Some k) = refl
 
-none : (k : ℕ) (a b : Bool) → opposite k 0 && a ≡ opposite k 0 && b
+none : (k : Option HalfKind) (a b : Bool) → are_opposite k None && a ≡ are_opposite k None && b
 none k a b = rw (no_opposite k)
 
 -- an inline record that is good: its kind, its id
@@ -45,13 +48,13 @@ module _ (s : List ℕ) where
   item_kind (annotation_end form_P i) g = refl
   item_kind (annotation_end form_S i) g = refl
 
-  pub text_kind : (cs : List ℕ) → kind_at (record_bytes (text_run cs) ++ s) ≡ 0
+  pub text_kind : (cs : List ℕ) → kind_at (record_bytes (text_run cs) ++ s) ≡ None
   unfolding kind_at mark_at mark_of is record_bytes two
   text_kind cs = refl
 
   -- whether a record is the other half of one of a kind and id, by its bytes
-  pub item_other : (k i : ℕ) (x : Item) → GoodItem x
-      → opposite k (kind_at (record_bytes (inline x) ++ s)) && eqb i (number (record_bytes (inline x) ++ s)) ≡ is_other k i x
+  pub item_other : (k : Option HalfKind) (i : ℕ) (x : Item) → GoodItem x
+      → are_opposite k (kind_at (record_bytes (inline x) ++ s)) && eqb i (number (record_bytes (inline x) ++ s)) ≡ is_other k i x
   unfolding kind_at mark_at mark_of is two_at record_bytes mark field_bytes code_bytes two four id_of
   item_other k i (text c) g = absurd g
   item_other k i (character c) g = none k _ _
@@ -160,9 +163,9 @@ module _ (p : Item → Bool) (q : List ℕ → Bool) (no_text : (c : ℕ) → p 
     search_on e = record { after = n.others; rest = n.rest; same = step false e }
 
 -- the other half of a kind and id
-module _ (k i : ℕ) where
+module _ (k : Option HalfKind) (i : ℕ) where
   abbrev other_bytes : List ℕ → Bool
-  other_bytes l = opposite k (kind_at l) && eqb i (number l)
+  other_bytes l = are_opposite k (kind_at l) && eqb i (number l)
 
   text_false : (c : ℕ) → is_other k i (text c) ≡ false
   text_false c = rw (no_opposite k)

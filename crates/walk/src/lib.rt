@@ -1,10 +1,10 @@
 // A walk over a content that is known to be good.
 #![tactic(auto)]
 
-ghost use Rattle.std.specs.Prelude.{◌≡◌, true, false, ◌&&◌, ◌+◌, ◌-◌, ◌<◌, ◌≤◌, length, drop, eqb};
+ghost use Rattle.std.specs.Prelude.{◌≡◌, true, false, Some, ◌&&◌, ◌+◌, ◌-◌, ◌<◌, ◌≤◌, length, drop, eqb};
 ghost use Rattle.walk.specs.Kept.{Fair};
 ghost use Rattle.marks.specs.Marks.{meaning};
-ghost use Rattle.walk.specs.Marks.{number, kind_of, kind_at, opposite, FoundOther};
+ghost use Rattle.walk.specs.Marks.{number, kind_of, kind_at, opposite, are_opposite, FoundOther};
 ghost use Rattle.walk.specs.Place.{pass_text, One, PassedOne, PlaceOf};
 
 use marks::Mark;
@@ -18,37 +18,54 @@ pub struct Place {
     pub left: usize,
 }
 
-// Which half of a pair or of an annotation a mark is: 1 and 2 a pair's start and end, 3 and 4 an annotation's, 0 none.
-pub fn kind_of(m: Mark) -> u8
-    ensures { result ≡ kind_of (meaning m) }
-{
-    match m {
-        Mark::PO | Mark::SC => 1,
-        Mark::PC | Mark::EC => 2,
-        Mark::MO | Mark::SM => 3,
-        Mark::MC | Mark::EM => 4,
-        _ => 0,
+// Which half of a pair or of an annotation a record is.
+#[derive(Clone, Copy, PartialEq, Eq)]
+pub enum HalfKind {
+    PairStart,
+    PairEnd,
+    AnnotationStart,
+    AnnotationEnd,
+}
+
+impl HalfKind {
+    // The kind of the other half.
+    fn opposite(self) -> HalfKind
+        ensures { result ≡ opposite self }
+    {
+        match self {
+            HalfKind::PairStart => HalfKind::PairEnd,
+            HalfKind::PairEnd => HalfKind::PairStart,
+            HalfKind::AnnotationStart => HalfKind::AnnotationEnd,
+            HalfKind::AnnotationEnd => HalfKind::AnnotationStart,
+        }
     }
 }
 
-fn opposite_kinds(a: u8, b: u8) -> bool
-    ensures { result ≡ opposite a b }
+// That of a mark; none where the mark is no half's.
+pub fn kind_of(m: Mark) -> Option<HalfKind>
+    ensures { result ≡ kind_of (meaning m) }
 {
-    ((a == 1) & (b == 2)) | ((a == 2) & (b == 1)) | (((a == 3) & (b == 4)) | ((a == 4) & (b == 3)))
+    match m {
+        Mark::PO | Mark::SC => Some(HalfKind::PairStart),
+        Mark::PC | Mark::EC => Some(HalfKind::PairEnd),
+        Mark::MO | Mark::SM => Some(HalfKind::AnnotationStart),
+        Mark::MC | Mark::EM => Some(HalfKind::AnnotationEnd),
+        _ => None,
+    }
 }
 
 // Whether the record at `at` is the other half of one of that kind and id.
-fn other_at(c: &[u8], at: usize, kind: u8, id: u16) -> bool
+fn other_at(c: &[u8], at: usize, kind: HalfKind, id: u16) -> bool
     requires { at + 4 ≤ length c.now }
-    ensures { result ≡ opposite kind (kind_at (drop at c.now)) && eqb id (number (drop at c.now)) }
+    ensures { result ≡ are_opposite (Some kind) (kind_at (drop at c.now)) && eqb id (number (drop at c.now)) }
 {
-    opposite_kinds(kind, kind_of(walker::mark_at(c, at))) & (id == marks::number_at(c, at + 2))
+    (kind_of(walker::mark_at(c, at)) == Some(kind.opposite())) & (id == marks::number_at(c, at + 2))
 }
 
 // Whether a content has the other half of a record of that kind and id.
-pub fn has_other(c: &[u8], kind: u8, id: u16) -> bool
+pub fn has_other(c: &[u8], kind: HalfKind, id: u16) -> bool
     requires { Fair c.now }
-    ensures { FoundOther c.now kind id result }
+    ensures { FoundOther c.now (Some kind) id result }
 {
     let mut at: usize = 0;
     while at < c.len() {

@@ -15,7 +15,9 @@ use Rattle.xml_names.specs.Names.{bytes_between, NameEnds}
 use Rattle.xml_names.proofs.NameLaws.{first_byte}
 use Rattle.xml_values.specs.Blanks.{BlanksEnd}
 use Rattle.xml_attribute.specs.declared.Next.{Next}
-use Rattle.xml_attribute.specs.declared.Next.TheVariants.{Short, Fault}
+use Rattle.xml_front.specs.declared.Flaw.{Flaw}
+use Rattle.xml_front.specs.declared.Flaw.TheVariants.{Cut, Wrong}
+use Rattle.std.specs.Prelude.{Result, Err}
 use Rattle.xml_attribute.specs.Attribute.{Reading}
 use Rattle.xml_attribute.proofs.ReadingLaws.{carry}
 
@@ -64,17 +66,17 @@ module _ (s : List ℕ) (i n e : ℕ) (h : i < length s) (is_name : starts_name 
       ∙ ap (λ (l : List ℕ). tokens_at s (equals_due t l) n) (first_byte s i n h r.read.low)
       ∙ b.read.before_equals t (bytes_between s i n)
 
-  pub equals_missing : length s ≤ e → Reading s (λ t. in_tag t true) i Short
+  pub equals_missing : length s ≤ e → Reading s (λ t. in_tag t true) i (Err Cut)
   unfolding at_end
   equals_missing k t = name_read t ∙ text_ends s (equals_due t name) e b.read.high k
 
-  pub equals_wrong : e < length s → (get_or s e 0 ≡ '=' → ⊥) → Reading s (λ t. in_tag t true) i Fault
+  pub equals_wrong : e < length s → (get_or s e 0 ≡ '=' → ⊥) → Reading s (λ t. in_tag t true) i (Err Wrong)
   equals_wrong k q t =
       name_read t
       ∙ at_stop s (equals_due t name) e k (fault t.place)
       (unfold step equals_step in rw (b.stops k, ne_eqb (get_or s e 0) '=' q))
 
-  pub equals_read : e < length s → get_or s e 0 ≡ '=' → (x : Next)
+  pub equals_read : e < length s → get_or s e 0 ≡ '=' → (x : Result Next Flaw)
       → Reading s (λ t. value_due t (bytes_between s i n)) (e + 1) x → Reading s (λ t. in_tag t true) i x
   unfolding name
   equals_read k q x y =

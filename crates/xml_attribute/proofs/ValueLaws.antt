@@ -11,17 +11,20 @@ use Rattle.xml.specs.Characters.{quote, apostrophe}
 use Rattle.xml.specs.Tokens.{Token, fault, cut_tag, Tag, in_tag, value_due, in_value, with_attribute, step, at_end}
 use Rattle.xml.specs.Places.{tokens_at}
 use Rattle.xml.proofs.PlaceLaws.{to_next, at_stop, text_ends}
-use Rattle.xml_names.specs.Names.{bytes_between}
+use Rattle.xml_names.specs.Names.{bytes_between, NameIn}
 use Rattle.xml_values.specs.Blanks.{BlanksEnd}
-use Rattle.xml_values.specs.Values.{ValueEnds, value_codes}
+use Rattle.xml_values.specs.Values.{ValueEnds, ValueRead, value_codes}
 use Rattle.xml_attribute.specs.declared.AttributeAt.{AttributeAt}
 use Rattle.xml_attribute.specs.declared.Next.TheVariants.{One}
-use Rattle.xml_attribute.specs.Attribute.{attribute_of, tag_with, AttributeIn, OneRead}
+use Rattle.std.specs.Prelude.{Ok, Err}
+use Rattle.xml_front.specs.declared.Flaw.{Flaw}
+use Rattle.xml_front.specs.declared.Flaw.TheVariants.{Cut, Wrong}
+use Rattle.xml_attribute.specs.Attribute.{attribute_of, tag_with, AttributeIn, OneRead, Reading}
 use Rattle.xml_attribute.proofs.ReadingLaws.{carry}
 
 -- the value, and its second quote
 value_read : (s : List ℕ) (a : AttributeAt) (q j : ℕ) → AttributeIn s a → a.mark ≡ q → a.next ≡ j + 1
-    → ValueEnds s a.value q j → OneRead s (λ t. in_value t (bytes_between s a.from a.upto) q []) a.value a
+    → ValueEnds s a.value q j → OneRead s (λ t. in_value t (bytes_between s a.name.from a.name.upto) q []) a.value a
 unfolding tag_with attribute_of
 value_read s a q j place m e r =
     let low = r.low in
@@ -34,7 +37,7 @@ value_read s a q j place m e r =
     }
   where
     name : List ℕ
-    name = bytes_between s a.from a.upto
+    name = bytes_between s a.name.from a.name.upto
 
     value : ℕ → List ℕ
     value k = value_codes k 0 (drop a.value s)
@@ -73,18 +76,23 @@ module _ (s : List ℕ) (i v : ℕ) (b : BlanksEnd s i v) where
           ∙ to_next s (value_due t n) v h (in_value t n (get_or s v 0) []) (unfold step in rw (b.stops h, is_quote))
 
       -- a value that does not end
-      pub value_ill : (ill : Tag → List Token)
+      value_ill : (ill : Tag → List Token)
           → ((t : Tag) (n w : List ℕ) → tokens_at s (in_value t n (get_or s v 0) w) (v + 1) ≡ ill t)
           → (n : List ℕ) (t : Tag) → tokens_at s (value_due t n) i ≡ ill t
       value_ill ill r n t = value_quoted n t ∙ r t n []
 
-      pub one_read : (from upto j : ℕ) → from ≤ upto → upto ≤ length s → ValueEnds s (v + 1) (get_or s v 0) j
+      pub value_at_fault : (e : Flaw) → ValueRead s (v + 1) (get_or s v 0) (Err e) → (n : List ℕ)
+          → Reading s (λ t. value_due t n) i (Err e)
+      value_at_fault Cut r n = value_ill (λ t. cut_tag t.place (length s) ∷ []) r n
+      value_at_fault Wrong r n = value_ill (λ t. fault t.place ∷ []) r n
+
+      pub one_read : (from upto j : ℕ) → NameIn s from upto → ValueEnds s (v + 1) (get_or s v 0) j
           → OneRead s (λ t. value_due t (bytes_between s from upto)) i
-          (record { from = from; upto = upto; value = v + 1; mark = get_or s v 0; next = j + 1 })
-      one_read from upto j l k r =
+          (record { name = record { from = from; upto = upto }; value = v + 1; mark = get_or s v 0; next = j + 1 })
+      one_read from upto j n r =
           let low = b.read.low in
           let name : List ℕ = bytes_between s from upto in
-          let a : AttributeAt = record { from = from; upto = upto; value = v + 1; mark = get_or s v 0; next = j + 1 } in
-          carry s (λ t. value_due t name) (λ t. in_value t name (get_or s v 0) []) i (v + 1) (One a) (omega arith)
+          let a : AttributeAt = record { name = record { from = from; upto = upto }; value = v + 1; mark = get_or s v 0; next = j + 1 } in
+          carry s (λ t. value_due t name) (λ t. in_value t name (get_or s v 0) []) i (v + 1) (Ok (One a)) (omega arith)
           (value_quoted name)
-          (value_read s a (get_or s v 0) j (record { name_low = l; name_high = k; value_high = omega arith }) refl refl r)
+          (value_read s a (get_or s v 0) j (record { name = n; value_high = omega arith }) refl refl r)

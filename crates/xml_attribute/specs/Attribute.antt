@@ -1,25 +1,26 @@
 -- What is read of a start tag from a place on.
-use Rattle.std.specs.Prelude.{ℕ, ◌≤◌, ◌<◌, ◌≡◌, Bool, true, false, cond, List, [], ◌∷◌, ◌++◌, length, drop}
+use Rattle.std.specs.Prelude.{ℕ, ◌≤◌, ◌<◌, ◌≡◌, Bool, true, false, cond, List, [], ◌∷◌, ◌++◌, length, drop, Result, Ok, Err}
 use Rattle.xml.specs.Tokens.{Attribute, Token, start_tag, end_tag, fault, cut_tag, Tag, State, outside_tags, in_tag, doubled, with_attribute}
 use Rattle.xml.specs.Places.{tokens_at}
-use Rattle.xml_names.specs.Names.{bytes_between}
+use Rattle.xml_names.specs.Names.{bytes_between, NameIn}
 use Rattle.xml_values.specs.Values.{value_codes}
 use Rattle.xml_attribute.specs.declared.AttributeAt.{AttributeAt}
 use Rattle.xml_attribute.specs.declared.Next.{Next}
-use Rattle.xml_attribute.specs.declared.Next.TheVariants.{One, End, Short, Fault}
+use Rattle.xml_attribute.specs.declared.Next.TheVariants.{One, End}
+use Rattle.xml_front.specs.declared.Flaw.{Flaw}
+use Rattle.xml_front.specs.declared.Flaw.TheVariants.{Cut, Wrong}
 
 -- the attribute that stands there, and a tag with it
 unfoldable pub attribute_of : List ℕ → AttributeAt → Attribute
 attribute_of s a =
-    record { name = bytes_between s a.from a.upto; value = value_codes a.mark 0 (drop a.value s) }
+    record { name = bytes_between s a.name.from a.name.upto; value = value_codes a.mark 0 (drop a.value s) }
 
 unfoldable pub tag_with : List ℕ → AttributeAt → Tag → Tag
 tag_with s a t = with_attribute t (attribute_of s a).name (attribute_of s a).value
 
 -- it lies within the text
 pub record AttributeIn (s : List ℕ) (a : AttributeAt) : Type 0 where
-  pub name_low : a.from ≤ a.upto
-  pub name_high : a.upto ≤ length s
+  pub name : NameIn s a.name.from a.name.upto
   pub value_high : a.value ≤ length s
 
 -- the tokens of a whole tag
@@ -47,8 +48,8 @@ pub record EndRead (s : List ℕ) (st : Tag → State) (at next : ℕ) (short : 
   pub inside : next ≤ length s
   pub same : (t : Tag) → tokens_at s (st t) at ≡ whole_tokens s next short t
 
-abbrev pub Reading : List ℕ → (Tag → State) → ℕ → Next → Type 0
-Reading s st at (One a) = OneRead s st at a
-Reading s st at (End next short) = EndRead s st at next short
-Reading s st at Short = (t : Tag) → tokens_at s (st t) at ≡ cut_tag t.place (length s) ∷ []
-Reading s st at Fault = (t : Tag) → tokens_at s (st t) at ≡ fault t.place ∷ []
+abbrev pub Reading : List ℕ → (Tag → State) → ℕ → Result Next Flaw → Type 0
+Reading s st at (Ok (One a)) = OneRead s st at a
+Reading s st at (Ok (End next short)) = EndRead s st at next short
+Reading s st at (Err Cut) = (t : Tag) → tokens_at s (st t) at ≡ cut_tag t.place (length s) ∷ []
+Reading s st at (Err Wrong) = (t : Tag) → tokens_at s (st t) at ≡ fault t.place ∷ []

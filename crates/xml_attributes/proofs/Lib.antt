@@ -1,3 +1,4 @@
 pub mod SlotLaws
 pub mod SpoiltLaws
 pub mod TagLaws
+pub mod PositionLaws

@@ -10,10 +10,11 @@ use Rattle.xml.specs.Places.{tokens_at}
 use Rattle.xml.specs.Attributes.{only}
 use Rattle.xml.specs.Elements.{elements}
 use Rattle.xml_attribute.specs.declared.AttributeAt.{AttributeAt}
-use Rattle.xml_attribute.specs.declared.Next.TheVariants.{Short, Fault}
+use Rattle.std.specs.Prelude.{Err}
+use Rattle.xml_front.specs.declared.Flaw.{Flaw}
+use Rattle.xml_front.specs.declared.Flaw.TheVariants.{Cut, Wrong}
 use Rattle.xml_attribute.specs.Attribute.{attribute_of, tag_with, OneRead, EndRead, Reading}
 use Rattle.xml_slots.specs.Slots.{slots_of, sound}
-use Rattle.xml_attributes.specs.declared.Tagged.TheVariants.{Cut as TagCut, Fault as TagFault}
 use Rattle.xml_attributes.specs.Tags.{tag_so_far, WholeTag, TagRead, Known, Placed}
 use Rattle.xml_attributes.proofs.SpoiltLaws.{fault_blamed, spoilt, sound_whole}
 
@@ -90,15 +91,13 @@ module _ (s : List ℕ) (start : ℕ) (lent slots : List ℕ) (at count : ℕ) (
       }
 
   pub spoilt_whole : (next : ℕ) (short : Bool) → EndRead s (λ t. in_tag t false) at next short → fine ≡ false
-      → TagRead s start slots TagFault
+      → TagRead s start slots (Err Wrong)
   spoilt_whole next short r e place name w =
       ap (elements w) (so_far.same place name ∙ r.same (tag_so_far place name ats))
       ∙ spoilt s next short place name ats w (sym so_far.known.are_sound ∙ e)
 
   -- the text's end; a fault
-  pub cut_tag : Reading s (λ t. in_tag t false) at Short → TagRead s start slots TagCut
-  cut_tag r place name = so_far.same place name ∙ r (tag_so_far place name ats)
-
-  pub tag_at_fault : Reading s (λ t. in_tag t false) at Fault → TagRead s start slots TagFault
-  tag_at_fault r place name w =
+  pub tag_at_fault : (e : Flaw) → Reading s (λ t. in_tag t false) at (Err e) → TagRead s start slots (Err e)
+  tag_at_fault Cut r = λ place name. so_far.same place name ∙ r (tag_so_far place name ats)
+  tag_at_fault Wrong r = λ place name w.
       ap (elements w) (so_far.same place name ∙ r (tag_so_far place name ats)) ∙ fault_blamed w place

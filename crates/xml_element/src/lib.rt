@@ -1,35 +1,42 @@
 // A start tag in a content, and the element that it opens.
 #![tactic(auto)]
 
-ghost use Rattle.std.specs.Prelude.{◌≡◌, ◌≤◌, length};
+ghost use Rattle.std.specs.Prelude.{[], ◌≡◌, ◌≤◌, length};
 ghost use Rattle.xliff.specs.Bytes.{equal};
-ghost use Rattle.xml_names.specs.Names.{bytes_between, NameIn};
+ghost use Rattle.xml_slots.specs.Slots.{slots_of};
 ghost use Rattle.xml_piece.specs.Pieces.{rest_at};
-ghost use Rattle.xml_records.specs.Collecting.{Collecting};
-ghost use Rattle.xml_element.specs.Opens.{TagBlamed, EmptyRead, SingleRead, OpenRead};
+ghost use Rattle.xml_element.specs.Opens.{spelled, TagIn, EndNameIn, AttributesRead, TagBlamed, EmptyRead, SingleRead, OpenRead};
+ghost use Rattle.xml_names.specs.Names.{NameIn};
 
 use table::Item;
-use table_builder::Built;
+use table_builder::TableBuilder;
 use xml_attributes::{Tagged, read_attributes};
 use xml_elements::{Inline, inline_element};
+use xml_front::Flaw;
+use xml_names::Span;
 use xml_piece::{Piece, piece_at};
 use xml_records::put_item;
 use xml_slots::{ABSENT, SLOTS, is_word};
+
+// The place of a text that is at fault.
+#[derive(Clone, Copy, Debug, PartialEq, Eq)]
+pub struct Blamed {
+    pub place: usize,
+}
+
+// A start tag: its place, and where its name stands; its attributes begin behind that.
+#[derive(Clone, Copy)]
+pub struct StartTag {
+    pub place: usize,
+    pub name: Span,
+}
 
 // An end tag: its place, where its name stands, and the place behind it.
 #[derive(Clone, Copy)]
 pub struct EndTag {
     pub place: usize,
-    pub from: usize,
-    pub upto: usize,
+    pub name: Span,
     pub next: usize,
-}
-
-// Behind the end of an empty element, or a place at fault.
-#[derive(Clone, Copy)]
-pub enum Emptied {
-    On(usize),
-    Bad(usize),
 }
 
 // A whole start tag of pc or mrk: the items at the element's two ends, the place behind the tag, and whether it is in
@@ -42,126 +49,125 @@ pub struct NestedTag {
     pub short: bool,
 }
 
-// Behind an empty element; at the content of another; a place at fault.
+// Behind an empty element; at the content of another.
 #[derive(Clone, Copy)]
 pub enum Opened {
-    Single(usize, Built),
+    Single(usize),
     Nested(NestedTag),
-    Bad(usize),
 }
 
-// Whether the end tag has the name that stands from one place to the other.
-pub fn ends_name(text: &[u8], from: usize, upto: usize, end: EndTag) -> bool
-    requires { NameIn text.now from upto × NameIn text.now end.from end.upto }
-    ensures { result ≡ equal (bytes_between text.now end.from end.upto) (bytes_between text.now from upto) }
+// Whether the end tag has this name.
+pub fn ends_name(text: &[u8], name: Span, end: EndTag) -> bool
+    requires { NameIn text.now name.from name.upto × EndNameIn text.now end }
+    ensures { result ≡ equal (spelled text.now end.name) (spelled text.now name) }
 {
-    let end_from = end.from;
-    let end_upto = end.upto;
-    is_word(&text[end_from..end_upto], &text[from..upto])
+    is_word(end.name.of(text), name.of(text))
 }
 
-// The place blamed for a start tag where none may stand: the tag, or the text's end where that cuts it.
-pub fn blamed_tag(text: &[u8], place: usize, upto: usize) -> usize
-    requires { upto ≤ length text.now }
-    ensures { TagBlamed text.now place upto result }
+// The attributes of a start tag, in slots. It is blamed where it is at fault, and the text's end where that cuts it.
+pub fn attributes_at(text: &[u8], tag: StartTag, slots: &mut [u32]) -> Result<Tagged, Blamed>
+    requires { TagIn text.now tag × (slots.old ≡ slots_of []) }
+    ensures { AttributesRead text.now tag slots.new result }
 {
-    let mut slots = [ABSENT; SLOTS];
-    match read_attributes(text, upto, &mut slots) {
-        Tagged::Whole(next, short, count) => place,
-        Tagged::Cut => text.len(),
-        Tagged::Fault => place,
+    match read_attributes(text, tag.name.upto, slots) {
+        Ok(tagged) => Ok(tagged),
+        Err(Flaw::Cut) => Err(Blamed { place: text.len() }),
+        Err(Flaw::Wrong) => Err(Blamed { place: tag.place }),
     }
 }
 
-// Behind the start tag of an empty element whose name stands from one place to the other: comments, and its end tag.
-fn empty_end(text: &[u8], from: usize, upto: usize, start: usize) -> Emptied
-    requires { NameIn text.now from upto × (start ≤ length text.now) }
-    ensures { EmptyRead text.now (bytes_between text.now from upto) start (rest_at text.now start) result }
+// The place blamed for a start tag where none may stand: the tag, or the text's end where that cuts it.
+pub fn blamed_tag(text: &[u8], tag: StartTag) -> Blamed
+    requires { TagIn text.now tag }
+    ensures { TagBlamed text.now tag result.place }
+{
+    let mut slots = [ABSENT; SLOTS];
+    match attributes_at(text, tag, &mut slots) {
+        Ok(_) => Blamed { place: tag.place },
+        Err(blamed) => blamed,
+    }
+}
+
+// Behind the start tag of an empty element of this name: comments, and its end tag. The place behind that.
+fn empty_end(text: &[u8], name: Span, start: usize) -> Result<usize, Blamed>
+    requires { NameIn text.now name.from name.upto × (start ≤ length text.now) }
+    ensures { EmptyRead text.now (spelled text.now name) start (rest_at text.now start) result }
 {
     let mut at = start;
     loop {
         match piece_at(text, at) {
-            Piece::Start(name_from, name_upto) => {
-                return Emptied::Bad(blamed_tag(text, at, name_upto));
+            Piece::Start(inner) => {
+                return Err(blamed_tag(
+                    text,
+                    StartTag {
+                        place: at,
+                        name: inner,
+                    },
+                ));
             }
-            Piece::Close(name_from, name_upto, next) => {
+            Piece::Close(other, next) => {
                 let end = EndTag {
                     place: at,
-                    from: name_from,
-                    upto: name_upto,
-                    next: next,
+                    name: other,
+                    next,
                 };
-                if ends_name(text, from, upto, end) {
-                    return Emptied::On(next);
+                if ends_name(text, name, end) {
+                    return Ok(next);
                 }
-                return Emptied::Bad(at);
+                return Err(Blamed { place: at });
             }
             Piece::Comment(next) => {
                 at = next;
             }
-            Piece::Character(c, next) => {
-                return Emptied::Bad(at);
-            }
-            Piece::Reference(c, next) => {
-                return Emptied::Bad(at);
-            }
             Piece::CutTag => {
-                return Emptied::Bad(text.len());
+                return Err(Blamed { place: text.len() });
             }
             Piece::Fault(place) => {
-                return Emptied::Bad(place);
+                return Err(Blamed { place });
             }
-            Piece::TextFault(place) => {
-                return Emptied::Bad(at);
-            }
-            Piece::End => {
-                return Emptied::Bad(at);
+            Piece::Character(_, _) | Piece::Reference(_, _) | Piece::TextFault(_) | Piece::End => {
+                return Err(Blamed { place: at });
             }
         }
     }
 }
 
 // The end of an empty element: in the short form its start tag's.
-fn single_end(text: &[u8], from: usize, upto: usize, next: usize, short: bool) -> Emptied
-    requires { NameIn text.now from upto × (next ≤ length text.now) }
-    ensures { SingleRead text.now (bytes_between text.now from upto) next short result }
+fn single_end(text: &[u8], name: Span, next: usize, short: bool) -> Result<usize, Blamed>
+    requires { NameIn text.now name.from name.upto × (next ≤ length text.now) }
+    ensures { SingleRead text.now (spelled text.now name) next short result }
 {
     if short {
-        return Emptied::On(next);
+        return Ok(next);
     }
-    empty_end(text, from, upto, next)
+    empty_end(text, name, next)
 }
 
-// The start tag at `place` in a content: its name stands from one place to the other.
+// A start tag in a content, and what it opens.
 pub fn open_element(
     text: &[u8],
-    place: usize,
-    from: usize,
-    upto: usize,
-    table: &mut [u8],
-    built: Built,
-) -> Opened
-    requires { NameIn text.now from upto × Collecting table.old built }
-    ensures { OpenRead text.now place (bytes_between text.now from upto) upto table.old built table.new result }
+    tag: StartTag,
+    builder: &mut TableBuilder,
+) -> Result<Opened, Blamed>
+    requires { TagIn text.now tag }
+    ensures { OpenRead text.now tag builder.old builder.new result }
 {
     let mut slots = [ABSENT; SLOTS];
-    match read_attributes(text, upto, &mut slots) {
-        Tagged::Whole(next, short, count) => {
-            match inline_element(&text[from..upto], &slots, count) {
-                Inline::Single(x) => match single_end(text, from, upto, next, short) {
-                    Emptied::On(behind) => Opened::Single(behind, put_item(table, built, x)),
-                    Emptied::Bad(blamed) => Opened::Bad(blamed),
-                },
-                Inline::Nested(x, y) => Opened::Nested(NestedTag {
-                    start: x,
-                    end: y,
-                    next: next,
-                    short: short,
-                }),
-                Inline::Bad => Opened::Bad(place),
-            }
+    let tagged = attributes_at(text, tag, &mut slots)?;
+    let Some(inline) = inline_element(tag.name.of(text), &slots, tagged.count) else {
+        return Err(Blamed { place: tag.place });
+    };
+    match inline {
+        Inline::Single(x) => {
+            let behind = single_end(text, tag.name, tagged.next, tagged.short)?;
+            put_item(builder, x);
+            Ok(Opened::Single(behind))
         }
-        Tagged::Cut => Opened::Bad(text.len()),
-        Tagged::Fault => Opened::Bad(place),
+        Inline::Nested(start, end) => Ok(Opened::Nested(NestedTag {
+            start,
+            end,
+            next: tagged.next,
+            short: tagged.short,
+        })),
     }
 }

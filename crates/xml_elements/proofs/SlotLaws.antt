@@ -6,13 +6,15 @@ use mathlib.Core.List.{List, [], ◌∷◌}
 use mathlib.Core.Option.{Option, none, some}
 use native.Mathlib.Omega.{arith}
 use lib.ListN.{length, get_or}
-use lib.Dec.{eqb}
-use borrow.Author.Tests.{eq-eqb, ne_eqb, lt-ltb, le-ltb}
+use lib.Dec.{eqb, leb}
+use borrow.Author.Tests.{ne_eqb, lt-ltb, le-ltb, leb-true, leb-false}
+use Rattle.std.specs.Prelude.{Result, Ok, Err, OkIff}
+use Rattle.std.specs.Result.{result_ok}
 use Rattle.xml.specs.Tokens.{Attribute}
 use Rattle.xml.specs.Attributes.{with, value_of, number, required, optional, hexadecimal, yes_no, yes_first_no, states, letter_of, choice}
 use Rattle.xml_slots.specs.Slots.{value_read, bad, absent, or_bad, good, in_slot, slot, slots_of}
 use Rattle.xml_slots.proofs.ValueLaws.{Within, nothing, value, number_within, states_within, yes_first_no_within, yes_no_within, value_within, slot_absent}
-use Rattle.xml_elements.specs.Reading.{name_of, words_of, not_zero}
+use Rattle.xml_elements.specs.Reading.{name_of, words_of, value_meaning}
 
 -- the letters of the table
 letter_within : (k : ℕ) (v : List ℕ) → Within 1 256 (letter_of (words_of k) v)
@@ -54,19 +56,6 @@ pub good_none : (v : ℕ) → bad ≤ v → good v ≡ none
 unfolding good
 good_none v h = rw (le-ltb v bad h) refl
 
-pub not_zero_some : (v : ℕ) → 1 ≤ v → not_zero v ≡ some v
-unfolding not_zero
-not_zero_some v h = rw (ne_eqb v 0 (λ (e : v ≡ 0). let z : ⊥ = omega (arith, e) in z)) refl
-
-pub not_zero_none : none ≡ not_zero 0
-unfolding not_zero
-not_zero_none = refl
-
-least : {high : ℕ} (o : Option ℕ) → Within 1 high o → 1 ≤ or_bad o
-unfolding or_bad
-least none nothing = omega arith
-least (some x) (value l h) = l
-
 small : {low : ℕ} (o : Option ℕ) → Within low 256 o → or_bad o < bad → or_bad o < 256
 unfolding or_bad
 small none nothing p = omega arith
@@ -84,17 +73,7 @@ module _ (k : ℕ) where
       ne_eqb _ _ (λ (e : in_slot k (some v) ≡ absent).
       let f : some v ≡ none = slot_absent k (some v) e in let z : ◌≡◌ {A = ℕ} 0 1 = cc in omega arith)
 
-  -- a number's slot holds 1 at least; a letter's, and one below 256 where it is good
-  some_number : (o : Option (List ℕ)) → k < 7 → 1 ≤ in_slot k o
-  unfolding in_slot
-  some_number none h = omega arith
-  some_number (some v) h = rw (number_slot k v h) (least (number v) (number_within v))
-
-  some_letter : (o : Option (List ℕ)) → 8 ≤ k → 1 ≤ in_slot k o
-  unfolding in_slot
-  some_letter none h = omega arith
-  some_letter (some v) h = rw (letter_slot k v h) (least (letter_of (words_of k) v) (letter_within k v))
-
+  -- a letter's slot that is good holds less than 256
   small_letter : (o : Option (List ℕ)) → 8 ≤ k → in_slot k o < bad → in_slot k o < 256
   unfolding in_slot
   small_letter none h p = omega arith
@@ -161,30 +140,52 @@ module _ (slots : List ℕ) (ats : List Attribute) (told : slots ≡ slots_of at
         by none = refl
         by (some v) = rw (is_there k v, ← letter_slot k v l) (told_with k (some v))
 
-    -- what the functions tell that read a slot
-    pub required_good : k < 7 → get_or slots k 0 < bad → not_zero (get_or slots k 0) ≡ required (name_of k) ats
-    required_good h p =
-        let above : 1 ≤ get_or slots k 0 = rw (told_at (omega arith)) (some_number k (value_of (name_of k) ats) h) in
-        not_zero_some _ above ∙ sym (good_some _ p) ∙ sym (required_told h)
+    -- one that is good is below 256
+    pub letter_small : 8 ≤ k → k < 16 → get_or slots k 0 < bad → get_or slots k 0 < 256
+    letter_small l h p = rw (told_at h) (small_letter k (value_of (name_of k) ats) l (rw (told_at h) at p))
 
-    pub required_bad : k < 7 → bad ≤ get_or slots k 0 → not_zero 0 ≡ required (name_of k) ats
-    required_bad h p = sym not_zero_none ∙ sym (good_none _ p) ∙ sym (required_told h)
+-- what a conversion to u16 or u8 tells of a slot: `bound` is where the type's numbers end
+module _ {E : Type 0} (bound v : ℕ) (small : bound ≤ bad) (fits : v < bad → v < bound) where
+  pub value_is : (r : Result ℕ E) → OkIff r (v < bound) v → value_meaning (result_ok r) ≡ good v
+  value_is (Ok x) (h, same) = rw same (sym (good_some v (omega arith)))
+  value_is (Err e) h = sym (good_none v (by (leb bad v) refl))
+    where
+      by : (b : Bool) → leb bad v ≡ b → bad ≤ v
+      by true e = leb-true bad v e
+      by false e = absurd (h (fits (leb-false bad v e)))
 
-    module _ (l : 8 ≤ k) (h : k < 16) where
-      pub letter_small : get_or slots k 0 < bad → get_or slots k 0 < 256
-      letter_small p = rw (told_at h) (small_letter k (value_of (name_of k) ats) l (rw (told_at h) at p))
+-- a letter, or its default
+pub letter_good : (d x : ℕ) → d < 256 → good (cond (eqb x absent) d x) ≡ cond (eqb x absent) (some d) (good x)
+letter_good d x h = by (eqb x absent)
+  where
+    by : (b : Bool) → good (cond b d x) ≡ cond b (some d) (good x)
+    by true = good_some d (omega arith)
+    by false = refl
 
-      module _ (d : ℕ) where
-        pub letter_absent : 1 ≤ d → get_or slots k 0 ≡ absent → not_zero d ≡ choice (name_of k) (words_of k) d ats
-        letter_absent u e = not_zero_some d u ∙ sym (rw (eq-eqb (get_or slots k 0) absent e) at (choice_told l h d))
+pub letter_fits : (d x : ℕ) → d < 256 → (x < bad → x < 256) → cond (eqb x absent) d x < bad → cond (eqb x absent) d x < 256
+letter_fits d x h fits = by (eqb x absent)
+  where
+    by : (b : Bool) → cond b d x < bad → cond b d x < 256
+    by true p = h
+    by false p = fits p
 
-        pub letter_bad : (get_or slots k 0 ≡ absent → ⊥) → bad ≤ get_or slots k 0
-            → not_zero 0 ≡ choice (name_of k) (words_of k) d ats
-        letter_bad n p =
-            sym not_zero_none ∙ sym (good_none _ p) ∙ sym (rw (ne_eqb (get_or slots k 0) absent n) at (choice_told l h d))
+-- what the functions tell that read a slot
+module _ {E : Type 0} (slots : List ℕ) (k : ℕ) (ats : List Attribute) (told : slots ≡ slots_of ats) where
+  pub required_read : k < 7 → (r : Result ℕ E) → OkIff r (get_or slots k 0 < bad) (get_or slots k 0)
+      → value_meaning (result_ok r) ≡ required (name_of k) ats
+  required_read h r made =
+      value_is bad (get_or slots k 0) (omega arith) (λ p. p) r made ∙ sym (required_told slots ats told k h)
 
-        pub letter_good : (get_or slots k 0 ≡ absent → ⊥) → get_or slots k 0 < bad
-            → not_zero (get_or slots k 0) ≡ choice (name_of k) (words_of k) d ats
-        letter_good n p =
-            let above : 1 ≤ get_or slots k 0 = rw (told_at h) (some_letter k (value_of (name_of k) ats) l) in
-            not_zero_some _ above ∙ sym (good_some _ p) ∙ sym (rw (ne_eqb (get_or slots k 0) absent n) at (choice_told l h d))
+  pub optional_read : k < 7 → (v : ℕ) → v ≡ cond (eqb (get_or slots k 0) absent) 0 (get_or slots k 0)
+      → (r : Result ℕ E) → OkIff r (v < bad) v → value_meaning (result_ok r) ≡ optional (name_of k) ats
+  optional_read h v is r made =
+      value_is bad v (omega arith) (λ p. p) r made ∙ ap good is ∙ sym (optional_told slots ats told k h)
+
+  pub letter_read : 8 ≤ k → k < 16 → (d : ℕ) → d < 256
+      → (v : ℕ) → v ≡ cond (eqb (get_or slots k 0) absent) d (get_or slots k 0)
+      → (r : Result ℕ E) → OkIff r (v < 256) v → value_meaning (result_ok r) ≡ choice (name_of k) (words_of k) d ats
+  letter_read l h d small v is r made =
+      let x = get_or slots k 0 in
+      let fits : v < bad → v < 256 = rw is (letter_fits d x small (letter_small slots ats told k l h)) in
+      value_is 256 v (omega arith) fits r made ∙ ap good is ∙ letter_good d x small
+      ∙ sym (choice_told slots ats told k l h d)

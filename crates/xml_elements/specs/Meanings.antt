@@ -1,5 +1,5 @@
 -- What the program tells of an element by its attributes. Stepping stones.
-use Rattle.std.specs.Prelude.{ℕ, Bool, cond, List, ◌∷◌}
+use Rattle.std.specs.Prelude.{ℕ, Bool, cond, List, ◌∷◌, Option as RustOption, Some, None}
 use Rattle.std.proofs.Math.Option.{Option, none, some}
 use Rattle.xliff.specs.Bytes.{'Y', equal}
 use Rattle.xliff.specs.Item as xliff
@@ -10,19 +10,20 @@ use Rattle.xml.specs.Attributes.{only, choice, code_fields, yes_no}
 use Rattle.xml.specs.Elements as xml
 use Rattle.xml.specs.Elements.{single, nested, code_names, read_mrk, read_sm, read_em}
 use Rattle.table.specs.Meaning.{fields, item}
-use Rattle.xml_elements.specs.declared.Coded.{Coded}
-use Rattle.xml_elements.specs.declared.Coded.TheVariants.{Good, Bad as NotCoded}
+use Rattle.table.specs.declared.Fields.{Fields}
 use Rattle.xml_elements.specs.declared.Inline.{Inline}
-use Rattle.xml_elements.specs.declared.Inline.TheVariants.{Single, Nested, Bad}
+use Rattle.xml_elements.specs.declared.Inline.TheVariants.{Single, Nested}
 
-abbrev pub coded_meaning : Coded → Option xliff.Fields
-coded_meaning (Good f) = some (fields f)
-coded_meaning NotCoded = none
+-- the fields of a code, if they are good
+abbrev pub coded_meaning : RustOption Fields → Option xliff.Fields
+coded_meaning (Some f) = some (fields f)
+coded_meaning None = none
 
-abbrev pub inline_meaning : Inline → Option xml.Inline
-inline_meaning (Single x) = some (single (item x))
-inline_meaning (Nested x y) = some (nested (item x) (item y))
-inline_meaning Bad = none
+-- an inline element, if it is one
+abbrev pub inline_meaning : RustOption Inline → Option xml.Inline
+inline_meaning (Some (Single x)) = some (single (item x))
+inline_meaning (Some (Nested x y)) = some (nested (item x) (item y))
+inline_meaning None = none
 
 -- the fields of sc and ec, by the name of their id
 unfoldable pub half_fields : List ℕ → List Attribute → Option xliff.Fields

@@ -1,5 +1,5 @@
 -- Attributes read from their slots. Stepping stones.
-use Rattle.std.specs.Prelude.{ℕ, ◌≤◌, ◌<◌, ◌≡◌, Bool, true, not, ◌&&◌, cond, List, [], ◌∷◌, map, get_or, eqb, ltb}
+use Rattle.std.specs.Prelude.{ℕ, ◌≤◌, ◌<◌, ◌≡◌, Bool, true, not, ◌&&◌, cond, List, [], ◌∷◌, map, get_or, eqb, ltb, Option as RustOption, Some, None}
 use Rattle.std.proofs.Math.Option.{Option, none, some}
 use Rattle.xliff.specs.Bytes.{'Y', among}
 use Rattle.xliff.specs.Item.{Fields}
@@ -38,13 +38,14 @@ module _ {A : Type 0} where
   unfoldable pub BySlots : List ℕ → (List Attribute → A) → A → Type 0
   BySlots slots f r = (ats : List Attribute) → slots ≡ slots_of ats → r ≡ f ats
 
--- a number or a letter; 0 is none
-unfoldable pub not_zero : ℕ → Option ℕ
-not_zero v = cond (eqb v 0) none (some v)
+-- a number or a letter, if there is one
+abbrev pub value_meaning : RustOption ℕ → Option ℕ
+value_meaning (Some v) = some v
+value_meaning None = none
 
 -- the fields of a code whose id and dataRef are in these slots, with this canOverlap
-abbrev pub fields_of_slots : ℕ → ℕ → ℕ → List Attribute → Option Fields
-fields_of_slots id ref overlap = code_fields (name_of id) (name_of ref) (not_zero overlap)
+abbrev pub fields_of_slots : ℕ → ℕ → Option ℕ → List Attribute → Option Fields
+fields_of_slots id ref = code_fields (name_of id) (name_of ref)
 
 -- the slots of sc and ec: that of the id, copyOf, dataRef, canCopy, canDelete, canOverlap, canReorder, isolated
 abbrev pub half_slots : ℕ → List ℕ

@@ -1,34 +1,26 @@
 // The inline elements, by their names and attributes; first what they and the heads of parts read of their slots.
 #![tactic(auto)]
 
-ghost use Rattle.std.specs.Prelude.{◌≡◌, true, ◌<◌, eqb};
+ghost use Rattle.std.specs.Prelude.{◌≡◌, true, eqb};
 ghost use Rattle.xliff.specs.Bytes.{'Y'};
 ghost use Rattle.xml.specs.Attributes.{only, required, optional, choice};
 ghost use Rattle.xml.specs.Elements.{end_of_pc, read_cp, read_ph, read_pc, read_sc, read_ec, read_mrk, read_sm, read_em, inline_of_name};
 ghost use Rattle.table.specs.Meaning.{fields, half as half-meaning, item};
-ghost use Rattle.xml_slots.specs.Slots.{SomeSlots, ByAttributes, good};
-ghost use Rattle.xml_elements.specs.Reading.{name_of, names_of, NumberSlot, LetterSlot, words_of, apart, Told, BySlots, not_zero, fields_of_slots, HalfId, half_id};
+ghost use Rattle.xml_slots.specs.Slots.{SomeSlots, ByAttributes};
+ghost use Rattle.xml_elements.specs.Reading.{name_of, names_of, NumberSlot, LetterSlot, words_of, apart, Told, BySlots, value_meaning, fields_of_slots, HalfId, half_id};
 ghost use Rattle.xml_elements.specs.Meanings.{coded_meaning, inline_meaning, half_fields, half_item, annotation_of_name};
 
 use table::{Fields, Form, Half, Item, Letters};
 use xml_slots::{
-    ABSENT, BAD, CAN_COPY, CAN_DELETE, CAN_OVERLAP, CAN_REORDER, COPY_OF, DATA_REF, DATA_REF_END,
+    CAN_COPY, CAN_DELETE, CAN_OVERLAP, CAN_REORDER, COPY_OF, DATA_REF, DATA_REF_END,
     DATA_REF_START, HEX, ID, ISOLATED, START_REF, TRANSLATE, is_word, or_default, present,
 };
 
-// The fields of a code.
-#[derive(Clone, Copy)]
-pub enum Coded {
-    Good(Fields),
-    Bad,
-}
-
-// An empty element; one with content: the items at its two ends; none.
+// An empty element; one with content: the items at its two ends.
 #[derive(Clone, Copy)]
 pub enum Inline {
     Single(Item),
     Nested(Item, Item),
-    Bad,
 }
 
 // Whether there are only attributes of these slots: they are as many as there are at all.
@@ -37,103 +29,89 @@ pub fn has_only(slots: &[u32], count: usize, those: &[usize]) -> bool
     ensures { ByAttributes slots.now count (only (names_of those.now)) result }
 {
     let mut there = 0;
-    for i in 0..those.len() {
-        let slot = those[i];
+    for &slot in those {
         there += present(slots[slot]);
     }
     there == count
 }
 
-// A number that must be there, or 0, which no good number is.
-pub fn required_number(slots: &[u32], slot: usize) -> u16
+// A number that must be there. What a slot holds that is no number does not fit.
+pub fn required_number(slots: &[u32], slot: usize) -> Option<u16>
     requires { Told slots.now × NumberSlot slot }
-    ensures { BySlots slots.now (required (name_of slot)) (not_zero result) }
+    ensures { BySlots slots.now (required (name_of slot)) (value_meaning result) }
 {
-    let value = slots[slot];
-    if BAD <= value {
-        return 0;
-    }
-    value as u16
+    u16::try_from(slots[slot]).ok()
 }
 
-// A number, which is 0 where it is absent, or BAD.
-pub fn optional_number(slots: &[u32], slot: usize) -> u32
+// A number, which is 0 where it is absent.
+pub fn optional_number(slots: &[u32], slot: usize) -> Option<u16>
     requires { Told slots.now × NumberSlot slot }
-    ensures { BySlots slots.now (optional (name_of slot)) (good result) }
+    ensures { BySlots slots.now (optional (name_of slot)) (value_meaning result) }
 {
-    or_default(slots[slot], 0)
+    u16::try_from(or_default(slots[slot], 0)).ok()
 }
 
-// The letter of a word, which is the default where it is absent, or 0, which no letter is.
-pub fn letter(slots: &[u32], slot: usize, default: u8) -> u8
-    requires { Told slots.now × LetterSlot slot × (0 < default) }
-    ensures { BySlots slots.now (choice (name_of slot) (words_of slot) default) (not_zero result) }
+// The letter of a word, which is the default where it is absent.
+pub fn letter(slots: &[u32], slot: usize, default: u8) -> Option<u8>
+    requires { Told slots.now × LetterSlot slot }
+    ensures { BySlots slots.now (choice (name_of slot) (words_of slot) default) (value_meaning result) }
 {
-    let value = slots[slot];
-    if value == ABSENT {
-        return default;
-    }
-    if BAD <= value {
-        return 0;
-    }
-    value as u8
+    u8::try_from(or_default(slots[slot], u32::from(default))).ok()
 }
 
-// The fields of a code: the slots of its id and its dataRef, its canOverlap or 0.
-fn code_fields(slots: &[u32], id_slot: usize, data_slot: usize, overlap: u8) -> Coded
+// The fields of a code: the slots of its id and its dataRef, its canOverlap.
+fn code_fields(
+    slots: &[u32],
+    id_slot: usize,
+    data_slot: usize,
+    overlap: Option<u8>,
+) -> Option<Fields>
     requires { Told slots.now × NumberSlot id_slot × NumberSlot data_slot }
-    ensures { BySlots slots.now (fields_of_slots id_slot data_slot overlap) (coded_meaning result) }
+    ensures { BySlots slots.now (fields_of_slots id_slot data_slot (value_meaning overlap)) (coded_meaning result) }
 {
-    let id = required_number(slots, id_slot);
-    let copy_of = optional_number(slots, COPY_OF);
-    let data_ref = optional_number(slots, data_slot);
-    let copy = letter(slots, CAN_COPY, b'Y');
-    let delete = letter(slots, CAN_DELETE, b'Y');
-    let reorder = letter(slots, CAN_REORDER, b'Y');
-    if (id == 0) | (BAD <= copy_of) | (BAD <= data_ref) {
-        return Coded::Bad;
-    }
-    if (copy == 0) | (delete == 0) | (overlap == 0) | (reorder == 0) {
-        return Coded::Bad;
-    }
-    Coded::Good(Fields {
-        id: id,
-        copy_of: copy_of as u16,
-        data_ref: data_ref as u16,
+    let id = required_number(slots, id_slot)?;
+    let copy_of = optional_number(slots, COPY_OF)?;
+    let data_ref = optional_number(slots, data_slot)?;
+    let copy = letter(slots, CAN_COPY, b'Y')?;
+    let delete = letter(slots, CAN_DELETE, b'Y')?;
+    let overlap = overlap?;
+    let reorder = letter(slots, CAN_REORDER, b'Y')?;
+    Some(Fields {
+        id,
+        copy_of,
+        data_ref,
         letters: Letters {
-            copy: copy,
-            delete: delete,
-            overlap: overlap,
-            reorder: reorder,
+            copy,
+            delete,
+            overlap,
+            reorder,
         },
     })
 }
 
 // <cp>
-fn read_cp(slots: &[u32], count: usize) -> Inline
+fn read_cp(slots: &[u32], count: usize) -> Option<Inline>
     requires { SomeSlots slots.now count }
     ensures { ByAttributes slots.now count read_cp (inline_meaning result) }
 {
-    let hex = slots[HEX];
-    if !has_only(slots, count, &[HEX]) | (BAD <= hex) {
-        return Inline::Bad;
+    if !has_only(slots, count, &[HEX]) {
+        return None;
     }
-    Inline::Single(Item::Character(hex))
+    let hex = u16::try_from(slots[HEX]).ok()?;
+    Some(Inline::Single(Item::Character(u32::from(hex))))
 }
 
 // <ph>: canOverlap is always - in PH.
-fn read_ph(slots: &[u32], count: usize) -> Inline
+fn read_ph(slots: &[u32], count: usize) -> Option<Inline>
     requires { SomeSlots slots.now count }
     ensures { ByAttributes slots.now count read_ph (inline_meaning result) }
 {
     let allowed = [ID, COPY_OF, DATA_REF, CAN_COPY, CAN_DELETE, CAN_REORDER];
     if !has_only(slots, count, &allowed) {
-        return Inline::Bad;
+        return None;
     }
-    match code_fields(slots, ID, DATA_REF, b'-') {
-        Coded::Good(f) => Inline::Single(Item::Standalone(f)),
-        Coded::Bad => Inline::Bad,
-    }
+    let f = code_fields(slots, ID, DATA_REF, Some(b'-'))?;
+    Some(Inline::Single(Item::Standalone(f)))
 }
 
 // The fields of the end of a pc: its own dataRef, and N where the start has firstNo.
@@ -159,7 +137,7 @@ fn end_of_pc(f: Fields, data_ref: u16) -> Fields
 }
 
 // <pc>: canOverlap is no where it is absent.
-fn read_pc(slots: &[u32], count: usize) -> Inline
+fn read_pc(slots: &[u32], count: usize) -> Option<Inline>
     requires { SomeSlots slots.now count }
     ensures { ByAttributes slots.now count read_pc (inline_meaning result) }
 {
@@ -173,22 +151,20 @@ fn read_pc(slots: &[u32], count: usize) -> Inline
         CAN_OVERLAP,
         CAN_REORDER,
     ];
-    let end_data = optional_number(slots, DATA_REF_END);
-    if !has_only(slots, count, &allowed) | (BAD <= end_data) {
-        return Inline::Bad;
+    if !has_only(slots, count, &allowed) {
+        return None;
     }
     let overlap = letter(slots, CAN_OVERLAP, b'N');
-    match code_fields(slots, ID, DATA_REF_START, overlap) {
-        Coded::Good(f) => Inline::Nested(
-            Item::Pair(Form::P, Half::Start, f),
-            Item::Pair(Form::P, Half::End, end_of_pc(f, end_data as u16)),
-        ),
-        Coded::Bad => Inline::Bad,
-    }
+    let f = code_fields(slots, ID, DATA_REF_START, overlap)?;
+    let end_data = optional_number(slots, DATA_REF_END)?;
+    Some(Inline::Nested(
+        Item::Pair(Form::P, Half::Start, f),
+        Item::Pair(Form::P, Half::End, end_of_pc(f, end_data)),
+    ))
 }
 
 // The fields of sc and ec, whose id is in this slot: canOverlap is yes where it is absent.
-fn half_fields(slots: &[u32], count: usize, id_slot: usize) -> Coded
+fn half_fields(slots: &[u32], count: usize, id_slot: usize) -> Option<Fields>
     requires { SomeSlots slots.now count × HalfId id_slot }
     ensures { ByAttributes slots.now count (half_fields (name_of id_slot)) (coded_meaning result) }
 {
@@ -203,7 +179,7 @@ fn half_fields(slots: &[u32], count: usize, id_slot: usize) -> Coded
         ISOLATED,
     ];
     if !has_only(slots, count, &allowed) {
-        return Coded::Bad;
+        return None;
     }
     let overlap = letter(slots, CAN_OVERLAP, b'Y');
     code_fields(slots, id_slot, DATA_REF, overlap)
@@ -220,18 +196,13 @@ fn half_item(isolated: u8, half: Half, f: Fields) -> Item
 }
 
 // <sc>
-fn read_sc(slots: &[u32], count: usize) -> Inline
+fn read_sc(slots: &[u32], count: usize) -> Option<Inline>
     requires { SomeSlots slots.now count }
     ensures { ByAttributes slots.now count read_sc (inline_meaning result) }
 {
-    let isolated = letter(slots, ISOLATED, b'N');
-    if isolated == 0 {
-        return Inline::Bad;
-    }
-    match half_fields(slots, count, ID) {
-        Coded::Good(f) => Inline::Single(half_item(isolated, Half::Start, f)),
-        Coded::Bad => Inline::Bad,
-    }
+    let isolated = letter(slots, ISOLATED, b'N')?;
+    let f = half_fields(slots, count, ID)?;
+    Some(Inline::Single(half_item(isolated, Half::Start, f)))
 }
 
 // The slot of the id of an ec: isolated yes has an id, else startRef.
@@ -245,63 +216,58 @@ fn half_id(isolated: u8) -> usize
 }
 
 // <ec>
-fn read_ec(slots: &[u32], count: usize) -> Inline
+fn read_ec(slots: &[u32], count: usize) -> Option<Inline>
     requires { SomeSlots slots.now count }
     ensures { ByAttributes slots.now count read_ec (inline_meaning result) }
 {
-    let isolated = letter(slots, ISOLATED, b'N');
-    if isolated == 0 {
-        return Inline::Bad;
-    }
-    match half_fields(slots, count, half_id(isolated)) {
-        Coded::Good(f) => Inline::Single(half_item(isolated, Half::End, f)),
-        Coded::Bad => Inline::Bad,
-    }
+    let isolated = letter(slots, ISOLATED, b'N')?;
+    let f = half_fields(slots, count, half_id(isolated))?;
+    Some(Inline::Single(half_item(isolated, Half::End, f)))
 }
 
 // <mrk>
-fn read_mrk(slots: &[u32], count: usize) -> Inline
+fn read_mrk(slots: &[u32], count: usize) -> Option<Inline>
     requires { SomeSlots slots.now count }
     ensures { ByAttributes slots.now count read_mrk (inline_meaning result) }
 {
-    let id = required_number(slots, ID);
-    let translate = letter(slots, TRANSLATE, b'-');
-    if !has_only(slots, count, &[ID, TRANSLATE]) | (id == 0) | (translate == 0) {
-        return Inline::Bad;
+    if !has_only(slots, count, &[ID, TRANSLATE]) {
+        return None;
     }
-    Inline::Nested(
+    let id = required_number(slots, ID)?;
+    let translate = letter(slots, TRANSLATE, b'-')?;
+    Some(Inline::Nested(
         Item::AnnotationStart(Form::P, id, translate),
         Item::AnnotationEnd(Form::P, id),
-    )
+    ))
 }
 
 // <sm>
-fn read_sm(slots: &[u32], count: usize) -> Inline
+fn read_sm(slots: &[u32], count: usize) -> Option<Inline>
     requires { SomeSlots slots.now count }
     ensures { ByAttributes slots.now count read_sm (inline_meaning result) }
 {
-    let id = required_number(slots, ID);
-    let translate = letter(slots, TRANSLATE, b'-');
-    if !has_only(slots, count, &[ID, TRANSLATE]) | (id == 0) | (translate == 0) {
-        return Inline::Bad;
+    if !has_only(slots, count, &[ID, TRANSLATE]) {
+        return None;
     }
-    Inline::Single(Item::AnnotationStart(Form::S, id, translate))
+    let id = required_number(slots, ID)?;
+    let translate = letter(slots, TRANSLATE, b'-')?;
+    Some(Inline::Single(Item::AnnotationStart(Form::S, id, translate)))
 }
 
 // <em>
-fn read_em(slots: &[u32], count: usize) -> Inline
+fn read_em(slots: &[u32], count: usize) -> Option<Inline>
     requires { SomeSlots slots.now count }
     ensures { ByAttributes slots.now count read_em (inline_meaning result) }
 {
-    let id = required_number(slots, START_REF);
-    if !has_only(slots, count, &[START_REF]) | (id == 0) {
-        return Inline::Bad;
+    if !has_only(slots, count, &[START_REF]) {
+        return None;
     }
-    Inline::Single(Item::AnnotationEnd(Form::S, id))
+    let id = required_number(slots, START_REF)?;
+    Some(Inline::Single(Item::AnnotationEnd(Form::S, id)))
 }
 
 // The annotations, by their names.
-fn annotation_element(name: &[u8], slots: &[u32], count: usize) -> Inline
+fn annotation_element(name: &[u8], slots: &[u32], count: usize) -> Option<Inline>
     requires { SomeSlots slots.now count }
     ensures { ByAttributes slots.now count (annotation_of_name name.now) (inline_meaning result) }
 {
@@ -314,11 +280,11 @@ fn annotation_element(name: &[u8], slots: &[u32], count: usize) -> Inline
     if is_word(name, b"em") {
         return read_em(slots, count);
     }
-    Inline::Bad
+    None
 }
 
 // The inline element of this name.
-pub fn inline_element(name: &[u8], slots: &[u32], count: usize) -> Inline
+pub fn inline_element(name: &[u8], slots: &[u32], count: usize) -> Option<Inline>
     requires { SomeSlots slots.now count }
     ensures { ByAttributes slots.now count (inline_of_name name.now) (inline_meaning result) }
 {

@@ -10,21 +10,25 @@ use lib.Seq.{take-append-le, get_or-take}
 use lib.Dec.{leb, ltb}
 use borrow.Author.Tests.{ltb-true, ltb-false, leb-true, leb-false, lt-ltb, le-ltb, le-leb, lt-leb}
 use borrow.Table.Steps.{cases}
+use Rattle.std.specs.Prelude.{Option as RustOption, Some, None}
 use Rattle.xliff.specs.Bytes.{equal}
 use Rattle.xliff.specs.Text.{between, xml_allows, six, utf8_1, utf8_2, utf8_3, utf8_4, utf8, spelled, allowed_first}
 use Rattle.xliff.proofs.lists.Tests.{and_left, and_right, and_both, and-true, or_both, equal_true, equal_refl}
 use Rattle.xliff.proofs.text.Utf8.{utf8_nonempty, spelled_utf8, allowed_first_utf8, allowed_first_some}
-use Rattle.text.specs.Utf8.{scalar, xml_char, point_of, char_of}
-use Rattle.text.specs.declared.Char.{Char}
-use Rattle.text.specs.declared.Char.TheVariants.{Point, Bad}
+use Rattle.text.specs.Utf8.{scalar, xml_char, character, point_of, char_of}
+use Rattle.text.specs.declared.Character.{Character}
 use Rattle.text.proofs.TextLaws.{xml_same, decoded_scalar, decoded_allowed, char_is}
 use Rattle.xml.specs.Characters.{found, cut, wrong, is_scalar, part_of, cut_character, front_character}
 
--- a byte that is there is the same whatever stands for one that is missing
-pub default_free : (t : List ℕ) (i a b : ℕ) → i < length t → get_or t i a ≡ get_or t i b
-default_free [] i a b h = absurd (let z : ⊥ = omega arith in z)
-default_free (x ∷ t) zero a b h = refl
-default_free (x ∷ t) (suc i) a b h = default_free t i a b (omega arith)
+-- one character, read twice
+one_character : {x y : Character} → Some x ≡ Some y → x ≡ y
+one_character e = cc
+
+point_same : {c w d v : ℕ} {a b : Bool} → character c w a ≡ character d v b → c ≡ d
+point_same e = ap (λ (x : Character). x.point) (one_character e)
+
+width_same : {c w d v : ℕ} {a b : Bool} → character c w a ≡ character d v b → w ≡ v
+width_same e = ap (λ (x : Character). x.width) (one_character e)
 
 -- the code points that UTF-8 can hold, as the decoder and the specification say it
 scalar_same : (c : ℕ) → scalar c ≡ is_scalar c
@@ -177,7 +181,7 @@ module _ (t : List ℕ) (p : ℕ) (n : 1 ≤ length t) (k : Trail p) where
       ap char_of (whole t p (guess t p) k n (filled_spells t p n) part.unfinished part.here)
       ∙ decoded_scalar (guess t p) _ part.can_hold
 
-  decoded_part : (c w : ℕ) {a : Bool} → char_of (filled_up t p) ≡ Point c w a → length t < w → part_of t (guess t p) ≡ true
+  decoded_part : (c w : ℕ) {a : Bool} → char_of (filled_up t p) ≡ character c w a → length t < w → part_of t (guess t p) ≡ true
   decoded_part c w e h =
       let read = char_is (filled_up t p) c w e in
       let rest = drop w (filled_up t p) in
@@ -190,20 +194,20 @@ module _ (t : List ℕ) (p : ℕ) (n : 1 ≤ length t) (k : Trail p) where
       rw same
       (is_part t c (record { can_hold = read.can_hold; unfinished = omega (arith, read.width); here = front }))
 
-  module _ {r : Char} (e : r ≡ char_of (filled_up t p)) where
-    pub goes_on : {c w : ℕ} {a : Bool} → r ≡ Point c w a → ltb (length t) w ≡ part_of t (guess t p)
+  module _ {r : RustOption Character} (e : r ≡ char_of (filled_up t p)) where
+    pub goes_on : {c w : ℕ} {a : Bool} → r ≡ character c w a → ltb (length t) w ≡ part_of t (guess t p)
     goes_on {c} {w} f =
         cases (part_of t (guess t p))
         (λ b.
         let same = part_decoded b in
-        let size : w ≡ length (utf8 (guess t p)) = cc in
+        let size : w ≡ length (utf8 (guess t p)) = width_same (sym f ∙ e ∙ same) in
         lt-ltb (length t) w (omega (arith, (part_is t (guess t p) b).unfinished)) ∙ sym b)
         (λ b.
         cases (ltb (length t) w)
         (λ l. absurd (true≢false (sym (decoded_part c w (sym e ∙ f) (ltb-true _ _ l)) ∙ b)))
         (λ l. l ∙ sym b))
 
-    pub goes_nowhere : r ≡ Bad → false ≡ part_of t (guess t p)
+    pub goes_nowhere : r ≡ None → false ≡ part_of t (guess t p)
     goes_nowhere f =
         cases (part_of t (guess t p))
         (λ b.
@@ -212,7 +216,7 @@ module _ (t : List ℕ) (p : ℕ) (n : 1 ≤ length t) (k : Trail p) where
         sym
 
 -- THE FRONT. A whole character is not cut
-whole_uncut : (t : List ℕ) (c w : ℕ) {a : Bool} → char_of t ≡ Point c w a → (d : ℕ) → part_of t d ≡ false
+whole_uncut : (t : List ℕ) (c w : ℕ) {a : Bool} → char_of t ≡ character c w a → (d : ℕ) → part_of t d ≡ false
 whole_uncut t c w e d =
     cases (part_of t d)
     (λ b.
@@ -225,11 +229,11 @@ whole_uncut t c w e d =
     let one = decoded_scalar d [] part.can_hold in
     let other = decoded_scalar c (drop w t ++ tail) read.can_hold in
     let same : point_of d (length (utf8 d)) ≡ point_of c (length (utf8 c)) = sym one ∙ ap char_of both ∙ other in
-    let size : length (utf8 d) ≡ length (utf8 c) = cc in
+    let size : length (utf8 d) ≡ length (utf8 c) = width_same same in
     absurd (omega (arith, part.unfinished, ap length read.bytes, length-append (utf8 c) (drop w t))))
     (λ b. b)
 
-uncut : (t : List ℕ) (c w : ℕ) {a : Bool} → char_of t ≡ Point c w a → cut_character t ≡ false
+uncut : (t : List ℕ) (c w : ℕ) {a : Bool} → char_of t ≡ character c w a → cut_character t ≡ false
 unfolding cut_character
 uncut t c w e = or_both _ _ (whole_uncut t c w e _) (whole_uncut t c w e _)
 
@@ -248,11 +252,11 @@ not_found : (t : List ℕ) (b : Bool) → allowed_first t ≡ none → cut_chara
 unfolding front_character
 not_found t b h k = rw (h, front_character, k)
 
-module _ (t : List ℕ) {r : Char} (e : r ≡ char_of t) where
-  pub front_width : {c w : ℕ} {a : Bool} → r ≡ Point c w a → 1 ≤ w
+module _ (t : List ℕ) {r : RustOption Character} (e : r ≡ char_of t) where
+  pub front_width : {c w : ℕ} {a : Bool} → r ≡ character c w a → 1 ≤ w
   front_width {c} {w} f = omega (arith, (char_is t c w (sym e ∙ f)).width, utf8_nonempty c)
 
-  pub front_found : {c w : ℕ} {a : Bool} → r ≡ Point c w a → xml_char c ≡ true → found c (w - 1) ≡ front_character t
+  pub front_found : {c w : ℕ} {a : Bool} → r ≡ character c w a → xml_char c ≡ true → found c (w - 1) ≡ front_character t
   unfolding front_character
   front_found {c} {w} f h =
       let read = char_is t c w (sym e ∙ f) in
@@ -260,16 +264,16 @@ module _ (t : List ℕ) {r : Char} (e : r ≡ char_of t) where
       let first = ap allowed_first read.bytes ∙ allowed_first_utf8 c (drop w t) allows in
       rw (first, front_character, read.width)
 
-  pub front_forbidden : {c w : ℕ} {a : Bool} → r ≡ Point c w a → xml_char c ≡ false → wrong ≡ front_character t
+  pub front_forbidden : {c w : ℕ} {a : Bool} → r ≡ character c w a → xml_char c ≡ false → wrong ≡ front_character t
   front_forbidden {c} {w} f h =
       not_found t false
       (nothing t
       (λ d allows g.
-      let same : c ≡ d = cc in
+      let same : c ≡ d = point_same (sym f ∙ e ∙ g) in
       true≢false (sym allows ∙ sym (xml_same d) ∙ ap xml_char (sym same) ∙ h)))
       (uncut t c w (sym e ∙ f))
 
-  pub front_bad : (b : Bool) → r ≡ Bad → b ≡ cut_character t → cond b cut wrong ≡ front_character t
+  pub front_bad : (b : Bool) → r ≡ None → b ≡ cut_character t → cond b cut wrong ≡ front_character t
   front_bad b f h =
       not_found t b
       (nothing t

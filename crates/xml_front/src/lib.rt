@@ -1,18 +1,23 @@
 // The character at the front of bytes, as XML 1.0 allows it.
 #![tactic(auto)]
 
-ghost use Rattle.std.specs.Prelude.{◌≡◌, [], ◌∷◌, ◌++◌, ◌-◌, ◌≤◌, ◌<◌, length, get_or};
+ghost use Rattle.std.specs.Prelude.{◌≡◌, [], ◌∷◌, ◌++◌, ◌≤◌, length, get_or};
 ghost use Rattle.xliff.specs.Text.{spelled};
 ghost use Rattle.xml.specs.Characters.{begins, part_of, cut_character, front_character};
 ghost use Rattle.xml_front.specs.Fronts.{told};
 
-use text::{Char, char_of, xml_char};
+use text::{char_of, xml_char};
 
-// What stands at the front: a code point and how many bytes it takes after the first; the bytes end within it; nothing
-// that XML allows.
+// A code point at the front, and how many bytes it takes after the first.
 #[derive(Clone, Copy)]
-pub enum Front {
-    Found(u32, usize),
+pub struct Front {
+    pub point: u32,
+    pub more: usize,
+}
+
+// Why there is none: the bytes end within it, or nothing that XML allows stands there.
+#[derive(Clone, Copy, PartialEq, Eq, Debug)]
+pub enum Flaw {
     Cut,
     Wrong,
 }
@@ -21,41 +26,14 @@ pub enum Front {
 pub fn begins(word: &[u8], text: &[u8]) -> bool
     ensures { result ≡ begins word.now text.now }
 {
-    for at in 0..word.len() {
-        if text.len() <= at {
-            return false;
-        }
-        if word[at] != text[at] {
-            return false;
-        }
-    }
-    true
-}
-
-fn wider(x: u8) -> u32
-    ensures { (result ≡ x) × (result < 256) }
-{
-    x as u32
-}
-
-// `a` less `b`, or 0.
-pub fn less(a: u8, b: u8) -> u32
-    ensures { (result ≡ a - b) × (result < 256) }
-{
-    if a < b {
-        return 0;
-    }
-    wider(a - b)
+    text.starts_with(word)
 }
 
 // The byte at a place, or another where there is none.
 fn byte_or(text: &[u8], at: usize, pad: u8) -> u8
     ensures { result ≡ get_or text.now at pad }
 {
-    if at < text.len() {
-        return text[at];
-    }
-    pad
+    text.get(at).copied().unwrap_or(pad)
 }
 
 // Whether the bytes are the beginning of a character and not the whole of it: of the character that stands there once
@@ -71,8 +49,8 @@ fn goes_on(text: &[u8], pad: u8) -> bool
         byte_or(text, 3, pad),
     ];
     match char_of(&filled) {
-        Char::Point(_, width, _) => text.len() < width,
-        Char::Bad => false,
+        Some(whole) => text.len() < whole.width,
+        None => false,
     }
 }
 
@@ -85,22 +63,16 @@ fn cut_in(text: &[u8]) -> bool
 }
 
 // The character at the front of the text. One that XML forbids stands there whole, so it is not cut.
-pub fn front_character(text: &[u8]) -> Front
+pub fn front_character(text: &[u8]) -> Result<Front, Flaw>
     requires { 1 ≤ length text.now }
     ensures { told result ≡ front_character text.now }
 {
     match char_of(text) {
-        Char::Point(c, width, _) => {
-            if xml_char(c) {
-                return Front::Found(c, width - 1);
-            }
-            Front::Wrong
-        }
-        Char::Bad => {
-            if cut_in(text) {
-                return Front::Cut;
-            }
-            Front::Wrong
-        }
+        Some(c) if xml_char(c.point) => Ok(Front {
+            point: c.point,
+            more: c.width - 1,
+        }),
+        None if cut_in(text) => Err(Flaw::Cut),
+        _ => Err(Flaw::Wrong),
     }
 }

@@ -15,17 +15,17 @@ use Rattle.xml_tags.proofs.TagLaws.{attributes_then}
 use Rattle.xml_items.specs.Items.{code_start}
 
 -- attributes behind those that a tag has
-pub tag_more : {o p q : List ℕ} {d e f : Draft} (tag : List ℕ) (a b : List Attribute)
-    → Wrote (tag ++ attributes_bytes a) o d p e → Wrote (attributes_bytes b) p e q f
-    → Wrote (tag ++ attributes_bytes (a ++ b)) o d q f
+pub tag_more : {d e f : Draft} (tag : List ℕ) (a b : List Attribute)
+    → Wrote (tag ++ attributes_bytes a) d e → Wrote (attributes_bytes b) e f
+    → Wrote (tag ++ attributes_bytes (a ++ b)) d f
 tag_more tag a b v w =
     wrote_as (append_assoc tag (attributes_bytes a) (attributes_bytes b)
     ∙ ap (λ (l : List ℕ). tag ++ l) (sym (gather_append attribute_bytes a b)))
     (wrote_then v w)
 
 -- a tag whose attributes are all there is closed
-pub tag_end : {o p q : List ℕ} {d e f : Draft} (tag : List ℕ) {a b : List Attribute} {close : List ℕ} → a ≡ b
-    → Wrote (tag ++ attributes_bytes a) o d p e → Wrote close p e q f → Wrote (tag ++ (attributes_bytes b ++ close)) o d q f
+pub tag_end : {d e f : Draft} (tag : List ℕ) {a b : List Attribute} {close : List ℕ} → a ≡ b
+    → Wrote (tag ++ attributes_bytes a) d e → Wrote close e f → Wrote (tag ++ (attributes_bytes b ++ close)) d f
 tag_end tag {a} {b} {close} h v w =
     wrote_as (append_assoc tag (attributes_bytes a) close ∙ ap (λ (l : List Attribute). tag ++ (attributes_bytes l ++ close)) h)
     (wrote_then v w)
@@ -53,13 +53,13 @@ end_any form_P i after = refl
 end_any form_S i after = refl
 
 -- the tag of a code: its start, its dataRef, the rest
-pub code_closed : {o p q r s : List ℕ} {d e f g h : Draft} (tag id : List ℕ) (x : Fields)
+pub code_closed : {d e f g h : Draft} (tag id : List ℕ) (x : Fields)
     (refs others : List Attribute) {close : List ℕ}
-    → Wrote (code_start tag id x) o d p e → Wrote (attributes_bytes refs) p e q f
-    → Wrote (attributes_bytes others) q f r g → Wrote close r g s h
+    → Wrote (code_start tag id x) d e → Wrote (attributes_bytes refs) e f
+    → Wrote (attributes_bytes others) f g → Wrote close g h
     → Wrote
     (tag ++ (attributes_bytes (number_attribute id x.id ++ (unless_zero 'copyOf' x.copy_of ++ (refs ++ others))) ++ close))
-    o d s h
+    d h
 code_closed tag id x refs others u v w y =
     let a = number_attribute id x.id in
     let b = unless_zero 'copyOf' x.copy_of in

@@ -37,6 +37,6 @@ FourDigits (annotation_start w i t) = Unit {0}
 FourDigits (annotation_end w i) = Unit {0}
 
 -- an item is written, in front of any content of whose ends the first pending has this dataRef
-abbrev pub WroteItem : Item → ℕ → List ℕ → Draft → List ℕ → Draft → Type 0
-WroteItem x end_data out draft out' draft' =
-    (after : Content) → first_data (pending after) ≡ end_data → Wrote (item_text x after) out draft out' draft'
+abbrev pub WroteItem : Item → ℕ → Draft → Draft → Type 0
+WroteItem x end_data draft draft' =
+    (after : Content) → first_data (pending after) ≡ end_data → Wrote (item_text x after) draft draft'

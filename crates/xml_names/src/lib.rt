@@ -3,7 +3,24 @@
 
 ghost use Rattle.std.specs.Prelude.{◌≡◌, ◌≤◌, length};
 ghost use Rattle.xml.specs.Characters.{starts_name, in_a_name};
-ghost use Rattle.xml_names.specs.Names.{NameEnds};
+ghost use Rattle.xml_names.specs.Names.{bytes_between, NameIn, NameEnds};
+
+// Where a name stands in a text: from one place to another.
+#[derive(Clone, Copy)]
+pub struct Span {
+    pub from: usize,
+    pub upto: usize,
+}
+
+impl Span {
+    // The name that stands there.
+    pub fn of(self, text: &[u8]) -> &[u8]
+        requires { NameIn text.now self.from self.upto }
+        ensures { result.now ≡ bytes_between text.now self.from self.upto }
+    {
+        &text[self.from..self.upto]
+    }
+}
 
 // Whether a byte begins a name.
 pub fn name_starts(b: u8) -> bool
@@ -24,12 +41,9 @@ pub fn name_end(text: &[u8], from: usize) -> usize
     requires { from ≤ length text.now }
     ensures { NameEnds text.now from result }
 {
-    let mut at = from;
-    while at < text.len() {
-        if !name_goes_on(text[at]) {
-            return at;
-        }
-        at += 1;
-    }
-    at
+    let more = text[from..]
+        .iter()
+        .take_while(|b| name_goes_on(**b))
+        .count();
+    from + more
 }

@@ -15,11 +15,9 @@ use Rattle.places.specs.Offsets.{At}
 use Rattle.places.proofs.Places.{at_next, at_end, at_more}
 use Rattle.walker.specs.Offsets.{After}
 use Rattle.xml.proofs.EndLaws.{at_closing, end_data, end_data_written}
-use Rattle.xml_nesting.specs.declared.Ending.{Ending}
-use Rattle.xml_nesting.specs.declared.Ending.TheVariants.{Found, Open}
 use Rattle.xml_nesting.specs.declared.Step.{Step}
 use Rattle.xml_nesting.specs.declared.Step.TheVariants.{Opens, Closes, Stays, Ends}
-use Rattle.xml_nesting.specs.Nesting.{step_of_item, step_of, closing_at, ending_behind, first_content, end_of}
+use Rattle.xml_nesting.specs.Nesting.{Ending, Found, Open, step_of_item, step_of, closing_at, ending_behind, first_content, end_of}
 use Rattle.xml_nesting.proofs.StepLaws.{passed}
 
 -- what comes of an ending, where `go` looks on with so many unclosed
@@ -88,34 +86,33 @@ module _ (t : List ℕ) (at unclosed : ℕ) (all : List Record) (l : Left t at u
   left_none h = sym (ap (λ (rs : List Record). end_data unclosed (first_content rs)) (at_end t at l.rest l.there h))
       ∙ l.same
 
-  module _ (h : at < length t) (s : Step) (e : s ≡ step_of (read (drop at t))) (x : Ending)
-      (f : x ≡ ending_behind unclosed s) where
+  module _ (h : at < length t) (s : Step) (e : s ≡ step_of (read (drop at t))) where
     one_on : (r : Record) (qs : List Record) → l.rest ≡ r ∷ qs → read (drop at t) ≡ r
-        → follow x (λ m. end_data m (first_content qs)) ≡ end_of all
+        → follow (ending_behind unclosed s) (λ m. end_data m (first_content qs)) ≡ end_of all
     one_on r qs p q =
-        ap (λ (y : Ending). follow y (λ m. end_data m (first_content qs)))
-        (f ∙ ap (λ (z : Step). ending_behind unclosed z) (e ∙ ap step_of q))
+        ap (λ (z : Step). follow (ending_behind unclosed z) (λ m. end_data m (first_content qs))) (e ∙ ap step_of q)
         ∙ sym (record_ending unclosed r qs) ∙ sym (ap (λ (rs : List Record). end_data unclosed (first_content rs)) p) ∙ l.same
 
-    pub left_found : (d : ℕ) → x ≡ Found d → d ≡ end_of all
+    pub left_found : (d : ℕ) → ending_behind unclosed s ≡ Found d → d ≡ end_of all
     unfolding follow
     left_found d g =
         let c = at_more t at l.rest l.there h in
         let n = at_next t at c.0 c.1 (subst (At t at) c.2 l.there) in
         sym (ap (λ (y : Ending). follow y (λ m. end_data m (first_content c.1))) g) ∙ one_on c.0 c.1 c.2 n.reads
 
-    pub left_more : (m next : ℕ) → x ≡ Open m → After t at next → unclosed ≤ at → m ≤ next
-    left_more m next g k b =
-        let p = passed t at l.rest next l.there h k in
-        omega (arith, p.moves, more_unclosed unclosed s m (sym f ∙ g))
+    module _ (m next : ℕ) (g : ending_behind unclosed s ≡ Open m) (k : After t at next) where
+      pub left_more : unclosed ≤ at → m ≤ next
+      left_more b =
+          let p = passed t at l.rest next l.there h k in
+          omega (arith, p.moves, more_unclosed unclosed s m g)
 
-    pub left_on : (m next : ℕ) → x ≡ Open m → After t at next → Left t next m all
-    unfolding follow
-    left_on m next g k =
-        let p = passed t at l.rest next l.there h k in
-        record {
-          rest = p.others;
-          there = p.rest;
-          same = sym (ap (λ (y : Ending). follow y (λ m. end_data m (first_content p.others))) g)
-              ∙ one_on p.first p.others p.split p.reads;
-        }
+      pub left_on : Left t next m all
+      unfolding follow
+      left_on =
+          let p = passed t at l.rest next l.there h k in
+          record {
+            rest = p.others;
+            there = p.rest;
+            same = sym (ap (λ (y : Ending). follow y (λ n. end_data n (first_content p.others))) g)
+                ∙ one_on p.first p.others p.split p.reads;
+          }

@@ -1,6 +1,7 @@
 -- What a record does to the pc and mrk that are open, and a walk over the records.
 use Prim.Native.Nat.{ℕ, zero, suc, ◌-◌, ◌<◌, ◌≤◌}
 use mathlib.Core.Path.{◌≡◌, refl, sym, ap, ◌∙◌, subst}
+use mathlib.Core.Bool.{false}
 use mathlib.Core.List.{List, ◌∷◌}
 use native.Mathlib.Omega.{arith}
 use lib.ListN.{length, drop}
@@ -24,7 +25,7 @@ use Rattle.walker.specs.Offsets.{After}
 use Rattle.xml.specs.Write.{one_less}
 use Rattle.xml_nesting.specs.Nesting.{step_of_inline, read_step, is_opening, step_of_item, step_of, depth_after}
 use Rattle.xml_nesting.specs.declared.Step.{Step}
-use Rattle.xml_nesting.specs.declared.Step.TheVariants.{Stays}
+use Rattle.xml_nesting.specs.declared.Step.TheVariants.{Opens, Closes, Stays, Ends}
 
 item_step : (i : Item) → step_of_inline i ≡ step_of_item (item i)
 unfolding step_of_item is_form_P half fields
@@ -42,6 +43,13 @@ item_step (AnnotationEnd S i) = refl
 
 pub item_opens : (i : Item) (s : Step) → s ≡ step_of_inline i → is_opening s ≡ is_opening (step_of_item (item i))
 item_opens i s e = ap (λ (x : Step). is_opening x) (e ∙ item_step i)
+
+-- it does not open one, where it is another step
+pub not_opening : (s : Step) → (s ≡ Opens → ⊥) → false ≡ is_opening s
+not_opening Opens other = absurd (other refl)
+not_opening (Closes d) other = refl
+not_opening Stays other = refl
+not_opening Ends other = refl
 
 read_step_lem : (cs : List ℕ) (r : Read) → read_step r ≡ step_of (meaning cs r)
 unfolding step_of
@@ -64,15 +72,10 @@ step_known t r (same_record p q) = read_step_lem (body t) r ∙ ap step_of p
 step_known t _ (some_text e) = text_stays ∙ ap step_of (sym e)
 
 -- one less, as it is computed
-pub none_less : (n : ℕ) → n ≡ 0 → 0 ≡ one_less n
+pub less_one : (n : ℕ) → n - 1 ≡ one_less n
 unfolding one_less
-none_less zero e = refl
-none_less (suc n) e = absurd (omega arith)
-
-pub some_less : (n : ℕ) → (n ≡ 0 → ⊥) → n - 1 ≡ one_less n
-unfolding one_less
-some_less zero e = absurd (e refl)
-some_less (suc n) e = omega arith
+less_one zero = omega arith
+less_one (suc n) = omega arith
 
 -- the record at an offset is passed
 pub record Passed (t : List ℕ) (at : ℕ) (rs : List encode.Record) (next : ℕ) : Type 0 where

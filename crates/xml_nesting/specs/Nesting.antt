@@ -19,8 +19,6 @@ use Rattle.xml.specs.Elements.{most_depth}
 use Rattle.xml.specs.Write.{pending, first_data, one_less}
 use Rattle.xml_nesting.specs.declared.Step.{Step}
 use Rattle.xml_nesting.specs.declared.Step.TheVariants.{Opens, Closes, Stays, Ends}
-use Rattle.xml_nesting.specs.declared.Ending.{Ending}
-use Rattle.xml_nesting.specs.declared.Ending.TheVariants.{Found, Open}
 
 -- The code's cases
 abbrev pub start_step : Form → Step
@@ -89,6 +87,11 @@ depth_after n Ends = 0
 unfoldable pub records_deep : ℕ → List encode.Record → Bool
 records_deep n [] = false
 records_deep n (r ∷ rs) = let m : ℕ = depth_after n (step_of r) in ltb most_depth m || records_deep m rs
+
+-- the dataRef of the end that is looked for, or how many are still open before it
+pub data Ending : Type 0 where
+  Found : ℕ → Ending
+  Open : ℕ → Ending
 
 -- what stands behind a start, if n are open there
 abbrev pub closing_at : ℕ → ℕ → Ending

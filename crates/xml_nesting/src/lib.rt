@@ -1,13 +1,13 @@
 // How deep pc and mrk are nested in a table, and the end of a pc.
 #![tactic(auto)]
 
-ghost use Rattle.std.specs.Prelude.{◌≡◌, ◌<◌, ◌≤◌, drop};
+ghost use Rattle.std.specs.Prelude.{◌≡◌, ◌≤◌, drop};
 ghost use Rattle.xliff.specs.Parse.{read, unit};
 ghost use Rattle.places.specs.Passes.{Passes};
 ghost use Rattle.table.specs.Meaning.{item};
 ghost use Rattle.xml.specs.Elements.{most_depth};
-ghost use Rattle.xml.specs.Write.{one_less, too_deep};
-ghost use Rattle.xml_nesting.specs.Nesting.{start_step, end_step, pair_step, step_of_inline, record_step, read_step, is_opening, step_of_item, step_of, depth_after, closing_at, ending_behind, RecordsAt, EndsWith};
+ghost use Rattle.xml.specs.Write.{too_deep};
+ghost use Rattle.xml_nesting.specs.Nesting.{step_of_inline, read_step, is_opening, step_of_item, step_of, depth_after, RecordsAt, EndsWith};
 
 use table::{Form, Half, Item, Read, Record};
 
@@ -21,54 +21,14 @@ pub enum Step {
     Ends,
 }
 
-fn start_step(w: Form) -> Step
-    ensures { result ≡ start_step w }
-{
-    match w {
-        Form::P => Step::Opens,
-        Form::S => Step::Stays,
-    }
-}
-
-fn end_step(w: Form, data_ref: u16) -> Step
-    ensures { result ≡ end_step w data_ref }
-{
-    match w {
-        Form::P => Step::Closes(data_ref),
-        Form::S => Step::Stays,
-    }
-}
-
-fn pair_step(w: Form, h: Half, data_ref: u16) -> Step
-    ensures { result ≡ pair_step w h data_ref }
-{
-    match h {
-        Half::Start => start_step(w),
-        Half::End => end_step(w, data_ref),
-    }
-}
-
 fn item_step(i: Item) -> Step
     ensures { result ≡ step_of_inline i }
 {
     match i {
-        Item::Character(_) => Step::Stays,
-        Item::Standalone(_) => Step::Stays,
-        Item::Isolated(_, _) => Step::Stays,
-        Item::Pair(w, h, f) => pair_step(w, h, f.data_ref),
-        Item::AnnotationStart(w, _, _) => start_step(w),
-        Item::AnnotationEnd(w, _) => end_step(w, 0),
-    }
-}
-
-fn is_opening(s: Step) -> bool
-    ensures { result ≡ is_opening s }
-{
-    match s {
-        Step::Opens => true,
-        Step::Closes(_) => false,
-        Step::Stays => false,
-        Step::Ends => false,
+        Item::Pair(Form::P, Half::Start, _) | Item::AnnotationStart(Form::P, _, _) => Step::Opens,
+        Item::Pair(Form::P, Half::End, f) => Step::Closes(f.data_ref),
+        Item::AnnotationEnd(Form::P, _) => Step::Closes(0),
+        _ => Step::Stays,
     }
 }
 
@@ -76,30 +36,16 @@ fn is_opening(s: Step) -> bool
 pub fn opens(i: Item) -> bool
     ensures { result ≡ is_opening (step_of_item (item i)) }
 {
-    is_opening(item_step(i))
-}
-
-fn record_step(x: Record) -> Step
-    ensures { result ≡ record_step x }
-{
-    match x {
-        Record::Unit(_) => Step::Ends,
-        Record::UnitEnd => Step::Ends,
-        Record::Segment(_) => Step::Ends,
-        Record::Ignorable(_) => Step::Ends,
-        Record::Target(_) => Step::Ends,
-        Record::Text => Step::Stays,
-        Record::Inline(i) => item_step(i),
-    }
+    matches!(item_step(i), Step::Opens)
 }
 
 fn read_step(r: Read) -> Step
     ensures { result ≡ read_step r }
 {
     match r {
-        Read::Good(x, _) => record_step(x),
-        Read::Ill => Step::Stays,
-        Read::Broken(_) => Step::Ends,
+        Read::Good(Record::Inline(i), _) => item_step(i),
+        Read::Good(Record::Text, _) | Read::Ill => Step::Stays,
+        _ => Step::Ends,
     }
 }
 
@@ -109,15 +55,6 @@ fn step_at(t: &[u8], at: usize) -> Step
     read_step(walker::known_at(t, at))
 }
 
-fn one_less(n: usize) -> usize
-    ensures { result ≡ one_less n }
-{
-    if n == 0 {
-        return 0;
-    }
-    n - 1
-}
-
 // How many are open behind a record, if `n` are before it.
 fn depth_behind(n: usize, s: Step) -> usize
     requires { n ≤ most_depth }
@@ -125,7 +62,7 @@ fn depth_behind(n: usize, s: Step) -> usize
 {
     match s {
         Step::Opens => n + 1,
-        Step::Closes(_) => one_less(n),
+        Step::Closes(_) => n.saturating_sub(1),
         Step::Stays => n,
         Step::Ends => 0,
     }
@@ -148,35 +85,6 @@ pub fn too_deep(t: &[u8]) -> bool
     false
 }
 
-// The dataRef of the end that is looked for, or how many are still open before it.
-#[derive(Clone, Copy)]
-pub enum Ending {
-    Found(u16),
-    Open(usize),
-}
-
-// An end behind `n` open starts closes one of them; where none is open it is the one that is looked for.
-fn closing_at(n: usize, data_ref: u16) -> Ending
-    ensures { result ≡ closing_at n data_ref }
-{
-    if n == 0 {
-        return Ending::Found(data_ref);
-    }
-    Ending::Open(n - 1)
-}
-
-fn ending_behind(n: usize, s: Step) -> Ending
-    requires { n < 18446744073709551615 }
-    ensures { result ≡ ending_behind n s }
-{
-    match s {
-        Step::Opens => Ending::Open(n + 1),
-        Step::Closes(data_ref) => closing_at(n, data_ref),
-        Step::Stays => Ending::Open(n),
-        Step::Ends => Ending::Found(0),
-    }
-}
-
 // The dataRef of the end of a pc, whose start stands directly before an offset.
 pub fn end_data(t: &[u8], start: usize) -> u16
     requires { RecordsAt t.now start }
@@ -185,13 +93,12 @@ pub fn end_data(t: &[u8], start: usize) -> u16
     let mut at = start;
     let mut unclosed: usize = 0;
     while at < t.len() {
-        match ending_behind(unclosed, step_at(t, at)) {
-            Ending::Found(data_ref) => {
-                return data_ref;
-            }
-            Ending::Open(n) => {
-                unclosed = n;
-            }
+        match step_at(t, at) {
+            Step::Opens => unclosed += 1,
+            Step::Closes(data_ref) if unclosed == 0 => return data_ref,
+            Step::Closes(_) => unclosed -= 1,
+            Step::Stays => {}
+            Step::Ends => return 0,
         }
         at = walker::after(t, at);
     }

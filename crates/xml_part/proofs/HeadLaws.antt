@@ -4,6 +4,7 @@ use mathlib.Core.Path.{◌≡◌, refl, ap, ◌∙◌}
 use mathlib.Core.Bool.{Bool, true, false}
 use mathlib.Core.List.{List, [], ◌∷◌}
 use mathlib.Core.Option.{Option, none, some}
+use Rattle.std.specs.Prelude.{Ok, Err, Some}
 use Rattle.xliff.specs.Unit as xliff
 use Rattle.xliff.specs.Unit.{segment, ignorable}
 use Rattle.xliff.specs.Encode.{Record, part_head}
@@ -12,24 +13,22 @@ use Rattle.xliff.specs.Parse.{is_part}
 use Rattle.xml.specs.Tokens.{Attribute, Token, start_tag, end_tag}
 use Rattle.xml.specs.Elements.{part_of_name, Due, part_due, source_due, outside, closed, bad, elements}
 use Rattle.table.specs.Meaning.{segment_meaning}
-use Rattle.table.specs.declared.Segment.{Segment}
-use Rattle.table_builder.specs.declared.Built.{Built}
+use Rattle.table_builder.specs.declared.TableBuilder.{TableBuilder}
 use Rattle.xml_attribute.specs.Attribute.{short_form}
 use Rattle.xml_attributes.specs.declared.Tagged.{Tagged}
-use Rattle.xml_attributes.specs.declared.Tagged.TheVariants.{Whole}
-use Rattle.xml_attributes.specs.Tags.{TagRead}
+use Rattle.xml_attributes.specs.Tags.{WholeTag}
 use Rattle.xml_heads.specs.declared.Head.{Head}
-use Rattle.xml_heads.specs.declared.Head.TheVariants.{Segment as ASegment, Ignorable, Bad as NoHead}
+use Rattle.xml_heads.specs.declared.Head.TheVariants.{Segment as ASegment, Ignorable}
 use Rattle.xml_heads.specs.Meanings.{head_meaning}
 use Rattle.xml_slots.specs.Slots.{ByAttributes}
-use Rattle.xml_piece.specs.Pieces.{rest_at, tag_at}
+use Rattle.xml_piece.specs.Pieces.{rest_at}
 use Rattle.xml_passages.specs.Passages.{Leads}
 use Rattle.xml_passages.proofs.OuterLaws.{leads_bad, closed_bad, part_opens, bad_part}
 use Rattle.xml_records.specs.Collecting.{Collects}
-use Rattle.xml_content.specs.declared.Went.TheVariants.{On, Bad}
-use Rattle.xml_element.specs.Opens.{after_tag}
-use Rattle.xml_part.specs.Parts.{HeadSteps}
-use Rattle.xml_part.proofs.TagSteps.{tag_attributes, tag_goes, tag_same, tag_told}
+use Rattle.xml_element.specs.declared.StartTag.{StartTag}
+use Rattle.xml_element.specs.Opens.{blamed_at, spelled, start_tokens, after_tag}
+use Rattle.xml_part.specs.Parts.{HeadPut, HeadSteps}
+use Rattle.xml_part.proofs.TagSteps.{tag_goes, tag_same, tag_told}
 
 -- a part in the short form has no source
 no_source_in : (place : ℕ) (name : List ℕ) (ats : List Attribute) (ts : List Token) (k : ℕ) (o : Option xliff.Head)
@@ -46,57 +45,56 @@ leads_as : (d d' : Due) (a b c : List Token) (rs : List Record) → a ≡ b → 
 unfolding Leads
 leads_as d d' a b c rs e l = ap (elements (outside d)) e ∙ l
 
-module _ (text : List ℕ) (place : ℕ) (name : List ℕ) (upto : ℕ) (slots : List ℕ) (m : Tagged) (r : TagRead text upto slots m)
-    {next : ℕ} {short : Bool} {count : ℕ} (e : m ≡ Whole next short count) where
+module _ (text : List ℕ) (tag : StartTag) (slots : List ℕ) (t : Tagged)
+    (w : WholeTag text tag.name.upto slots t.next t.short t.count) where
   abbrev ats : List Attribute
-  ats = tag_attributes text place name upto slots m r e
+  ats = w.attributes
+
+  abbrev name : List ℕ
+  name = spelled text tag.name
 
   abbrev opens : Bool → List Token
-  opens s = start_tag place name ats ∷ after_tag text s place name ats next
+  opens s = start_tag tag.place name ats ∷ after_tag text s tag.place name ats t.next
 
-  whole : (s : Bool) → short ≡ s → tag_at text place name upto ≡ opens s
-  whole s k = tag_same text place name upto slots m r e ∙ ap opens k
+  whole : (s : Bool) → t.short ≡ s → start_tokens text tag ≡ opens s
+  whole s k = tag_same text tag slots t w ∙ ap opens k
 
-  pub head_short : (t : List ℕ) (built : Built) → short ≡ true
-      → HeadSteps text upto name (tag_at text place name upto) t built t (Bad place)
+  pub head_short : (builder builder' : TableBuilder) → t.short ≡ true
+      → HeadSteps text tag.name.upto name (start_tokens text tag) builder builder' (Err (blamed_at tag.place))
   unfolding HeadSteps short_form
-  head_short t built is k =
+  head_short builder builder' is k =
       ap (elements (outside (part_due k))) (whole true is)
-      ∙ no_source_in place name ats (rest_at text next) k (part_of_name name ats) refl
+      ∙ no_source_in tag.place name ats (rest_at text t.next) k (part_of_name name ats) refl
 
-  module _ (long : short ≡ false) (h : Head) (told : ByAttributes slots count (part_of_name name) (head_meaning h)) where
-    head_is : {n : Head} → h ≡ n → part_of_name name ats ≡ head_meaning n
-    head_is f = tag_told text place name upto slots m r e (part_of_name name) (head_meaning h) told ∙ ap head_meaning f
-
-    pub head_bad : (t : List ℕ) (built : Built) → h ≡ NoHead
-        → HeadSteps text upto name (tag_at text place name upto) t built t (Bad place)
+  module _ (long : t.short ≡ false) where
+    pub head_bad : (builder builder' : TableBuilder) → ByAttributes slots t.count (part_of_name name) none
+        → HeadSteps text tag.name.upto name (start_tokens text tag) builder builder' (Err (blamed_at tag.place))
     unfolding HeadSteps
-    head_bad t built f k =
+    head_bad builder builder' told k =
         ap (elements (outside (part_due k))) (whole false long)
-        ∙ bad_part place name ats (after_tag text false place name ats next) k (head_is f)
+        ∙ bad_part tag.place name ats (after_tag text false tag.place name ats t.next) k
+        (tag_told text tag slots t w (part_of_name name) none told)
 
-    headed : (x : xliff.Head) (t t' : List ℕ) (built built' : Built) → part_of_name name ats ≡ some x
-        → Collects (part_head x ∷ []) t built t' built'
-        → HeadSteps text upto name (tag_at text place name upto) t built t' (On next built')
+    headed : {builder builder' : TableBuilder} (x : xliff.Head) → ByAttributes slots t.count (part_of_name name) (some x)
+        → Collects (part_head x ∷ []) builder builder'
+        → HeadSteps text tag.name.upto name (start_tokens text tag) builder builder' (Ok t.next)
     unfolding HeadSteps short_form
-    headed x t t' built built' f put k = (
-      tag_goes text place name upto slots m r e,
+    headed x told put k = (
+      tag_goes text tag slots t w,
       record {
         records = part_head x ∷ [];
         heads_are = unfold part_heads is_part in refl;
         leads =
-            leads_as (part_due k) (source_due (suc k) name) (tag_at text place name upto) (opens false) (rest_at text next)
-            (part_head x ∷ []) (whole false long) (part_opens place name ats (rest_at text next) k x f);
+            leads_as (part_due k) (source_due (suc k) name) (start_tokens text tag) (opens false) (rest_at text t.next)
+            (part_head x ∷ []) (whole false long)
+            (part_opens tag.place name ats (rest_at text t.next) k x
+            (tag_told text tag slots t w (part_of_name name) (some x) told));
         collects = put;
       },
     )
 
-    pub segment_headed : {f : Segment} (t t' : List ℕ) (built built' : Built) → h ≡ ASegment f
-        → Collects (part_head (segment (segment_meaning f)) ∷ []) t built t' built'
-        → HeadSteps text upto name (tag_at text place name upto) t built t' (On next built')
-    segment_headed {f} t t' built built' is put = headed (segment (segment_meaning f)) t t' built built' (head_is is) put
-
-    pub ignorable_headed : {i : ℕ} (t t' : List ℕ) (built built' : Built) → h ≡ Ignorable i
-        → Collects (part_head (ignorable i) ∷ []) t built t' built'
-        → HeadSteps text upto name (tag_at text place name upto) t built t' (On next built')
-    ignorable_headed {i} t t' built built' is put = headed (ignorable i) t t' built built' (head_is is) put
+    pub head_read : {builder builder' : TableBuilder} (h : Head)
+        → ByAttributes slots t.count (part_of_name name) (head_meaning (Some h)) → HeadPut h builder builder'
+        → HeadSteps text tag.name.upto name (start_tokens text tag) builder builder' (Ok t.next)
+    head_read (ASegment f) told put = headed (segment (segment_meaning f)) told (put _ refl)
+    head_read (Ignorable i) told put = headed (ignorable i) told (put _ refl)

@@ -2,9 +2,11 @@
 use Prim.Native.Nat.{ℕ, ◌≤◌}
 use mathlib.Core.Path.{◌≡◌, refl, subst}
 use mathlib.Core.Bool.{true, false}
+use mathlib.Core.Logic.{◌⊎◌, inl, inr}
 use mathlib.Core.List.{List, [], ◌∷◌}
 use native.Mathlib.Omega.{arith}
 use lib.ListN.{length}
+use Rattle.std.specs.Prelude.{Ok}
 use Rattle.xml.specs.Characters.{is_blank}
 use Rattle.xml.specs.Tokens.{Token, char, reference, fault, text_fault}
 use Rattle.xml_piece.specs.declared.Piece.{Piece}
@@ -12,7 +14,8 @@ use Rattle.xml_piece.specs.declared.Piece.TheVariants.{Start, Close, Comment, Ch
 use Rattle.xml_piece.specs.Pieces.{rest_at, Ahead, PieceRead}
 use Rattle.xml_passages.specs.Passages.{Alike, OuterBlames}
 use Rattle.xml_passages.proofs.OuterLaws.{alike_then, alike_as, alike_blames, blank_alike, text_blames, outer_reference, outer_fault, outer_text_fault}
-use Rattle.xml_part.specs.declared.Outer.TheVariants.{Start as OuterStart, Close as OuterClose, Cut, Bad, End as OuterEnd}
+use Rattle.xml_names.specs.declared.Span.{Span}
+use Rattle.xml_part.specs.declared.Outer.TheVariants.{Start as OuterStart, Close as OuterClose, Cut, End as OuterEnd}
 use Rattle.xml_part.specs.Parts.{OuterRead}
 
 alike_self : (a : List Token) → Alike a a
@@ -50,11 +53,12 @@ module _ (text : List ℕ) (start at : ℕ) (s : Passing text start at) (m : Pie
   blamed : (b : List Token) (p : ℕ) → rest_at text at ≡ b → OuterBlames b p → OuterBlames (rest_at text start) p
   blamed b p e k = alike_blames (rest_at text start) b p (alike_to b e) k
 
-  pub tag_found : {from upto : ℕ} → m ≡ Start from upto → OuterRead text start (OuterStart at from upto)
+  pub tag_found : {name : Span} → m ≡ Start name
+      → OuterRead text start (Ok (OuterStart (record { place = at; name = name })))
   tag_found e = let k = known e in (ahead_of_start k.0, k.1, alike_to _ k.2)
 
-  pub end_found : {from upto next : ℕ} → m ≡ Close from upto next
-      → OuterRead text start (OuterClose (record { place = at; from = from; upto = upto; next = next }))
+  pub end_found : {name : Span} {next : ℕ} → m ≡ Close name next
+      → OuterRead text start (Ok (OuterClose (record { place = at; name = name; next = next })))
   end_found e = let k = known e in (record { goes = ahead_of_start k.1.goes; name = k.0 }, alike_to _ k.1.same)
 
   pub comment_ahead : {next : ℕ} → m ≡ Comment next → Ahead text at next
@@ -77,22 +81,21 @@ module _ (text : List ℕ) (start at : ℕ) (s : Passing text start at) (m : Pie
       (blank_alike at (rest_at text next) c b))
 
   -- places at fault
-  pub character_bad : {c next : ℕ} → m ≡ Character c next → is_blank c ≡ false → OuterRead text start (Bad at)
+  pub character_bad : {c next : ℕ} → m ≡ Character c next → is_blank c ≡ false → OuterBlames (rest_at text start) at
   character_bad {c} {next} e b =
       blamed (char at c ∷ rest_at text next) at (known e).1.same (text_blames at (rest_at text next) c b)
 
-  pub reference_bad : {c next : ℕ} → m ≡ Reference c next → OuterRead text start (Bad at)
-  reference_bad {c} {next} e =
+  pub text_bad : ((c : ℕ) × (next : ℕ) × (m ≡ Reference c next)) ⊎ ((p : ℕ) × (m ≡ TextFault p))
+      → OuterBlames (rest_at text start) at
+  text_bad (inl (c, next, e)) =
       blamed (reference at c ∷ rest_at text next) at (known e).1.same (outer_reference at (rest_at text next) c)
+  text_bad (inr (p, e)) = blamed (text_fault at p ∷ []) at (known e) (outer_text_fault at [] p)
 
-  pub cut_found : m ≡ CutTag → OuterRead text start (Cut at)
+  pub cut_found : m ≡ CutTag → OuterRead text start (Ok (Cut at))
   cut_found e = alike_to _ (known e)
 
-  pub fault_found : {p : ℕ} → m ≡ Fault p → OuterRead text start (Bad p)
+  pub fault_found : {p : ℕ} → m ≡ Fault p → OuterBlames (rest_at text start) p
   fault_found {p} e = blamed (fault p ∷ []) p (known e) (outer_fault p [])
 
-  pub text_fault_found : {p : ℕ} → m ≡ TextFault p → OuterRead text start (Bad at)
-  text_fault_found {p} e = blamed (text_fault at p ∷ []) at (known e) (outer_text_fault at [] p)
-
-  pub end_of_text : m ≡ End → OuterRead text start (OuterEnd at)
+  pub end_of_text : m ≡ End → OuterRead text start (Ok (OuterEnd at))
   end_of_text e = alike_to _ (known e)

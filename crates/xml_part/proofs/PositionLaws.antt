@@ -10,7 +10,7 @@ use Rattle.xliff.specs.Good.{part_heads}
 use Rattle.xliff.specs.Parse.{is_part, most_parts}
 use Rattle.xml.proofs.MergeLaws.{texts_before, put, merged}
 use Rattle.xliff.proofs.unit.Valid.{heads_text}
-use Rattle.table_builder.specs.declared.Built.{Built}
+use Rattle.table_builder.specs.declared.TableBuilder.{TableBuilder}
 use Rattle.table_builder.specs.Building.{RecordPut}
 use Rattle.table_builder.proofs.RecordLaws.{held_small, record_beyond}
 use Rattle.xml_records.specs.Collecting.{Collects}
@@ -49,9 +49,9 @@ unfolding part_heads merged
 heads_merged [] = refl
 heads_merged (r ∷ rs) = heads_put r (merged rs) ∙ omega (arith, heads_merged rs)
 
-module _ {position : ℕ} {t : List ℕ} {built : Built} (k : CollectingAt position t built) where
+module _ {position : ℕ} {builder : TableBuilder} (k : CollectingAt position builder) where
   -- within the limits of a table a position is small
-  pub position_small : built.over ≡ false → position ≤ most_parts
+  pub position_small : builder.over ≡ false → position ≤ most_parts
   position_small free =
       let held = k.collected in
       omega (
@@ -63,11 +63,10 @@ module _ {position : ℕ} {t : List ℕ} {built : Built} (k : CollectingAt posit
       )
 
 -- beyond them any record may be said to be put
-put_beyond : (t : List ℕ) (built : Built) (bytes : List ℕ) (part : Bool) → built.over ≡ true
-    → RecordPut t built bytes part t built
+put_beyond : (builder : TableBuilder) (bytes : List ℕ) (part : Bool) → builder.over ≡ true → RecordPut builder bytes part builder
 unfolding RecordPut
-put_beyond t built bytes part over done run r held b h = record_beyond held r over
+put_beyond builder bytes part over done run r held b h = record_beyond held r over
 
-pub beyond_collects : {t : List ℕ} {built : Built} (q : ℕ) → built.over ≡ true → Collects (target_head q ∷ []) t built t built
-beyond_collects {t} {built} q over =
-    collects_record (put_beyond t built (record_bytes (target_head q)) (is_part (target_head q)) over) (whole_target q) refl refl
+pub beyond_collects : {builder : TableBuilder} (q : ℕ) → builder.over ≡ true → Collects (target_head q ∷ []) builder builder
+beyond_collects {builder} q over =
+    collects_record (put_beyond builder (record_bytes (target_head q)) (is_part (target_head q)) over) (whole_target q) refl refl

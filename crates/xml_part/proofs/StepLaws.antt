@@ -4,26 +4,23 @@ use mathlib.Core.Path.{◌≡◌, refl, subst, ◌∙◌}
 use mathlib.Core.List.{List, [], ◌∷◌, ◌++◌}
 use native.Mathlib.Omega.{arith}
 use lib.ListN.{length}
+use Rattle.std.specs.Prelude.{Result, Ok, Err}
 use Rattle.xliff.specs.Encode.{Record}
 use Rattle.xliff.specs.Good.{part_heads}
 use Rattle.xliff.proofs.unit.Valid.{heads_append}
 use Rattle.xml.specs.Tokens.{Token, finish, cut_tag}
 use Rattle.xml.specs.Elements.{Due, outside, blame, closed, finished, cut_short, bad, elements}
-use Rattle.table_builder.specs.declared.Built.{Built}
-use Rattle.xml_names.specs.Names.{bytes_between, NameIn}
-use Rattle.xml_piece.specs.Pieces.{rest_at, tag_at, Ahead}
+use Rattle.table_builder.specs.declared.TableBuilder.{TableBuilder}
+use Rattle.xml_piece.specs.Pieces.{rest_at, Ahead}
 use Rattle.xml_passages.specs.Passages.{Alike, OuterBlames, Leads}
 use Rattle.xml_passages.proofs.OuterLaws.{leads_then, leads_bad, finish_before, cut_before, closed_bad}
-use Rattle.xml_records.specs.Collecting.{Collects, Collecting}
+use Rattle.xml_records.specs.Collecting.{Collects}
 use Rattle.xml_records.proofs.CollectLaws.{collects_none, collects_both}
+use Rattle.xml_element.specs.declared.Blamed.{Blamed}
+use Rattle.xml_element.specs.declared.StartTag.{StartTag}
 use Rattle.xml_element.specs.declared.EndTag.{EndTag}
-use Rattle.xml_element.specs.declared.Emptied.TheVariants.{On as EmptyOn, Bad as EmptyBad}
-use Rattle.xml_content.specs.declared.Went.{Went}
-use Rattle.xml_content.specs.declared.Went.TheVariants.{On, Bad}
-use Rattle.xml_part.specs.declared.Outer.{Outer}
-use Rattle.xml_part.specs.declared.Outer.TheVariants.{Start, Close, Cut, Bad as OuterBad, End}
-use Rattle.xml_element.specs.Opens.{end_tokens, EndTagIn}
-use Rattle.xml_part.specs.Parts.{OuterRead, CollectingAt, Passed, Steps, EndSteps}
+use Rattle.xml_element.specs.Opens.{spelled, start_tokens, end_tokens}
+use Rattle.xml_part.specs.Parts.{TagDue, Missing, CollectingAt, Passed, Steps, EndSteps}
 
 alike_leads : (d d' : Due) (a b c : List Token) (rs : List Record) → Alike a b → Leads d b rs d' c → Leads d a rs d' c
 unfolding Alike Leads
@@ -34,68 +31,44 @@ unfolding Alike
 alike_bad d a b p k e = k d ∙ e
 
 -- what stands behind blanks and comments
-module _ (text : List ℕ) (start : ℕ) (m : Outer) (r : OuterRead text start m) where
-  known : {n : Outer} → m ≡ n → OuterRead text start n
-  known e = subst (OuterRead text start) e r
+module _ (text : List ℕ) (start : ℕ) where
+  pub start_bad : (tag : StartTag) (p : ℕ) → Alike (rest_at text start) (start_tokens text tag) → (d : Due)
+      → elements (outside d) (start_tokens text tag) ≡ bad p → elements (outside d) (rest_at text start) ≡ bad p
+  start_bad tag p k d e = alike_bad d (rest_at text start) (start_tokens text tag) p k e
 
-  pub start_ahead : {place from upto : ℕ} → m ≡ Start place from upto → Ahead text start upto
-  start_ahead e = (known e).0
+  module _ (end : EndTag) (k : Alike (rest_at text start) (end_tokens text end)) where
+    pub end_leads : (rs : List Record) (d d' : Due) → Leads d (end_tokens text end) rs d' (rest_at text end.next)
+        → Leads d (rest_at text start) rs d' (rest_at text end.next)
+    end_leads rs d d' l =
+        alike_leads d d' (rest_at text start) (end_tokens text end) (rest_at text end.next) rs k l
 
-  pub start_name : {place from upto : ℕ} → m ≡ Start place from upto → NameIn text from upto
-  start_name e = (known e).1
+    pub end_bad : (d : Due) → closed d end.place (spelled text end.name) ≡ blame end.place
+        → elements (outside d) (rest_at text start) ≡ bad end.place
+    end_bad d e =
+        alike_bad d (rest_at text start) (end_tokens text end) end.place k
+        (closed_bad end.place (spelled text end.name) (rest_at text end.next) d e)
 
-  pub start_alike : {place from upto : ℕ} → m ≡ Start place from upto
-      → Alike (rest_at text start) (tag_at text place (bytes_between text from upto) upto)
-  start_alike e = (known e).2
+  -- no tag where one is due
+  pub cut_missing : (place : ℕ) → Alike (rest_at text start) (cut_tag place (length text) ∷ [])
+      → Missing text (rest_at text start) (length text)
+  unfolding Missing
+  cut_missing place k d due =
+      alike_bad d (rest_at text start) (cut_tag place (length text) ∷ []) (length text) k
+      (cut_before place (length text) [] d (due.cut place))
 
-  pub start_bad : {place from upto p : ℕ} → m ≡ Start place from upto → (d : Due)
-      → elements (outside d) (tag_at text place (bytes_between text from upto) upto) ≡ bad p
-      → elements (outside d) (rest_at text start) ≡ bad p
-  start_bad {p = p} e d k = alike_bad d (rest_at text start) _ p (start_alike e) k
+  pub over_missing : (p : ℕ) → Alike (rest_at text start) (finish p ∷ []) → Missing text (rest_at text start) p
+  unfolding Missing
+  over_missing p k d due = alike_bad d (rest_at text start) (finish p ∷ []) p k (finish_before p [] d (due.over p))
 
-  pub end_tag_in : {end : EndTag} → m ≡ Close end → EndTagIn text start end
-  end_tag_in e = (known e).0
-
-  pub end_alike : {end : EndTag} → m ≡ Close end → Alike (rest_at text start) (end_tokens text end)
-  end_alike e = (known e).1
-
-  pub end_leads : {end : EndTag} → m ≡ Close end → (rs : List Record) (d d' : Due)
-      → Leads d (end_tokens text end) rs d' (rest_at text end.next)
-      → Leads d (rest_at text start) rs d' (rest_at text end.next)
-  end_leads {end} e rs d d' l =
-      alike_leads d d' (rest_at text start) (end_tokens text end) (rest_at text end.next) rs (end_alike e) l
-
-  pub end_bad : {end : EndTag} → m ≡ Close end → (d : Due)
-      → closed d end.place (bytes_between text end.from end.upto) ≡ blame end.place
-      → elements (outside d) (rest_at text start) ≡ bad end.place
-  end_bad {end} e d k =
-      alike_bad d (rest_at text start) (end_tokens text end) end.place (end_alike e)
-      (closed_bad end.place (bytes_between text end.from end.upto) (rest_at text end.next) d k)
-
-  pub cut_alike : {place : ℕ} → m ≡ Cut place → Alike (rest_at text start) (cut_tag place (length text) ∷ [])
-  cut_alike e = known e
-
-  pub cut_bad : {place : ℕ} → m ≡ Cut place → (d : Due) → cut_short d place (length text) ≡ blame (length text)
-      → elements (outside d) (rest_at text start) ≡ bad (length text)
-  cut_bad {place} e d k =
-      alike_bad d (rest_at text start) (cut_tag place (length text) ∷ []) (length text) (cut_alike e)
-      (cut_before place (length text) [] d k)
-
-  pub fault_bad : {p : ℕ} → m ≡ OuterBad p → (d : Due) → elements (outside d) (rest_at text start) ≡ bad p
-  unfolding OuterBlames
-  fault_bad e d = known e d
-
-  pub over_alike : {p : ℕ} → m ≡ End p → Alike (rest_at text start) (finish p ∷ [])
-  over_alike e = known e
-
-  pub over_bad : {p : ℕ} → m ≡ End p → (d : Due) → finished d p ≡ blame p → elements (outside d) (rest_at text start) ≡ bad p
-  over_bad {p} e d k = alike_bad d (rest_at text start) (finish p ∷ []) p (over_alike e) (finish_before p [] d k)
+  pub fault_missing : (p : ℕ) → OuterBlames (rest_at text start) p → Missing text (rest_at text start) p
+  unfolding Missing OuterBlames
+  fault_missing p k d due = k d
 
 -- from blanks and comments on to a step behind them
-pub steps_from : (text : List ℕ) (start upto heads : ℕ) (d d' : Due) (a b : List Token) (t : List ℕ) (built : Built) (t' : List ℕ)
-    → Ahead text start upto → Alike a b → (m : Went) → Steps text upto d b heads d' t built t' m
-    → Steps text start d a heads d' t built t' m
-steps_from text start upto heads d d' a b t built t' h k (On next built') (goes, p) = (
+pub steps_from : (text : List ℕ) (start upto heads : ℕ) (d d' : Due) (a b : List Token) (builder builder' : TableBuilder)
+    → Ahead text start upto → Alike a b → (m : Result ℕ Blamed) → Steps text upto d b heads d' builder builder' m
+    → Steps text start d a heads d' builder builder' m
+steps_from text start upto heads d d' a b builder builder' h k (Ok next) (goes, p) = (
   record { ahead = omega (arith, h.ahead, goes.ahead); inside = goes.inside },
   record {
     records = p.records;
@@ -104,14 +77,14 @@ steps_from text start upto heads d d' a b t built t' h k (On next built') (goes,
     collects = p.collects;
   },
 )
-steps_from text start upto heads d d' a b t built t' h k (Bad q) e = alike_bad d a b q k e
+steps_from text start upto heads d d' a b builder builder' h k (Err q) e = alike_bad d a b q.place k e
 
 -- a step behind another
-module _ (text : List ℕ) (from next heads : ℕ) (d d' : Due) (a : List Token) (t t₁ : List ℕ) (b b₁ : Built)
-    (goes : Ahead text from next) (p : Passed d a heads t b d' (rest_at text next) t₁ b₁) where
-  pub steps_then : (more : ℕ) (d'' : Due) (t₂ : List ℕ) (m : Went) → Steps text next d' (rest_at text next) more d'' t₁ b₁ t₂ m
-      → Steps text from d a (heads + more) d'' t b t₂ m
-  steps_then more d'' t₂ (On next₂ b₂) (goes₂, p₂) = (
+module _ (text : List ℕ) (from next heads : ℕ) (d d' : Due) (a : List Token) {b₀ b₁ : TableBuilder} (goes : Ahead text from next)
+    (p : Passed d a heads b₀ d' (rest_at text next) b₁) where
+  pub steps_then : (more : ℕ) (d'' : Due) (b₂ : TableBuilder) (m : Result ℕ Blamed)
+      → Steps text next d' (rest_at text next) more d'' b₁ b₂ m → Steps text from d a (heads + more) d'' b₀ b₂ m
+  steps_then more d'' b₂ (Ok next₂) (goes₂, p₂) = (
     record { ahead = omega (arith, goes.ahead, goes₂.ahead); inside = goes₂.inside },
     record {
       records = p.records ++ p₂.records;
@@ -120,25 +93,19 @@ module _ (text : List ℕ) (from next heads : ℕ) (d d' : Due) (a : List Token)
       collects = collects_both p.collects p₂.collects;
     },
   )
-  steps_then more d'' t₂ (Bad q) e = leads_bad d d' a (rest_at text next) p.records q p.leads e
+  steps_then more d'' b₂ (Err q) e = leads_bad d d' a (rest_at text next) p.records q.place p.leads e
 
   -- an end tag behind a step
-  pub ends_then : (d'' : Due) (next₂ : ℕ) → EndSteps text next d' d'' (EmptyOn next₂)
-      → Steps text from d a (heads + 0) d'' t b t₁ (On next₂ b₁)
-  ends_then d'' next₂ (goes₂, l) =
-      steps_then 0 d'' t₁ (On next₂ b₁)
+  pub ends_then : (d'' : Due) (m : Result ℕ Blamed) → EndSteps text next d' d'' m
+      → Steps text from d a (heads + 0) d'' b₀ b₁ m
+  ends_then d'' (Ok next₂) (goes₂, l) =
+      steps_then 0 d'' b₁ (Ok next₂)
       (goes₂, record { records = []; heads_are = unfold part_heads in refl; leads = l; collects = collects_none })
-
-  pub ends_bad : (d'' : Due) (q : ℕ) → EndSteps text next d' d'' (EmptyBad q) → Steps text from d a (heads + 0) d'' t b t₁ (Bad q)
-  ends_bad d'' q e = steps_then 0 d'' t₁ (Bad q) e
+  ends_then d'' (Err q) e = steps_then 0 d'' b₁ (Err q) e
 
 -- records collected, of which so many are heads of parts
-pub some_collected : {parts : ℕ} {t : List ℕ} {built : Built} → CollectingAt parts t built → Collecting t built
-some_collected k = record { read = k.before; collected = k.collected }
-
-pub more_collected : {parts heads total : ℕ} {t t' : List ℕ} {built built' : Built} (rs : List Record)
-    → CollectingAt parts t built → Collects rs t built t' built' → part_heads rs ≡ heads
-    → parts + heads ≡ total → CollectingAt total t' built'
+pub more_collected : {parts heads total : ℕ} {builder builder' : TableBuilder} (rs : List Record) → CollectingAt parts builder
+    → Collects rs builder builder' → part_heads rs ≡ heads → parts + heads ≡ total → CollectingAt total builder'
 more_collected rs k h e sum =
     record {
       before = k.before ++ rs;

@@ -1,50 +1,56 @@
 -- A start tag outside of contents, as its attributes are read.
 use Prim.Native.Nat.{ℕ}
-use mathlib.Core.Path.{◌≡◌, sym, ap, subst, ◌∙◌}
-use mathlib.Core.Bool.{Bool}
+use mathlib.Core.Path.{◌≡◌, refl, sym, ap, ◌∙◌}
 use mathlib.Core.List.{List, [], ◌∷◌}
 use lib.ListN.{length}
 use Rattle.xml.specs.Tokens.{Attribute, start_tag}
-use Rattle.xml.specs.Elements.{Due, outside, blame, cut_short, bad, elements}
+use Rattle.xml.specs.Elements.{Due, unit_due, part_due, source_due, target_due, part_end_due, outside, turn, finished, cut_short, bad, elements}
 use Rattle.xml_attributes.specs.declared.Tagged.{Tagged}
-use Rattle.xml_attributes.specs.declared.Tagged.TheVariants.{Whole, Cut, Fault}
-use Rattle.xml_attributes.specs.Tags.{TagRead}
+use Rattle.xml_attributes.specs.Tags.{WholeTag}
 use Rattle.xml_slots.specs.Slots.{SomeSlots, ByAttributes}
-use Rattle.xml_piece.specs.Pieces.{tag_at, Ahead}
-use Rattle.xml_passages.proofs.OuterLaws.{cut_before}
-use Rattle.xml_element.specs.Opens.{after_tag}
+use Rattle.xml_piece.specs.Pieces.{Ahead}
+use Rattle.xml_element.specs.declared.StartTag.{StartTag}
+use Rattle.xml_element.specs.Opens.{spelled, start_tokens, after_tag, TagFaulty}
+use Rattle.xml_part.specs.Parts.{TagDue}
 
-module _ (text : List ℕ) (place : ℕ) (name : List ℕ) (upto : ℕ) (slots : List ℕ) (m : Tagged) (r : TagRead text upto slots m) where
-  abbrev known : {n : Tagged} → m ≡ n → TagRead text upto slots n
-  known e = subst (TagRead text upto slots) e r
+-- before the end of the unit a tag is due
+module _ {text : List ℕ} where
+  pub unit_tag : TagDue text unit_due
+  unit_tag = record { cut = λ place. unfold cut_short in refl; over = λ place. unfold finished in refl }
 
-  pub tag_cut : m ≡ Cut → (d : Due) → cut_short d place (length text) ≡ blame (length text)
-      → elements (outside d) (tag_at text place name upto) ≡ bad (length text)
-  tag_cut e d k = ap (elements (outside d)) (known e place name) ∙ cut_before place (length text) [] d k
+  pub part_tag : (k : ℕ) → TagDue text (part_due k)
+  part_tag k = record { cut = λ place. unfold cut_short in refl; over = λ place. unfold finished in refl }
 
-  pub tag_fault : m ≡ Fault → (d : Due) → elements (outside d) (tag_at text place name upto) ≡ bad place
-  tag_fault e d = known e place name (outside d)
+  module _ (k : ℕ) (p : List ℕ) where
+    pub source_tag : TagDue text (source_due k p)
+    source_tag = record { cut = λ place. unfold cut_short in refl; over = λ place. unfold finished in refl }
+
+    pub target_tag : TagDue text (target_due k p)
+    target_tag = record { cut = λ place. unfold cut_short in refl; over = λ place. unfold finished in refl }
+
+    pub part_end_tag : TagDue text (part_end_due k p)
+    part_end_tag = record { cut = λ place. unfold cut_short in refl; over = λ place. unfold finished in refl }
+
+module _ (text : List ℕ) (tag : StartTag) where
+  pub tag_bad : {p : ℕ} → TagFaulty text tag p → (d : Due) → TagDue text d → elements (outside d) (start_tokens text tag) ≡ bad p
+  unfolding TagFaulty turn
+  tag_bad k d due = k (spelled text tag.name) (outside d) (due.cut tag.place)
 
   -- a whole one
-  module _ {next : ℕ} {short : Bool} {count : ℕ} (e : m ≡ Whole next short count) where
-    abbrev pub tag_attributes : List Attribute
-    tag_attributes = (known e).attributes
+  module _ (slots : List ℕ) (t : Tagged) (w : WholeTag text tag.name.upto slots t.next t.short t.count) where
+    pub tag_goes : Ahead text tag.name.upto t.next
+    tag_goes = record { ahead = w.ahead; inside = w.inside }
 
-    pub tag_goes : Ahead text upto next
-    tag_goes = record { ahead = (known e).ahead; inside = (known e).inside }
+    pub some_slots : SomeSlots slots t.count
+    some_slots = record { attributes = w.attributes; slotted = w.slotted }
 
-    pub some_slots : SomeSlots slots count
-    some_slots = record { attributes = tag_attributes; slotted = (known e).slotted }
-
-    pub tag_count : count ≡ length tag_attributes
-    tag_count = (known e).slotted.counted
-
-    pub tag_same : tag_at text place name upto
-        ≡ start_tag place name tag_attributes ∷ after_tag text short place name tag_attributes next
-    tag_same = (known e).same place name
+    pub tag_same : start_tokens text tag
+        ≡ start_tag tag.place (spelled text tag.name) w.attributes
+        ∷ after_tag text t.short tag.place (spelled text tag.name) w.attributes t.next
+    tag_same = w.same tag.place (spelled text tag.name)
 
     -- what the code tells by the slots
     module _ {A : Type 0} where
-      pub tag_told : (f : List Attribute → A) (x : A) → ByAttributes slots count f x → f tag_attributes ≡ x
+      pub tag_told : (f : List Attribute → A) (x : A) → ByAttributes slots t.count f x → f w.attributes ≡ x
       unfolding ByAttributes
-      tag_told f x k = sym (k tag_attributes (known e).slotted)
+      tag_told f x k = sym (k w.attributes w.slotted)

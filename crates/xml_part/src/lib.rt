@@ -4,16 +4,18 @@
 ghost use Rattle.std.specs.Prelude.{[], ◌∷◌, suc, ◌<◌, ◌≤◌, length};
 ghost use Rattle.xliff.specs.Encode.{target_head};
 ghost use Rattle.xml.specs.Elements.{part_due, target_due};
-ghost use Rattle.xml_names.specs.Names.{bytes_between, NameIn};
-ghost use Rattle.xml_piece.specs.Pieces.{rest_at, tag_at};
-ghost use Rattle.xml_records.specs.Collecting.{Collects, Collecting};
-ghost use Rattle.xml_part.specs.Parts.{OuterRead, CollectingAt, SideRead, Steps, SourceSteps, TargetSteps, HeadSteps, PartEnds};
+ghost use Rattle.xml_names.specs.Names.{NameIn};
+ghost use Rattle.xml_piece.specs.Pieces.{rest_at};
+ghost use Rattle.xml_records.specs.Collecting.{Collects};
+ghost use Rattle.xml_element.specs.Opens.{spelled, TagIn, start_tokens};
+ghost use Rattle.xml_part.specs.Parts.{OuterRead, TagRead, CollectingAt, order_or, HeadPut, SideRead, Steps, SourceSteps, TargetSteps, HeadSteps, PartEnds};
 
-use table_builder::Built;
-use xml_attributes::{Tagged, read_attributes};
-use xml_content::{Closed, Went, content};
-use xml_element::{Emptied, EndTag, blamed_tag, ends_name};
-use xml_heads::{Head, Order, part_head, target_order};
+use table_builder::TableBuilder;
+use xml_attributes::Tagged;
+use xml_content::content;
+use xml_element::{Blamed, EndTag, StartTag, attributes_at, blamed_tag, ends_name};
+use xml_heads::{Head, part_head, target_order};
+use xml_names::Span;
 use xml_piece::{Piece, piece_at};
 use xml_records::{put_ignorable, put_segment, put_target_head};
 use xml_slots::{ABSENT, SLOTS, is_word};
@@ -22,278 +24,240 @@ use xml_values::is_blank_point;
 // "to depth 32 of pc and mrk"
 const MOST_DEPTH: usize = 32;
 
-// Behind blanks and comments: a start tag with its place and where its name stands, an end tag, a tag that the text's
-// end cuts, a place at fault, or the text's end.
+// Behind blanks and comments: a start tag, an end tag, the place of a tag that the text's end cuts, or of the text's end.
 #[derive(Clone, Copy)]
 pub enum Outer {
-    Start(usize, usize, usize),
+    Start(StartTag),
     Close(EndTag),
     Cut(usize),
-    Bad(usize),
     End(usize),
 }
 
+// A start tag or an end tag.
+#[derive(Clone, Copy)]
+pub enum AnyTag {
+    Start(StartTag),
+    Close(EndTag),
+}
+
 // What stands behind blanks and comments from `start` on.
-pub fn outer_at(text: &[u8], start: usize) -> Outer
+pub fn outer_at(text: &[u8], start: usize) -> Result<Outer, Blamed>
     requires { start ≤ length text.now }
     ensures { OuterRead text.now start result }
 {
     let mut at = start;
     loop {
         match piece_at(text, at) {
-            Piece::Start(from, upto) => {
-                return Outer::Start(at, from, upto);
+            Piece::Start(name) => {
+                return Ok(Outer::Start(StartTag { place: at, name }));
             }
-            Piece::Close(from, upto, next) => {
-                return Outer::Close(EndTag {
+            Piece::Close(name, next) => {
+                return Ok(Outer::Close(EndTag {
                     place: at,
-                    from: from,
-                    upto: upto,
-                    next: next,
-                });
+                    name,
+                    next,
+                }));
             }
             Piece::Comment(next) => {
                 at = next;
             }
             Piece::Character(c, next) => {
                 if !is_blank_point(c) {
-                    return Outer::Bad(at);
+                    return Err(Blamed { place: at });
                 }
                 at = next;
             }
-            Piece::Reference(c, next) => {
-                return Outer::Bad(at);
+            Piece::Reference(_, _) | Piece::TextFault(_) => {
+                return Err(Blamed { place: at });
             }
             Piece::CutTag => {
-                return Outer::Cut(at);
+                return Ok(Outer::Cut(at));
             }
             Piece::Fault(place) => {
-                return Outer::Bad(place);
-            }
-            Piece::TextFault(place) => {
-                return Outer::Bad(at);
+                return Err(Blamed { place });
             }
             Piece::End => {
-                return Outer::End(at);
+                return Ok(Outer::End(at));
             }
         }
     }
 }
 
-// Behind the start tag of a source or a target of this name: its content, and its end tag.
-fn side(text: &[u8], next: usize, short: bool, name: &[u8], table: &mut [u8], built: Built) -> Went
-    requires { (next ≤ length text.now) × Collecting table.old built }
-    ensures { SideRead text.now next short name.now table.old built table.new result }
+// The tag behind blanks and comments, where one is due. The text's end is blamed, before a tag or within it.
+pub fn tag_behind(text: &[u8], start: usize) -> Result<AnyTag, Blamed>
+    requires { start ≤ length text.now }
+    ensures { TagRead text.now start result }
 {
-    if short {
-        return Went::On(next, built);
-    }
-    match content(text, next, table, built, MOST_DEPTH) {
-        Closed::By(end, within) => {
-            let from = end.from;
-            let upto = end.upto;
-            if is_word(&text[from..upto], name) {
-                return Went::On(end.next, within);
-            }
-            Went::Bad(end.place)
-        }
-        Closed::Bad(place) => Went::Bad(place),
+    match outer_at(text, start)? {
+        Outer::Start(tag) => Ok(AnyTag::Start(tag)),
+        Outer::Close(end) => Ok(AnyTag::Close(end)),
+        Outer::Cut(_) => Err(Blamed { place: text.len() }),
+        Outer::End(place) => Err(Blamed { place }),
     }
 }
 
-// The source whose start tag stands at `place`.
-fn source_at(
+// Behind the start tag of a source or a target of this name: its content, and its end tag. The place behind that.
+fn side(
     text: &[u8],
-    place: usize,
-    from: usize,
-    upto: usize,
-    table: &mut [u8],
-    built: Built,
-) -> Went
-    requires { NameIn text.now from upto × Collecting table.old built }
-    ensures { SourceSteps text.now upto (tag_at text.now place (bytes_between text.now from upto) upto) table.old built table.new result }
+    tagged: Tagged,
+    name: &[u8],
+    builder: &mut TableBuilder,
+) -> Result<usize, Blamed>
+    requires { tagged.next ≤ length text.now }
+    ensures { SideRead text.now tagged.next tagged.short name.now builder.old builder.new result }
+{
+    if tagged.short {
+        return Ok(tagged.next);
+    }
+    let end = content(text, tagged.next, builder, MOST_DEPTH)?;
+    if !is_word(end.name.of(text), name) {
+        return Err(Blamed { place: end.place });
+    }
+    Ok(end.next)
+}
+
+// The source whose start tag this is.
+fn source_at(text: &[u8], tag: StartTag, builder: &mut TableBuilder) -> Result<usize, Blamed>
+    requires { TagIn text.now tag }
+    ensures { SourceSteps text.now tag.name.upto (start_tokens text.now tag) builder.old builder.new result }
 {
     let mut slots = [ABSENT; SLOTS];
-    match read_attributes(text, upto, &mut slots) {
-        Tagged::Whole(next, short, count) => {
-            if is_word(&text[from..upto], b"source") & (count == 0) {
-                return side(text, next, short, b"source", table, built);
-            }
-            Went::Bad(place)
-        }
-        Tagged::Cut => Went::Bad(text.len()),
-        Tagged::Fault => Went::Bad(place),
+    let tagged = attributes_at(text, tag, &mut slots)?;
+    if is_word(tag.name.of(text), b"source") & (tagged.count == 0) {
+        return side(text, tagged, b"source", builder);
     }
+    Err(Blamed { place: tag.place })
 }
 
-// TG with the part's position as its order. Beyond a limit the position may be larger than an order can be.
-fn put_position(table: &mut [u8], built: Built, position: usize) -> Built
-    requires { CollectingAt position table.old built }
-    ensures { Collects (target_head position ∷ []) table.old built table.new result }
+// TG with this order, or the part's position. Beyond a limit the position may be larger than an order can be.
+fn put_order(builder: &mut TableBuilder, order: Option<u16>, position: usize)
+    requires { CollectingAt position builder.old }
+    ensures { Collects (target_head (order_or order position) ∷ []) builder.old builder.new }
 {
-    if built.over {
-        return built;
+    match order {
+        Some(q) => put_target_head(builder, q),
+        None => {
+            if !builder.is_over() {
+                put_target_head(builder, position as u16);
+            }
+        }
     }
-    put_target_head(table, built, position as u16)
 }
 
-// The target whose start tag stands at `place`, of the part at this position.
+// The target whose start tag this is, of the part at this position.
 fn target_at(
     text: &[u8],
-    place: usize,
-    from: usize,
-    upto: usize,
-    table: &mut [u8],
-    built: Built,
+    tag: StartTag,
+    builder: &mut TableBuilder,
     position: usize,
-) -> Went
-    requires { NameIn text.now from upto × CollectingAt position table.old built }
-    ensures { TargetSteps text.now upto position (tag_at text.now place (bytes_between text.now from upto) upto) table.old built table.new result }
+) -> Result<usize, Blamed>
+    requires { TagIn text.now tag × CollectingAt position builder.old }
+    ensures { TargetSteps text.now tag.name.upto position (start_tokens text.now tag) builder.old builder.new result }
 {
     let mut slots = [ABSENT; SLOTS];
-    match read_attributes(text, upto, &mut slots) {
-        Tagged::Whole(next, short, count) => {
-            if !is_word(&text[from..upto], b"target") {
-                return Went::Bad(place);
-            }
-            match target_order(&slots, count) {
-                Order::Bad => Went::Bad(place),
-                Order::Given(q) => {
-                    let headed = put_target_head(table, built, q);
-                    side(text, next, short, b"target", table, headed)
-                }
-                Order::Absent => {
-                    let headed = put_position(table, built, position);
-                    side(text, next, short, b"target", table, headed)
-                }
-            }
-        }
-        Tagged::Cut => Went::Bad(text.len()),
-        Tagged::Fault => Went::Bad(place),
+    let tagged = attributes_at(text, tag, &mut slots)?;
+    if !is_word(tag.name.of(text), b"target") {
+        return Err(Blamed { place: tag.place });
     }
+    let Some(order) = target_order(&slots, tagged.count) else {
+        return Err(Blamed { place: tag.place });
+    };
+    put_order(builder, order, position);
+    side(text, tagged, b"target", builder)
 }
 
-// The end tag of the part whose name stands from one place to the other.
-fn part_end(text: &[u8], start: usize, from: usize, upto: usize) -> Emptied
-    requires { (start ≤ length text.now) × NameIn text.now from upto }
-    ensures { PartEnds text.now start (bytes_between text.now from upto) result }
+// The end tag of the part of this name.
+fn part_end(text: &[u8], start: usize, name: Span) -> Result<usize, Blamed>
+    requires { (start ≤ length text.now) × NameIn text.now name.from name.upto }
+    ensures { PartEnds text.now start (spelled text.now name) result }
 {
-    match outer_at(text, start) {
-        Outer::Start(place, name_from, name_upto) => Emptied::Bad(blamed_tag(
-            text, place, name_upto,
-        )),
-        Outer::Close(end) => {
-            if ends_name(text, from, upto, end) {
-                return Emptied::On(end.next);
+    match tag_behind(text, start)? {
+        AnyTag::Start(tag) => Err(blamed_tag(text, tag)),
+        AnyTag::Close(end) => {
+            if !ends_name(text, name, end) {
+                return Err(Blamed { place: end.place });
             }
-            Emptied::Bad(end.place)
+            Ok(end.next)
         }
-        Outer::Cut(place) => Emptied::Bad(text.len()),
-        Outer::Bad(place) => Emptied::Bad(place),
-        Outer::End(place) => Emptied::Bad(place),
     }
 }
 
-// Behind the source of a part whose name stands from one place to the other: its target, if there is one, and its end.
+// Behind the source of a part of this name: its target, if there is one, and its end.
 fn behind_source(
     text: &[u8],
     start: usize,
-    from: usize,
-    upto: usize,
-    table: &mut [u8],
-    built: Built,
+    name: Span,
+    builder: &mut TableBuilder,
     position: usize,
-) -> Went
-    requires { (start ≤ length text.now) × NameIn text.now from upto × CollectingAt position table.old built }
-    ensures { Steps text.now start (target_due position (bytes_between text.now from upto))
-        (rest_at text.now start) 0 (part_due position) table.old built table.new result }
+) -> Result<usize, Blamed>
+    requires { (start ≤ length text.now) × NameIn text.now name.from name.upto × CollectingAt position builder.old }
+    ensures { Steps text.now start (target_due position (spelled text.now name)) (rest_at text.now start) 0
+        (part_due position) builder.old builder.new result }
 {
-    match outer_at(text, start) {
-        Outer::Start(place, name_from, name_upto) => {
-            match target_at(text, place, name_from, name_upto, table, built, position) {
-                Went::On(next, more) => match part_end(text, next, from, upto) {
-                    Emptied::On(behind) => Went::On(behind, more),
-                    Emptied::Bad(at) => Went::Bad(at),
-                },
-                Went::Bad(at) => Went::Bad(at),
-            }
+    match tag_behind(text, start)? {
+        AnyTag::Start(tag) => {
+            let next = target_at(text, tag, builder, position)?;
+            part_end(text, next, name)
         }
-        Outer::Close(end) => {
-            if ends_name(text, from, upto, end) {
-                return Went::On(end.next, built);
+        AnyTag::Close(end) => {
+            if !ends_name(text, name, end) {
+                return Err(Blamed { place: end.place });
             }
-            Went::Bad(end.place)
+            Ok(end.next)
         }
-        Outer::Cut(place) => Went::Bad(text.len()),
-        Outer::Bad(place) => Went::Bad(place),
-        Outer::End(place) => Went::Bad(place),
     }
 }
 
 // The source of a part.
-fn source_of(text: &[u8], start: usize, table: &mut [u8], built: Built) -> Went
-    requires { (start ≤ length text.now) × Collecting table.old built }
-    ensures { SourceSteps text.now start (rest_at text.now start) table.old
-        built table.new result }
+fn source_of(text: &[u8], start: usize, builder: &mut TableBuilder) -> Result<usize, Blamed>
+    requires { start ≤ length text.now }
+    ensures { SourceSteps text.now start (rest_at text.now start) builder.old builder.new result }
 {
-    match outer_at(text, start) {
-        Outer::Start(place, from, upto) => source_at(text, place, from, upto, table, built),
-        Outer::Close(end) => Went::Bad(end.place),
-        Outer::Cut(place) => Went::Bad(text.len()),
-        Outer::Bad(place) => Went::Bad(place),
-        Outer::End(place) => Went::Bad(place),
+    match tag_behind(text, start)? {
+        AnyTag::Start(tag) => source_at(text, tag, builder),
+        AnyTag::Close(end) => Err(Blamed { place: end.place }),
     }
 }
 
-// The head of a part whose name stands from one place to the other. In the short form it has no source.
-fn head(text: &[u8], place: usize, from: usize, upto: usize, table: &mut [u8], built: Built) -> Went
-    requires { NameIn text.now from upto × Collecting table.old built }
-    ensures { HeadSteps text.now upto (bytes_between text.now from upto) (tag_at text.now place (bytes_between text.now from upto) upto) table.old built table.new result }
+// SG or IG.
+fn put_head(builder: &mut TableBuilder, head: Head)
+    ensures { HeadPut head builder.old builder.new }
+{
+    match head {
+        Head::Segment(f) => put_segment(builder, f),
+        Head::Ignorable(id) => put_ignorable(builder, id),
+    }
+}
+
+// The head of a part, by its start tag. In the short form it has no source.
+fn head(text: &[u8], tag: StartTag, builder: &mut TableBuilder) -> Result<usize, Blamed>
+    requires { TagIn text.now tag }
+    ensures { HeadSteps text.now tag.name.upto (spelled text.now tag.name) (start_tokens text.now tag) builder.old builder.new result }
 {
     let mut slots = [ABSENT; SLOTS];
-    match read_attributes(text, upto, &mut slots) {
-        Tagged::Whole(next, short, count) => {
-            if short {
-                return Went::Bad(place);
-            }
-            match part_head(&text[from..upto], &slots, count) {
-                Head::Segment(f) => Went::On(next, put_segment(table, built, f)),
-                Head::Ignorable(id) => Went::On(next, put_ignorable(table, built, id)),
-                Head::Bad => Went::Bad(place),
-            }
-        }
-        Tagged::Cut => Went::Bad(text.len()),
-        Tagged::Fault => Went::Bad(place),
+    let tagged = attributes_at(text, tag, &mut slots)?;
+    if tagged.short {
+        return Err(Blamed { place: tag.place });
     }
+    let Some(head) = part_head(tag.name.of(text), &slots, tagged.count) else {
+        return Err(Blamed { place: tag.place });
+    };
+    put_head(builder, head);
+    Ok(tagged.next)
 }
 
-// The part whose start tag stands at `place`, with so many parts before it.
+// The part whose start tag this is, with so many parts before it. The place behind it.
 pub fn part(
     text: &[u8],
-    place: usize,
-    from: usize,
-    upto: usize,
-    table: &mut [u8],
-    built: Built,
+    tag: StartTag,
+    builder: &mut TableBuilder,
     before: usize,
-) -> Went
-    requires { NameIn text.now from upto × (before < upto) × CollectingAt before table.old built }
-    ensures { Steps text.now upto (part_due before) (tag_at text.now place (bytes_between
-        text.now from upto) upto) 1 (part_due (suc before)) table.old built table.new result }
+) -> Result<usize, Blamed>
+    requires { TagIn text.now tag × (before < tag.name.upto) × CollectingAt before builder.old }
+    ensures { Steps text.now tag.name.upto (part_due before) (start_tokens text.now tag) 1 (part_due (suc before))
+        builder.old builder.new result }
 {
-    match head(text, place, from, upto, table, built) {
-        Went::On(next, headed) => match source_of(text, next, table, headed) {
-            Went::On(behind, sourced) => behind_source(
-                text,
-                behind,
-                from,
-                upto,
-                table,
-                sourced,
-                before + 1,
-            ),
-            Went::Bad(at) => Went::Bad(at),
-        },
-        Went::Bad(at) => Went::Bad(at),
-    }
+    let next = head(text, tag, builder)?;
+    let behind = source_of(text, next, builder)?;
+    behind_source(text, behind, tag.name, builder, before + 1)
 }

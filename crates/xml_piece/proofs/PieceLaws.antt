@@ -27,15 +27,15 @@ text_over s at h k =
 
 -- a tag or a comment
 abbrev pub as_piece : Markup → Piece
-as_piece (Start from upto) = StartPiece from upto
-as_piece (Close from upto next) = ClosePiece from upto next
+as_piece (Start name) = StartPiece name
+as_piece (Close name next) = ClosePiece name next
 as_piece (Comment next) = CommentPiece next
 as_piece Short = CutTag
 as_piece (Fault p) = FaultPiece p
 
 marked : (s : List ℕ) (at : ℕ) (m : Markup) → Marked s outside_tags at at m → PieceRead s at (as_piece m)
-marked s at (Start from upto) r = (record { ahead = r.ahead; inside = r.inside }, r.name, r.same)
-marked s at (Close from upto next) r =
+marked s at (Start name) r = (record { ahead = r.ahead; inside = r.inside }, r.name, r.same)
+marked s at (Close name next) r =
     (r.name, record { goes = record { ahead = r.ahead; inside = r.inside }; same = r.same })
 marked s at (Comment next) r = (record { ahead = r.ahead; inside = r.inside }, r.same)
 marked s at Short r = r

@@ -38,9 +38,11 @@ pub record Stands (text : List ℕ) (at : ℕ) (t : Token) (next : ℕ) : Type 0
   pub same : rest_at text at ≡ t ∷ rest_at text next
 
 abbrev pub PieceRead : List ℕ → ℕ → Piece → Type 0
-PieceRead text at (Start from upto) =
-    Ahead text at upto × NameIn text from upto × (rest_at text at ≡ tag_at text at (bytes_between text from upto) upto)
-PieceRead text at (Close from upto next) = NameIn text from upto × Stands text at (end_tag at (bytes_between text from upto)) next
+PieceRead text at (Start name) =
+    Ahead text at name.upto × NameIn text name.from name.upto
+    × (rest_at text at ≡ tag_at text at (bytes_between text name.from name.upto) name.upto)
+PieceRead text at (Close name next) =
+    NameIn text name.from name.upto × Stands text at (end_tag at (bytes_between text name.from name.upto)) next
 PieceRead text at (Comment next) = Ahead text at next × (rest_at text at ≡ rest_at text next)
 PieceRead text at (Character c next) = (c ≤ 0x10FFFF) × Stands text at (char at c) next
 PieceRead text at (Reference c next) = (c ≤ 0x10FFFF) × Stands text at (reference at c) next

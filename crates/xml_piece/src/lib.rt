@@ -5,18 +5,19 @@ ghost use Rattle.std.specs.Prelude.{◌≡◌, ◌≤◌, ◌<◌, length, get_o
 ghost use Rattle.xml.specs.Characters.{'<', '&', carriage_return};
 ghost use Rattle.xml_piece.specs.Pieces.{Plain, PieceRead};
 
-use xml_front::{Front, begins, front_character};
+use xml_front::{Flaw, begins, front_character};
+use xml_names::Span;
 use xml_reference::front_reference;
 use xml_tag::{Markup, tag_at};
 
-// A start tag: its name stands from one place to the other, where its attributes begin. An end tag: its name, and the
-// place behind it. A comment, a character and a reference, each with the place behind it. A tag that the text's end
-// cuts. A tag or a comment at fault; a character or a reference that is at fault or cut: the place blamed where text
-// may stand. The text's end.
+// A start tag: where its name stands, its attributes begin behind that. An end tag: its name, and the place behind it. A
+// comment, a character and a reference, each with the place behind it. A tag that the text's end cuts. A tag or a
+// comment at fault; a character or a reference that is at fault or cut: the place blamed where text may stand. The
+// text's end. (No Result: each reader of pieces goes another way at each fault, so that no `?` would serve.)
 #[derive(Clone, Copy)]
 pub enum Piece {
-    Start(usize, usize),
-    Close(usize, usize, usize),
+    Start(Span),
+    Close(Span, usize),
     Comment(usize),
     Character(u32, usize),
     Reference(u32, usize),
@@ -32,8 +33,8 @@ fn markup_at(text: &[u8], at: usize) -> Piece
     ensures { PieceRead text.now at result }
 {
     match tag_at(text, at) {
-        Markup::Start(from, upto) => Piece::Start(from, upto),
-        Markup::Close(from, upto, next) => Piece::Close(from, upto, next),
+        Markup::Start(name) => Piece::Start(name),
+        Markup::Close(name, next) => Piece::Close(name, next),
         Markup::Comment(next) => Piece::Comment(next),
         Markup::Short => Piece::CutTag,
         Markup::Fault(place) => Piece::Fault(place),
@@ -47,12 +48,9 @@ fn reference_at(text: &[u8], at: usize) -> Piece
 {
     let behind = at + 1;
     match front_reference(&text[behind..]) {
-        Front::Found(c, more) => {
-            let next = behind + more;
-            Piece::Reference(c, next)
-        }
-        Front::Cut => Piece::TextFault(text.len()),
-        Front::Wrong => Piece::TextFault(at),
+        Ok(front) => Piece::Reference(front.point, behind + front.more),
+        Err(Flaw::Cut) => Piece::TextFault(text.len()),
+        Err(Flaw::Wrong) => Piece::TextFault(at),
     }
 }
 
@@ -76,12 +74,9 @@ fn character_at(text: &[u8], at: usize) -> Piece
 {
     let behind = at + 1;
     match front_character(&text[at..]) {
-        Front::Found(c, more) => {
-            let next = behind + more;
-            Piece::Character(c, next)
-        }
-        Front::Cut => Piece::TextFault(text.len()),
-        Front::Wrong => Piece::TextFault(at),
+        Ok(front) => Piece::Character(front.point, behind + front.more),
+        Err(Flaw::Cut) => Piece::TextFault(text.len()),
+        Err(Flaw::Wrong) => Piece::TextFault(at),
     }
 }
 

@@ -3,17 +3,16 @@ use Prim.Native.Nat.{ℕ}
 use mathlib.Core.Path.{◌≡◌, refl, sym, ap, ◌∙◌, subst}
 use mathlib.Core.Bool.{Bool}
 use mathlib.Core.List.{List, [], ◌∷◌, ◌++◌, append_assoc, append-nil}
-use lib.ListN.{length}
 use Rattle.xliff.specs.Encode.{Record, opening, closing, part_head, target_head, text_run, inline, record_bytes, text_before, item_before}
 use Rattle.xliff.specs.Unit.{Opening, Head}
-use Rattle.xliff.specs.Parse.{is_part, most_bytes}
+use Rattle.xliff.specs.Parse.{is_part}
 use Rattle.xml.proofs.MergeLaws.{texts_before, put, merged}
 use Rattle.table.specs.Meaning.{item}
 use Rattle.table.specs.declared.Item.{Item}
 use Rattle.table.specs.declared.Item.TheVariants.{Character, Standalone, Isolated, Pair, AnnotationStart, AnnotationEnd}
-use Rattle.table_builder.specs.declared.Built.{Built}
-use Rattle.table_builder.specs.Building.{run_records, with_run, Building, RecordPut, CodePointPut, HoldsNothing}
-use Rattle.xml_records.specs.Collecting.{Gathered, Collected, Collects, Collecting}
+use Rattle.table_builder.specs.declared.TableBuilder.{TableBuilder}
+use Rattle.table_builder.specs.Building.{run_records, with_run, Holds, RecordPut, CodePointPut}
+use Rattle.xml_records.specs.Collecting.{Gathered, Collected, Collects}
 
 -- a code point in front of these records is a text of its own
 abbrev Apart : List Record → Type 0
@@ -110,13 +109,12 @@ whole_item x = record { stays = stays_item; apart = apart_item }
     apart_item l c = refl
 
 -- an empty table
-pub collected_none : {built : Built} → HoldsNothing built → (t : List ℕ) → length t ≡ most_bytes → Collected t built []
-unfolding HoldsNothing
-collected_none h t e = record { done = []; run = []; holds = h t e; gathered = gathered_none }
+pub collected_none : {builder : TableBuilder} → Holds builder [] [] → Collected builder []
+collected_none h = record { done = []; run = []; holds = h; gathered = gathered_none }
 
 -- one record more in it: a code point of text, any other
-module _ {t t' : List ℕ} {built built' : Built} where
-  pub collects_code_point : {c : ℕ} → CodePointPut t built c t' built' → Collects (text_run (c ∷ []) ∷ []) t built t' built'
+module _ {builder builder' : TableBuilder} where
+  pub collects_code_point : {c : ℕ} → CodePointPut builder c builder' → Collects (text_run (c ∷ []) ∷ []) builder builder'
   unfolding CodePointPut
   collects_code_point {c} p =
       record {
@@ -129,8 +127,8 @@ module _ {t t' : List ℕ} {built built' : Built} where
             };
       }
 
-  pub collects_record : {bytes : List ℕ} {part : Bool} {r : Record} → RecordPut t built bytes part t' built' → Whole r
-      → record_bytes r ≡ bytes → is_part r ≡ part → Collects (r ∷ []) t built t' built'
+  pub collects_record : {bytes : List ℕ} {part : Bool} {r : Record} → RecordPut builder bytes part builder' → Whole r
+      → record_bytes r ≡ bytes → is_part r ≡ part → Collects (r ∷ []) builder builder'
   unfolding RecordPut
   collects_record {r = r} p w b h =
       record {
@@ -144,29 +142,10 @@ module _ {t t' : List ℕ} {built built' : Built} where
       }
 
 -- no record, and some behind some
-pub collects_none : {t : List ℕ} {built : Built} → Collects [] t built t built
-collects_none {t} {built} = record { on = λ read k. subst (Collected t built) (sym (append-nil read)) k }
+pub collects_none : {builder : TableBuilder} → Collects [] builder builder
+collects_none {builder} = record { on = λ read k. subst (Collected builder) (sym (append-nil read)) k }
 
-pub collects_both : {t t₁ t₂ : List ℕ} {built built₁ built₂ : Built} {rs qs : List Record} → Collects rs t built t₁ built₁
-    → Collects qs t₁ built₁ t₂ built₂ → Collects (rs ++ qs) t built t₂ built₂
-collects_both {t₂ = t₂} {built₂ = built₂} {rs = rs} {qs = qs} h k =
-    record { on = λ read g. subst (Collected t₂ built₂) (append_assoc read rs qs) (k.on (read ++ rs) (h.on read g)) }
-
--- some records are collected
-pub collecting : {t : List ℕ} {built : Built} {read : List Record} → Collected t built read → Collecting t built
-collecting {read = read} k = record { read = read; collected = k }
-
-pub collecting_on : {t t' : List ℕ} {built built' : Built} {rs : List Record} → Collects rs t built t' built' → Collecting t built
-    → Collecting t' built'
-collecting_on h k = collecting (h.on k.read k.collected)
-
-pub collecting_builds : {t : List ℕ} {built : Built} → Collecting t built → Building t built
-collecting_builds k =
-    let held = k.collected in
-    record { done = held.done; run = held.run; holds = held.holds }
-
--- the array keeps its length
-pub same_room : (records : List Record) (t t' : List ℕ) (b b' : Built) → Collecting t b → Collects records t b t' b'
-    → length t' ≡ length t
-same_room records t t' b b' held k =
-    (k.on held.read held.collected).holds.room ∙ sym held.collected.holds.room
+pub collects_both : {builder builder₁ builder₂ : TableBuilder} {rs qs : List Record} → Collects rs builder builder₁
+    → Collects qs builder₁ builder₂ → Collects (rs ++ qs) builder builder₂
+collects_both {builder₂ = builder₂} {rs = rs} {qs = qs} h k =
+    record { on = λ read g. subst (Collected builder₂) (append_assoc read rs qs) (k.on (read ++ rs) (h.on read g)) }

@@ -2,7 +2,7 @@
 use Rattle.std.specs.Prelude.{ℕ, ◌≡◌, List, ◌++◌}
 use Rattle.xliff.specs.Encode.{Record}
 use Rattle.xml.proofs.MergeLaws.{texts_before, merged}
-use Rattle.table_builder.specs.declared.Built.{Built}
+use Rattle.table_builder.specs.declared.TableBuilder.{TableBuilder}
 use Rattle.table_builder.specs.Building.{Holds}
 
 -- What a table holds of records read: whatever is read behind them, put together with them it stands behind what the
@@ -10,17 +10,12 @@ use Rattle.table_builder.specs.Building.{Holds}
 pub record Gathered (read done : List Record) (run : List ℕ) : Type 0 where
   pub behind : (rest : List Record) → merged (read ++ rest) ≡ done ++ texts_before run (merged rest)
 
-pub record Collected (table : List ℕ) (built : Built) (read : List Record) : Type 0 where
+pub record Collected (builder : TableBuilder) (read : List Record) : Type 0 where
   pub done : List Record
   pub run : List ℕ
-  pub holds : Holds table built done run
+  pub holds : Holds builder done run
   pub gathered : Gathered read done run
 
 -- records are read and put behind those before
-pub record Collects (more : List Record) (table : List ℕ) (built : Built) (table' : List ℕ) (built' : Built) : Type 0 where
-  pub on : (read : List Record) → Collected table built read → Collected table' built' (read ++ more)
-
--- some records are collected
-pub record Collecting (table : List ℕ) (built : Built) : Type 0 where
-  pub read : List Record
-  pub collected : Collected table built read
+pub record Collects (more : List Record) (builder builder' : TableBuilder) : Type 0 where
+  pub on : (read : List Record) → Collected builder read → Collected builder' (read ++ more)

@@ -1,24 +1,29 @@
 -- The digits of a numeric reference, one by one.
-use Prim.Native.Nat.{ℕ, suc, ◌+◌, ◌*◌, ◌-◌, ◌≤◌, ◌<◌}
-use mathlib.Core.Path.{◌≡◌, refl, ap, ◌∙◌}
+use Prim.Native.Nat.{ℕ, suc, min, ◌+◌, ◌*◌, ◌-◌, ◌≤◌, ◌<◌}
+use mathlib.Core.Path.{◌≡◌, refl, sym, ap, ◌∙◌}
 use mathlib.Core.Bool.{Bool, true, false, ◌&&◌, cond}
 use mathlib.Core.List.{List}
 use mathlib.Core.Option.{Option, none, some}
 use native.Mathlib.Omega.{arith}
 use lib.ListN.{length, get_or, drop, drop_of_length-le}
 use lib.Seq.{drop-cons}
-use lib.Dec.{eqb, leb}
-use borrow.Author.Tests.{leb-true, leb-false}
+use lib.Dec.{eqb, leb, ltb}
+use borrow.Author.Tests.{leb-true, leb-false, lt-ltb, le-ltb}
+use Rattle.std.specs.Prelude.{Option as RustOption, Some, None, SomeIff}
+use Rattle.std.proofs.lemmas.Bool.Decides.{nat_tests}
 use Rattle.xliff.specs.Text.{between}
-use Rattle.xliff.proofs.lists.Tests.{and_right}
+use Rattle.xliff.proofs.lists.Tests.{and_right, and_false, and-true}
 use Rattle.text.specs.Utf8.{xml_char}
 use Rattle.text.proofs.TextLaws.{xml_same}
-use Rattle.xml.specs.Characters.{found, cut, wrong, digit_value, numeric}
+use Rattle.std.specs.Char.{digit_value}
+use Rattle.xml.specs.Characters as spec
+use Rattle.xml_front.specs.Fronts.{number_told}
+use Rattle.xml.specs.Characters.{found, cut, wrong, numeric}
 use Rattle.xml.proofs.BoundLaws.{large_decimal, large_hexadecimal}
-use Rattle.xml_reference.specs.References.{base_of, digit_or, capped, numeric_end, or_16}
+use Rattle.xml_reference.specs.References.{base_of, capped, numeric_end}
 
-small : (base b d : ℕ) → digit_value base b ≡ some d → d < 16
-unfolding digit_value between
+pub small : (base b d : ℕ) → spec.digit_value base b ≡ some d → d < 16
+unfolding spec.digit_value between
 small base b d e =
     by (leb 48 b && leb b 57) refl (eqb base 16 && (leb 65 b && leb b 70)) refl (eqb base 16 && (leb 97 b && leb b 102))
     refl e
@@ -38,44 +43,30 @@ small base b d e =
         omega arith
     by false p false q false r e = absurd (let z : ◌≡◌ {A = ℕ} 0 1 = cc in omega arith)
 
-pub digit_is : (hex : Bool) (b : ℕ)
-    → digit_or hex b
-    ≡ cond (leb 48 b && leb b 57) (b - 48)
-    (cond (hex && (leb 65 b && leb b 70)) (b - 55) (cond (hex && (leb 97 b && leb b 102)) (b - 87) 16))
-unfolding digit_or digit_value between
-digit_is hex b = by hex (leb 48 b && leb b 57) (leb 65 b && leb b 70) (leb 97 b && leb b 102)
-  where
-    by : (hex x y z : Bool)
-        → ◌≡◌ {A = ℕ}
-        (or_16
-        (cond x (some (b - 48))
-        (cond (eqb (base_of hex) 16 && y) (some (b - 55)) (cond (eqb (base_of hex) 16 && z) (some (b - 87)) none))))
-        (cond x (b - 48) (cond (hex && y) (b - 55) (cond (hex && z) (b - 87) 16)))
-    by hex true y z = refl
-    by true false true z = refl
-    by true false false true = refl
-    by true false false false = refl
-    by false false y z = refl
+-- the library's digits are XML's
+value_same : (hex : Bool) (b : ℕ)
+    → spec.digit_value (base_of hex) b ≡ cond (ltb (digit_value b) (base_of hex)) (some (digit_value b)) none
+unfolding spec.digit_value between
+value_same true b = grind (arith, nat_tests)
+value_same false b = grind (arith, nat_tests)
 
-pub end_is : (b v size : ℕ) (any : Bool) → numeric_end b any v size ≡ cond (eqb b 59 && any && xml_char v) (found v size) wrong
+pub digit_is : (hex : Bool) (b : ℕ) (r : RustOption ℕ) → SomeIff r (digit_value b < base_of hex) (digit_value b)
+    → number_told r ≡ spec.digit_value (base_of hex) b
+digit_is hex b None h = sym (value_same hex b ∙ rw (le-ltb (digit_value b) (base_of hex) (omega (arith, h))))
+digit_is hex b (Some d) (h, e) = sym (value_same hex b ∙ rw (lt-ltb (digit_value b) (base_of hex) h, e))
+
+-- behind digits, and where there were none
+pub end_some : (b v size : ℕ) → numeric_end b true v size ≡ cond (eqb b 59 && xml_char v) (found v size) wrong
 unfolding numeric_end
-end_is b v size any = rw (xml_same v)
+end_some b v size = rw (xml_same v, and-true (eqb b 59))
 
-pub digit_some : (hex : Bool) (b : ℕ) → digit_or hex b < 16 → digit_value (base_of hex) b ≡ some (digit_or hex b)
-unfolding digit_or
-digit_some hex b h = by (digit_value (base_of hex) b) h
-  where
-    by : (o : Option ℕ) → or_16 o < 16 → o ≡ some (or_16 o)
-    by none h = absurd (let z : ⊥ = omega arith in z)
-    by (some d) h = refl
+pub end_none : (b v size : ℕ) → wrong ≡ numeric_end b false v size
+unfolding numeric_end
+end_none b v size = rw (and_false (eqb b 59)) refl
 
-pub digit_none : (hex : Bool) (b : ℕ) → 16 ≤ digit_or hex b → digit_value (base_of hex) b ≡ none
-unfolding digit_or
-digit_none hex b h = by (digit_value (base_of hex) b) refl h
-  where
-    by : (o : Option ℕ) → digit_value (base_of hex) b ≡ o → 16 ≤ or_16 o → o ≡ none
-    by none e h = refl
-    by (some d) e h = absurd (let k = small (base_of hex) b d e in let z : ⊥ = omega arith in z)
+pub capped_is : (v : ℕ) → min v 0x110000 ≡ capped v
+unfolding capped
+capped_is v = grind (arith, nat_tests)
 
 cap : (hex any : Bool) (v size : ℕ) (s : List ℕ)
     → numeric (base_of hex) any v size s ≡ numeric (base_of hex) any (capped v) size s
@@ -89,25 +80,25 @@ cap hex any v size s = by hex (leb v 0x10FFFF) refl
     by false false e = let k = leb-false v 0x10FFFF e in large_decimal any v 0x110000 size s (omega arith) (omega arith)
 
 module _ (hex any : Bool) (v i : ℕ) (t : List ℕ) where
-  pub digit_on : i < length t → digit_or hex (get_or t i 0) < 16
+  pub digit_on : i < length t → (d : ℕ) → spec.digit_value (base_of hex) (get_or t i 0) ≡ some d
       → numeric (base_of hex) any v (i + 1) (drop i t)
-      ≡ numeric (base_of hex) true (capped (v * base_of hex + digit_or hex (get_or t i 0))) (i + 1 + 1) (drop (i + 1) t)
+      ≡ numeric (base_of hex) true (capped (v * base_of hex + d)) (i + 1 + 1) (drop (i + 1) t)
   unfolding numeric
-  digit_on h k =
+  digit_on h d e =
       ap (numeric (base_of hex) any v (i + 1)) (drop-cons t i 0 h)
-      ∙ rw (digit_some hex (get_or t i 0) k, numeric)
+      ∙ rw (e, numeric)
       (ap (λ (n : ℕ). numeric (base_of hex) true w n (drop (suc i) t)) (let e : suc (i + 1) ≡ i + 1 + 1 = omega arith in e))
       ∙ cap hex true w (i + 1 + 1) (drop (suc i) t)
       ∙ ap (λ (n : ℕ). numeric (base_of hex) true (capped w) (i + 1 + 1) (drop n t))
       (let e : suc i ≡ i + 1 = omega arith in e)
     where
       w : ℕ
-      w = v * base_of hex + digit_or hex (get_or t i 0)
+      w = v * base_of hex + d
 
-  pub digit_off : i < length t → 16 ≤ digit_or hex (get_or t i 0)
+  pub digit_off : i < length t → spec.digit_value (base_of hex) (get_or t i 0) ≡ none
       → numeric (base_of hex) any v (i + 1) (drop i t) ≡ numeric_end (get_or t i 0) any v (i + 1)
   unfolding numeric numeric_end
-  digit_off h k = ap (numeric (base_of hex) any v (i + 1)) (drop-cons t i 0 h) ∙ rw (digit_none hex (get_or t i 0) k, numeric)
+  digit_off h e = ap (numeric (base_of hex) any v (i + 1)) (drop-cons t i 0 h) ∙ rw (e, numeric)
 
   pub digits_end : length t ≤ i → numeric (base_of hex) any v (i + 1) (drop i t) ≡ cut
   unfolding numeric

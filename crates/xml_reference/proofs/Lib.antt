@@ -1,3 +1,4 @@
 pub mod NameLaws
 pub mod DigitLaws
 pub mod ReferenceLaws
+pub mod EntityLaws

@@ -10,21 +10,8 @@ use lib.Seq.{drop-cons}
 use Rattle.xml.specs.Characters.{in_a_name, continues_name, starts_name, only_name}
 use Rattle.xml_reference.specs.References.{all_name}
 
-pub name_on : (t : List ℕ) (i : ℕ) → i < length t → in_a_name (get_or t i 0) ≡ true
-    → all_name (drop i t) ≡ all_name (drop (i + 1) t)
-unfolding all_name
-name_on t i h e = rw (drop-cons t i 0 h, e, add-one)
-
-pub name_off : (t : List ℕ) (i : ℕ) → i < length t → in_a_name (get_or t i 0) ≡ false → all_name (drop i t) ≡ false
-unfolding all_name
-name_off t i h e = rw (drop-cons t i 0 h, e)
-
-pub name_end : (t : List ℕ) (i : ℕ) → length t ≤ i → all_name (drop i t) ≡ true
-unfolding all_name
-name_end t i h = rw (drop_of_length-le t {i = i} h)
-
 in_name : (a : ℕ) (n t : List ℕ) → only_name (a ∷ n) t ≡ all_name t
-unfolding only_name all_name continues_name
+unfolding only_name continues_name
 in_name a n [] = refl
 in_name a n (b ∷ t) = ap (λ (x : Bool). in_a_name b && x) (in_name b (a ∷ n) t)
 

@@ -1,30 +1,27 @@
 -- Parts of the definitions of references, one for each function of the program.
-use Rattle.std.specs.Prelude.{ℕ, Bool, true, false, ◌&&◌, cond, List, [], ◌∷◌, eqb, leb}
-use Rattle.std.proofs.Math.Option.{Option, none, some}
+use Rattle.std.specs.Prelude.{ℕ, ◌≡◌, Bool, true, false, ◌&&◌, cond, List, [], ◌∷◌, length, eqb, leb, Option as RustOption, Some, None}
+use Rattle.std.specs.Borrow.{Bor}
+use Rattle.std.specs.List.{list_all}
 use Rattle.xliff.specs.Text.{xml_allows}
-use Rattle.xml.specs.Words.{'quot', 'apos'}
-use Rattle.xml.specs.Characters.{quote, apostrophe, semicolon, Front, found, cut, wrong, begins, in_a_name, only_name, digit_value}
+use Rattle.xml.specs.Characters.{semicolon, Front, found, wrong, begins, in_a_name}
+use Rattle.xml_front.specs.declared.Front.{Front as Told}
 
 -- all bytes go on with a name
-unfoldable pub all_name : List ℕ → Bool
-all_name [] = true
-all_name (b ∷ t) = in_a_name b && all_name t
+abbrev pub all_name : List ℕ → Bool
+all_name t = list_all in_a_name t
 
--- the two rarer entities, or none
-unfoldable pub rare : List ℕ → Front
-rare s = cond (begins 'quot' s) (found quote 5) (cond (begins 'apos' s) (found apostrophe 5) (cond (only_name [] s) cut wrong))
+-- the first of these entities at the front, else f
+unfoldable pub entities_else : Front → List (Bor (List ℕ) × ℕ) → List ℕ → Front
+entities_else f [] s = f
+entities_else f (e ∷ es) s = cond (begins e.0.now s) (found e.1 (length e.0.now)) (entities_else f es s)
+
+abbrev pub EntityTold : RustOption Told → List (Bor (List ℕ) × ℕ) → List ℕ → Type 0
+EntityTold (Some t) es s = (f : Front) → entities_else f es s ≡ found t.point t.more
+EntityTold None es s = (f : Front) → entities_else f es s ≡ f
 
 abbrev pub base_of : Bool → ℕ
 base_of true = 16
 base_of false = 10
-
--- a digit's value, or 16
-abbrev pub or_16 : Option ℕ → ℕ
-or_16 (some d) = d
-or_16 none = 16
-
-unfoldable pub digit_or : Bool → ℕ → ℕ
-digit_or hex b = or_16 (digit_value (base_of hex) b)
 
 -- a number that no code point reaches, for all of them
 unfoldable pub capped : ℕ → ℕ

@@ -1,25 +1,21 @@
 // References: the five entities and numeric ones, behind their &.
 #![tactic(auto)]
 
-ghost use Rattle.std.specs.Prelude.{◌≡◌, false, [], ◌+◌, ◌*◌, ◌≤◌, length, drop};
-ghost use Rattle.xml.specs.Characters.{only_name, entity, numeric, numeric_reference, front_reference};
-ghost use Rattle.xml_front.specs.Fronts.{told};
-ghost use Rattle.xml_reference.specs.References.{base_of, digit_or, all_name, rare, capped, numeric_end};
+ghost use Rattle.std.specs.Prelude.{◌≡◌, false, [], ◌+◌, ◌*◌, ◌≤◌, length, drop, is_some};
+ghost use Rattle.std.specs.Option.{unwrap_or};
+ghost use Rattle.xml.specs.Characters.{only_name, entity, digit_value, numeric, numeric_reference, front_reference};
+ghost use Rattle.xml_front.specs.Fronts.{told, number_told};
+ghost use Rattle.xml_reference.specs.References.{base_of, all_name, EntityTold, capped, numeric_end};
 
 use text::xml_char;
-use xml_front::{Front, begins, less};
+use xml_front::{Flaw, Front, begins};
 use xml_names::{name_goes_on, name_starts};
 
 // Whether all bytes go on with a name.
 fn goes_to_end(text: &[u8]) -> bool
     ensures { result ≡ all_name text.now }
 {
-    for at in 0..text.len() {
-        if !name_goes_on(text[at]) {
-            return false;
-        }
-    }
-    true
+    text.iter().all(|b| name_goes_on(*b))
 }
 
 // Whether the bytes are a name, or the beginning of one.
@@ -30,64 +26,51 @@ fn is_only_name(text: &[u8]) -> bool
     name_starts(text[0]) & goes_to_end(&text[1..])
 }
 
-// quot and apos, or none of the five.
-fn rare_entity(text: &[u8]) -> Front
-    requires { 1 ≤ length text.now }
-    ensures { told result ≡ rare text.now }
+// The first of these entities, each with what it stands for, that is at the front.
+fn entity_of(text: &[u8], entities: &[(&[u8], u8)]) -> Option<Front>
+    ensures { EntityTold result entities.now text.now }
 {
-    if begins(b"quot;", text) {
-        return Front::Found(b'"' as u32, 5);
+    for (name, c) in entities {
+        if begins(name, text) {
+            return Some(Front {
+                point: u32::from(*c),
+                more: name.len(),
+            });
+        }
     }
-    if begins(b"apos;", text) {
-        return Front::Found(b'\'' as u32, 5);
-    }
-    if is_only_name(text) {
-        return Front::Cut;
-    }
-    Front::Wrong
+    None
 }
 
 // The five entities.
-fn entity_at(text: &[u8]) -> Front
+fn entity_at(text: &[u8]) -> Result<Front, Flaw>
     requires { 1 ≤ length text.now }
     ensures { told result ≡ entity text.now }
 {
-    if begins(b"amp;", text) {
-        return Front::Found(b'&' as u32, 4);
+    let entities: [(&[u8], u8); 5] = [
+        (b"amp;", b'&'),
+        (b"lt;", b'<'),
+        (b"gt;", b'>'),
+        (b"quot;", b'"'),
+        (b"apos;", b'\''),
+    ];
+    match entity_of(text, &entities) {
+        Some(front) => Ok(front),
+        None if is_only_name(text) => Err(Flaw::Cut),
+        None => Err(Flaw::Wrong),
     }
-    if begins(b"lt;", text) {
-        return Front::Found(b'<' as u32, 3);
-    }
-    if begins(b"gt;", text) {
-        return Front::Found(b'>' as u32, 3);
-    }
-    rare_entity(text)
 }
 
-// A digit's value, or 16.
-fn digit_of(hex: bool, b: u8) -> u32
-    ensures { result ≡ digit_or hex b }
+fn base_of(hex: bool) -> u32
+    ensures { result ≡ base_of hex }
 {
-    if (b'0' <= b) & (b <= b'9') {
-        return less(b, b'0');
-    }
-    if hex & ((b'A' <= b) & (b <= b'F')) {
-        return less(b, b'A' - 10);
-    }
-    if hex & ((b'a' <= b) & (b <= b'f')) {
-        return less(b, b'a' - 10);
-    }
-    16
+    if hex { 16 } else { 10 }
 }
 
-fn times_base(hex: bool, value: u32) -> u32
-    requires { value ≤ 0x110000 }
-    ensures { (result ≡ value * base_of hex) × (result ≤ 0x1100000) }
+// A digit's value.
+fn digit_of(hex: bool, b: u8) -> Option<u32>
+    ensures { number_told result ≡ digit_value (base_of hex) b }
 {
-    if hex {
-        return value * 16;
-    }
-    value * 10
+    char::from(b).to_digit(base_of(hex))
 }
 
 // One digit more; what no code point reaches stays there.
@@ -95,49 +78,42 @@ fn grown(hex: bool, value: u32, digit: u32) -> u32
     requires { (value ≤ 0x110000) × (digit ≤ 16) }
     ensures { (result ≡ capped (value * base_of hex + digit)) × (result ≤ 0x110000) }
 {
-    let sum = times_base(hex, value) + digit;
-    if sum <= 0x10FFFF {
-        return sum;
-    }
-    0x110000
+    (value * base_of(hex) + digit).min(0x110000)
 }
 
-// Behind the digits: the value of a reference that takes so many bytes, if it ends here.
-fn numeric_end(b: u8, any: bool, value: u32, size: usize) -> Front
-    ensures { told result ≡ numeric_end b any value size }
+// Behind the digits: the value of a reference that takes so many bytes, if there were digits and it ends here.
+fn numeric_end(b: u8, value: Option<u32>, size: usize) -> Result<Front, Flaw>
+    ensures { told result ≡ numeric_end b (is_some value) (unwrap_or value 0) size }
 {
-    if (b == b';') & any & xml_char(value) {
-        return Front::Found(value, size);
+    match value {
+        Some(point) if (b == b';') & xml_char(point) => Ok(Front { point, more: size }),
+        _ => Err(Flaw::Wrong),
     }
-    Front::Wrong
 }
 
 // The digits of a numeric reference, from a place on.
-fn numeric_at(text: &[u8], from: usize, hex: bool) -> Front
+fn numeric_at(text: &[u8], from: usize, hex: bool) -> Result<Front, Flaw>
     requires { from ≤ length text.now }
     ensures { told result ≡ numeric (base_of hex) false 0 (from + 1) (drop from text.now) }
 {
-    let mut any = false;
-    let mut value: u32 = 0;
+    let mut value: Option<u32> = None;
     for at in from..text.len() {
         let b = text[at];
-        let digit = digit_of(hex, b);
-        if 16 <= digit {
-            return numeric_end(b, any, value, at + 1);
-        }
-        value = grown(hex, value, digit);
-        any = true;
+        let Some(digit) = digit_of(hex, b) else {
+            return numeric_end(b, value, at + 1);
+        };
+        value = Some(grown(hex, value.unwrap_or(0), digit));
     }
-    Front::Cut
+    Err(Flaw::Cut)
 }
 
 // A numeric reference, behind its &.
-fn numeric_by(text: &[u8]) -> Front
+fn numeric_by(text: &[u8]) -> Result<Front, Flaw>
     requires { 1 ≤ length text.now }
     ensures { told result ≡ numeric_reference (drop 1 text.now) }
 {
     if text.len() < 2 {
-        return Front::Cut;
+        return Err(Flaw::Cut);
     }
     if text[1] == b'x' {
         return numeric_at(text, 2, true);
@@ -146,11 +122,11 @@ fn numeric_by(text: &[u8]) -> Front
 }
 
 // The reference at the front of the text, behind its &.
-pub fn front_reference(text: &[u8]) -> Front
+pub fn front_reference(text: &[u8]) -> Result<Front, Flaw>
     ensures { told result ≡ front_reference text.now }
 {
     if text.len() < 1 {
-        return Front::Cut;
+        return Err(Flaw::Cut);
     }
     if text[0] == b'#' {
         return numeric_by(text);

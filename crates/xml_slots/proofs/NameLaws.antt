@@ -73,27 +73,3 @@ unnamed (m ∷ ns) n h = by (equal n m) h (λ k. unnamed ns n k)
         → x || any (equal n) ns ≡ false
     by true h ih = absurd (let z : ⊥ = omega arith in z)
     by false h ih = ih (omega arith)
-
--- among names and others behind them
-pub index_first : (ms ns : List (List ℕ)) (n : List ℕ) → index_of ms n < length ms → index_of (ms ++ ns) n ≡ index_of ms n
-unfolding index_of
-index_first [] ns n h = absurd (let z : ⊥ = omega arith in z)
-index_first (m ∷ ms) ns n h = by (equal n m) h (λ k. index_first ms ns n k)
-  where
-    by : (x : Bool) → cond x 0 (suc (index_of ms n)) < suc (length ms)
-        → (index_of ms n < length ms → index_of (ms ++ ns) n ≡ index_of ms n)
-        → cond x 0 (suc (index_of (ms ++ ns) n)) ≡ cond x 0 (suc (index_of ms n))
-    by true h ih = refl
-    by false h ih = ap suc (ih (omega arith))
-
-pub index_second : (ms ns : List (List ℕ)) (n : List ℕ) → length ms ≤ index_of ms n
-    → index_of (ms ++ ns) n ≡ length ms + index_of ns n
-unfolding index_of
-index_second [] ns n h = omega arith
-index_second (m ∷ ms) ns n h = by (equal n m) h (λ k. index_second ms ns n k)
-  where
-    by : (x : Bool) → suc (length ms) ≤ cond x 0 (suc (index_of ms n))
-        → (length ms ≤ index_of ms n → index_of (ms ++ ns) n ≡ length ms + index_of ns n)
-        → cond x 0 (suc (index_of (ms ++ ns) n)) ≡ suc (length ms) + index_of ns n
-    by true h ih = absurd (let z : ⊥ = omega arith in z)
-    by false h ih = let k = ih (omega arith) in omega arith

@@ -5,9 +5,8 @@ ghost use Rattle.std.specs.Prelude.{◌≡◌, cond, eqb};
 ghost use Rattle.xliff.specs.Bytes.{equal};
 ghost use Rattle.xml_slots.specs.Slots.{absent};
 
-use xml_front::begins;
-
-// A slot whose attribute has no good value, and one whose attribute is not there. A value is below both.
+// A slot whose attribute has no good value, and one whose attribute is not there. A value is below both. (Numbers, and no
+// enum of three cases: one comparison, or `u16::try_from`, tells a value from both, and the definitions have numbers.)
 pub const BAD: u32 = 0x10000;
 
 pub const ABSENT: u32 = 0x20000;
@@ -51,25 +50,19 @@ pub const SLOTS: usize = 16;
 pub fn or_default(slot: u32, default: u32) -> u32
     ensures { result ≡ cond (eqb slot absent) default slot }
 {
-    if slot == ABSENT {
-        return default;
-    }
-    slot
+    if slot == ABSENT { default } else { slot }
 }
 
 // How many attributes a slot holds: one or none.
 pub fn present(slot: u32) -> usize
     ensures { result ≡ cond (eqb slot absent) 0 1 }
 {
-    if slot == ABSENT {
-        return 0;
-    }
-    1
+    usize::from(slot != ABSENT)
 }
 
 // Whether bytes are this word.
 pub fn is_word(bytes: &[u8], word: &[u8]) -> bool
     ensures { result ≡ equal bytes.now word.now }
 {
-    (bytes.len() == word.len()) & begins(word, bytes)
+    bytes == word
 }

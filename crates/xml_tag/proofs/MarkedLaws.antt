@@ -11,9 +11,9 @@ use Rattle.xml_tag.specs.Markups.{Marked}
 
 pub carry : (s : List ℕ) (st st' : State) (p i j : ℕ) (r : Markup) → i ≤ j → tokens_at s st i ≡ tokens_at s st' j
     → Marked s st' p j r → Marked s st p i r
-carry s st st' p i j (Start from upto) l e r =
+carry s st st' p i j (Start name) l e r =
     record { name = r.name; ahead = let h = r.ahead in omega arith; inside = r.inside; same = e ∙ r.same }
-carry s st st' p i j (Close from upto next) l e r =
+carry s st st' p i j (Close name next) l e r =
     record { name = r.name; ahead = let h = r.ahead in omega arith; inside = r.inside; same = e ∙ r.same }
 carry s st st' p i j (Comment next) l e r =
     record { ahead = let h = r.ahead in omega arith; inside = r.inside; same = e ∙ r.same }

@@ -36,8 +36,8 @@ pub record CommentRead (s : List ℕ) (st : State) (i next : ℕ) : Type 0 where
 
 -- what is read from i on of what begins at p
 abbrev pub Marked : List ℕ → State → ℕ → ℕ → Markup → Type 0
-Marked s st p i (Start from upto) = StartRead s st p i from upto
-Marked s st p i (Close from upto next) = CloseRead s st p i from upto next
+Marked s st p i (Start name) = StartRead s st p i name.from name.upto
+Marked s st p i (Close name next) = CloseRead s st p i name.from name.upto next
 Marked s st p i (Comment next) = CommentRead s st i next
 Marked s st p i Short = tokens_at s st i ≡ cut_tag p (length s) ∷ []
 Marked s st p i (Fault q) = tokens_at s st i ≡ fault q ∷ []

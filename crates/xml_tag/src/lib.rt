@@ -6,16 +6,17 @@ ghost use Rattle.xml.specs.Characters.{'<', begins};
 ghost use Rattle.xml.specs.Tokens.{in_name, outside_tags};
 ghost use Rattle.xml_tag.specs.Markups.{Marked, InComment, hyphens};
 
-use xml_front::{Front, begins, front_character};
-use xml_names::{name_end, name_starts};
+use xml_front::{Flaw, begins, front_character};
+use xml_names::{Span, name_end, name_starts};
 use xml_values::blanks_end;
 
-// A start tag: its name stands from one place to the other, where its attributes begin. An end tag: the same, and the
-// place behind it. A comment: the place behind it. The text ends in the tag. A place at fault.
+// A start tag: where its name stands, its attributes begin behind that. An end tag: the same, and the place behind it.
+// A comment: the place behind it. The text ends in the tag. A place at fault. (No Result: no step here passes a fault of
+// another on by `?`, and the one caller goes through all five cases.)
 #[derive(Clone, Copy)]
 pub enum Markup {
-    Start(usize, usize),
-    Close(usize, usize, usize),
+    Start(Span),
+    Close(Span, usize),
     Comment(usize),
     Short,
     Fault(usize),
@@ -38,7 +39,7 @@ fn close_at(text: &[u8], place: usize, at: usize) -> Markup
         return Markup::Short;
     }
     if text[end] == b'>' {
-        return Markup::Close(at, upto, end + 1);
+        return Markup::Close(Span { from: at, upto }, end + 1);
     }
     Markup::Fault(place)
 }
@@ -50,7 +51,10 @@ fn open_at(text: &[u8], place: usize, at: usize) -> Markup
 {
     let b = text[at];
     if name_starts(b) {
-        return Markup::Start(at, name_end(text, at + 1));
+        return Markup::Start(Span {
+            from: at,
+            upto: name_end(text, at + 1),
+        });
     }
     if b == b'/' {
         return close_at(text, place, at + 1);
@@ -83,13 +87,13 @@ fn comment_at(text: &[u8], from: usize) -> Markup
             return hyphens_at(text, at);
         }
         match front_character(&text[at..]) {
-            Front::Found(_, more) => {
-                at = at + 1 + more;
+            Ok(front) => {
+                at = at + 1 + front.more;
             }
-            Front::Cut => {
+            Err(Flaw::Cut) => {
                 return Markup::Fault(text.len());
             }
-            Front::Wrong => {
+            Err(Flaw::Wrong) => {
                 return Markup::Fault(at);
             }
         }

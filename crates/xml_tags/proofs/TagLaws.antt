@@ -44,13 +44,13 @@ unfolding unless_hyphen
 not_hyphen name l h = rw (ne_eqb l 45 h)
 
 -- attributes one behind the other
-pub attributes_then : {o p q : List ℕ} {d e f : Draft} (a b : List Attribute)
-    → Wrote (attributes_bytes a) o d p e → Wrote (attributes_bytes b) p e q f
-    → Wrote (attributes_bytes (a ++ b)) o d q f
+pub attributes_then : {d e f : Draft} (a b : List Attribute)
+    → Wrote (attributes_bytes a) d e → Wrote (attributes_bytes b) e f
+    → Wrote (attributes_bytes (a ++ b)) d f
 attributes_then a b v w = wrote_as (sym (gather_append attribute_bytes a b)) (wrote_then v w)
 
 -- the value of an attribute, said otherwise
-pub value_as : {o p : List ℕ} {d e : Draft} (name : List ℕ) {v w : List ℕ} → v ≡ w
-    → Wrote (attributes_bytes (attribute name v)) o d p e
-    → Wrote (attributes_bytes (attribute name w)) o d p e
+pub value_as : {d e : Draft} (name : List ℕ) {v w : List ℕ} → v ≡ w
+    → Wrote (attributes_bytes (attribute name v)) d e
+    → Wrote (attributes_bytes (attribute name w)) d e
 value_as name h w = wrote_as (ap (λ (x : List ℕ). attributes_bytes (attribute name x)) h) w

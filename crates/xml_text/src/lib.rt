@@ -1,40 +1,28 @@
 // The text of a TX record as XML.
 #![tactic(auto)]
 
-ghost use Rattle.std.specs.Prelude.{◌≤◌, length};
 ghost use Rattle.draft.specs.Drafts.{Wrote};
 ghost use Rattle.xml_text.specs.Escapes.{escaped_byte, escaped_bytes};
 
 use draft::Draft;
 
-fn put_escaped(out: &mut [u8], draft: Draft, b: u8) -> Draft
-    requires { draft.used ≤ length out.old }
-    ensures { Wrote (escaped_byte b) out.old draft out.new result }
+fn put_escaped(draft: &mut Draft, b: u8)
+    ensures { Wrote (escaped_byte b) draft.old draft.new }
 {
-    if b == b'&' {
-        return draft::put(out, draft, b"&amp;");
+    match b {
+        b'&' => draft.put(b"&amp;"),
+        b'<' => draft.put(b"&lt;"),
+        b'>' => draft.put(b"&gt;"),
+        b'\r' => draft.put(b"&#13;"),
+        _ => draft.put(&[b]),
     }
-    if b == b'<' {
-        return draft::put(out, draft, b"&lt;");
-    }
-    if b == b'>' {
-        return draft::put(out, draft, b"&gt;");
-    }
-    if b == b'\r' {
-        return draft::put(out, draft, b"&#13;");
-    }
-    let raw = [b];
-    draft::put(out, draft, &raw)
 }
 
 // The bytes of a text, with the three escapes and a carriage return as a reference.
-pub fn put_text(out: &mut [u8], draft: Draft, text: &[u8]) -> Draft
-    requires { draft.used ≤ length out.old }
-    ensures { Wrote (escaped_bytes text.now) out.old draft out.new result }
+pub fn put_text(draft: &mut Draft, text: &[u8])
+    ensures { Wrote (escaped_bytes text.now) draft.old draft.new }
 {
-    let mut behind = draft;
-    for i in 0..text.len() {
-        behind = put_escaped(out, behind, text[i]);
+    for b in text {
+        put_escaped(draft, *b);
     }
-    behind
 }

@@ -11,9 +11,10 @@ use Rattle.xml.specs.Characters.{is_blank}
 use Rattle.xml.specs.Tokens.{in_end, in_tag, equals_due, value_due, step, in_end_step, in_tag_step, equals_step}
 use Rattle.xml.specs.Places.{tokens_at}
 use Rattle.xml.proofs.PlaceLaws.{to_next}
-use Rattle.xml_values.specs.Blanks.{BlanksRead}
+use Rattle.xml_names.proofs.PrefixLaws.{behind, ends_behind}
+use Rattle.xml_values.specs.Blanks.{BlanksRead, BlanksEnd}
 
-pub no_blank : (s : List ℕ) (at : ℕ) → at ≤ length s → BlanksRead s at at
+no_blank : (s : List ℕ) (at : ℕ) → at ≤ length s → BlanksRead s at at
 no_blank s at h =
     record {
       low = omega arith;
@@ -24,7 +25,7 @@ no_blank s at h =
       before_value = λ t n. refl;
     }
 
-pub blank_more : (s : List ℕ) (at i : ℕ) → BlanksRead s at i → i < length s → is_blank (get_or s i 0) ≡ true
+blank_more : (s : List ℕ) (at i : ℕ) → BlanksRead s at i → i < length s → is_blank (get_or s i 0) ≡ true
     → BlanksRead s at (i + 1)
 blank_more s at i r h c =
     let low = r.low in
@@ -41,3 +42,9 @@ blank_more s at i r h c =
           λ t n. r.before_equals t n ∙ to_next s (equals_due t n) i h (equals_due t n) (unfold step equals_step in rw c);
       before_value = λ t n. r.before_value t n ∙ to_next s (value_due t n) i h (value_due t n) (unfold step in rw c);
     }
+
+-- behind all blanks
+pub blanks_end : (s : List ℕ) (from : ℕ) → from ≤ length s → BlanksEnd s from (behind is_blank s from)
+blanks_end s from h =
+    let ends = ends_behind is_blank s (BlanksRead s from) (blank_more s from) from (no_blank s from h) in
+    record { read = ends.holds; stops = ends.stops }

@@ -12,7 +12,11 @@ use Rattle.xml.specs.Characters.{'<', '&', Front, found, cut, wrong, front_chara
 use Rattle.xml.specs.Tokens.{cut_tag, fault, Tag, State, in_value, Move, go, stop, with_front, step, at_end}
 use Rattle.xml.specs.Places.{tokens_at}
 use Rattle.xml.proofs.PlaceLaws.{at_go, at_stop, text_ends}
-use Rattle.xml_values.specs.Values.{value_front, value_code, code_then, value_codes, ValueEnds}
+use Rattle.std.specs.Prelude.{Err}
+use Rattle.xml_front.specs.declared.Flaw.{Flaw}
+use Rattle.xml_front.specs.declared.Flaw.TheVariants.{Cut, Wrong}
+use Rattle.xml_front.specs.Fronts.{told}
+use Rattle.xml_values.specs.Values.{value_front, value_code, code_then, value_codes, ValueEnds, ValueRead}
 
 -- the step of a value, by its front
 module _ (t : Tag) (n v s : List ℕ) (q at b : ℕ) (no_quote : eqb b q ≡ false) where
@@ -130,7 +134,7 @@ module _ (s : List ℕ) (from q at : ℕ) (so_far : ValueSoFar s from q at) (h :
         same = λ t n v. so_far.same t n v ∙ one_more c w e k t n v;
       }
 
-  pub value_is_cut : value_front (drop at s) ≡ cut → (t : Tag) (n v : List ℕ)
+  value_is_cut : value_front (drop at s) ≡ cut → (t : Tag) (n v : List ℕ)
       → tokens_at s (in_value t n q v) from ≡ cut_tag t.place (length s) ∷ []
   unfolding state
   value_is_cut e t n v =
@@ -140,13 +144,17 @@ module _ (s : List ℕ) (from q at : ℕ) (so_far : ValueSoFar s from q at) (h :
       (value_cut t n (v ++ so_far.codes) rest q at byte no_quote (here cut e))
       ∙ ap (λ (m : ℕ). cut_tag t.place m ∷ []) (let g : at + length (byte ∷ rest) ≡ length s = omega arith in g)
 
-  pub value_is_wrong : value_front (drop at s) ≡ wrong → (t : Tag) (n v : List ℕ)
+  value_is_wrong : value_front (drop at s) ≡ wrong → (t : Tag) (n v : List ℕ)
       → tokens_at s (in_value t n q v) from ≡ fault t.place ∷ []
   unfolding state
   value_is_wrong e t n v =
       so_far.same t n v
       ∙ at_stop s (state t n v) at h (fault t.place)
       (value_wrong t n (v ++ so_far.codes) rest q at byte no_quote (here wrong e))
+
+  pub value_at_fault : (e : Flaw) → value_front (drop at s) ≡ told (Err e) → ValueRead s from q (Err e)
+  value_at_fault Cut h = value_is_cut h
+  value_at_fault Wrong h = value_is_wrong h
 
 pub value_ends : (s : List ℕ) (from q at : ℕ) → ValueSoFar s from q at → at < length s → get_or s at 0 ≡ q
     → ValueEnds s from q at

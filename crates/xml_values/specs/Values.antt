@@ -1,10 +1,10 @@
 -- What is read of a value between two places of a text.
-use Rattle.std.specs.Prelude.{ℕ, zero, suc, ◌≤◌, ◌<◌, ◌≡◌, cond, List, [], ◌∷◌, ◌++◌, length, drop, get_or, eqb}
+use Rattle.std.specs.Prelude.{ℕ, zero, suc, ◌≤◌, ◌<◌, ◌≡◌, cond, List, [], ◌∷◌, ◌++◌, length, drop, get_or, eqb, Result, Ok, Err}
 use Rattle.xml.specs.Characters.{'<', '&', Front, found, cut, wrong, front_character, front_reference}
 use Rattle.xml.specs.Tokens.{cut_tag, fault, Tag, in_value, value_character}
 use Rattle.xml.specs.Places.{tokens_at}
-use Rattle.xml_values.specs.declared.Ended.{Ended}
-use Rattle.xml_values.specs.declared.Ended.TheVariants.{At, Short, Fault}
+use Rattle.xml_front.specs.declared.Flaw.{Flaw}
+use Rattle.xml_front.specs.declared.Flaw.TheVariants.{Cut, Wrong}
 
 -- the front of a value that goes on
 unfoldable pub value_front : List ℕ → Front
@@ -34,7 +34,7 @@ pub record ValueEnds (s : List ℕ) (from q j : ℕ) : Type 0 where
   pub same : (t : Tag) (n v : List ℕ)
       → tokens_at s (in_value t n q v) from ≡ tokens_at s (in_value t n q (v ++ value_codes q 0 (drop from s))) j
 
-abbrev pub ValueRead : List ℕ → ℕ → ℕ → Ended → Type 0
-ValueRead s from q (At j) = ValueEnds s from q j
-ValueRead s from q Short = (t : Tag) (n v : List ℕ) → tokens_at s (in_value t n q v) from ≡ cut_tag t.place (length s) ∷ []
-ValueRead s from q Fault = (t : Tag) (n v : List ℕ) → tokens_at s (in_value t n q v) from ≡ fault t.place ∷ []
+abbrev pub ValueRead : List ℕ → ℕ → ℕ → Result ℕ Flaw → Type 0
+ValueRead s from q (Ok j) = ValueEnds s from q j
+ValueRead s from q (Err Cut) = (t : Tag) (n v : List ℕ) → tokens_at s (in_value t n q v) from ≡ cut_tag t.place (length s) ∷ []
+ValueRead s from q (Err Wrong) = (t : Tag) (n v : List ℕ) → tokens_at s (in_value t n q v) from ≡ fault t.place ∷ []

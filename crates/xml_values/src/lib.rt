@@ -7,10 +7,10 @@ ghost use Rattle.xml_front.specs.Fronts.{told};
 ghost use Rattle.xml_values.specs.Blanks.{BlanksEnd};
 ghost use Rattle.xml_values.specs.Values.{value_front, ValueRead};
 
-use xml_front::{Front, front_character};
+use xml_front::{Flaw, Front, front_character};
 use xml_reference::front_reference;
 
-// Whether a code point is a blank.
+// Whether a code point is a blank. No `matches!`: the patterns of a u32 would be four bare numbers.
 pub fn is_blank_point(c: u32) -> bool
     ensures { result ≡ is_blank c }
 {
@@ -20,7 +20,7 @@ pub fn is_blank_point(c: u32) -> bool
 pub fn is_blank(b: u8) -> bool
     ensures { result ≡ is_blank b }
 {
-    is_blank_point(b as u32)
+    is_blank_point(u32::from(b))
 }
 
 // Where the blanks end that stand from a place on.
@@ -28,24 +28,18 @@ pub fn blanks_end(text: &[u8], from: usize) -> usize
     requires { from ≤ length text.now }
     ensures { BlanksEnd text.now from result }
 {
-    let mut at = from;
-    while at < text.len() {
-        if !is_blank(text[at]) {
-            return at;
-        }
-        at += 1;
-    }
-    at
+    let more = text[from..].iter().take_while(|b| is_blank(**b)).count();
+    from + more
 }
 
 // What stands at the front of a value that goes on.
-pub fn value_front(text: &[u8]) -> Front
+pub fn value_front(text: &[u8]) -> Result<Front, Flaw>
     requires { 1 ≤ length text.now }
     ensures { told result ≡ value_front text.now }
 {
     let b = text[0];
     if b == b'<' {
-        return Front::Wrong;
+        return Err(Flaw::Wrong);
     }
     if b == b'&' {
         return front_reference(&text[1..]);
@@ -53,35 +47,18 @@ pub fn value_front(text: &[u8]) -> Front
     front_character(text)
 }
 
-// Where a value ends: at its quote; the text ends in it; it is at fault.
-#[derive(Clone, Copy)]
-pub enum Ended {
-    At(usize),
-    Short,
-    Fault,
-}
-
-// The end of the value from a place on that this quote ends.
-pub fn value_end(text: &[u8], from: usize, quote: u8) -> Ended
+// Where the value from a place on ends that this quote ends: the place of the quote.
+pub fn value_end(text: &[u8], from: usize, quote: u8) -> Result<usize, Flaw>
     requires { from ≤ length text.now }
     ensures { ValueRead text.now from quote result }
 {
     let mut at = from;
     while at < text.len() {
         if text[at] == quote {
-            return Ended::At(at);
+            return Ok(at);
         }
-        match value_front(&text[at..]) {
-            Front::Found(_, more) => {
-                at = at + 1 + more;
-            }
-            Front::Cut => {
-                return Ended::Short;
-            }
-            Front::Wrong => {
-                return Ended::Fault;
-            }
-        }
+        let front = value_front(&text[at..])?;
+        at = at + 1 + front.more;
     }
-    Ended::Short
+    Err(Flaw::Cut)
 }

@@ -14,7 +14,10 @@ use Rattle.xml_values.proofs.ValueLaws.{codes_on}
 use Rattle.xml_values.proofs.FitLaws.{value_within}
 use Rattle.xml_words.specs.Codes.{PointRead, CodeRead}
 use Rattle.xml_words.specs.declared.Code.{Code}
-use Rattle.xml_words.specs.declared.Code.TheVariants.{Point, Over}
+use Rattle.std.specs.Prelude.{Option as RustOption, Some, None, Err}
+use Rattle.xml_front.specs.declared.Flaw.{Flaw}
+use Rattle.xml_front.specs.declared.Flaw.TheVariants.{Cut, Wrong}
+use Rattle.xml_front.specs.Fronts.{told}
 
 -- the code point that a character gives
 pub code_of_reference : (b c : ℕ) → b ≡ 38 → c ≡ value_code b c
@@ -43,13 +46,17 @@ module _ (s : List ℕ) (q i : ℕ) (inside : i < length s) (no_quote : get_or s
       ap (value_codes q 0) (drop-cons s i 0 inside)
       ∙ rw (ne_eqb (get_or s i 0) q no_quote, sym (ap value_front (drop-cons s i 0 inside)) ∙ e) (h _)
 
-  pub over_where_cut : value_front (drop i s) ≡ cut → value_codes q 0 (drop i s) ≡ []
+  over_where_cut : value_front (drop i s) ≡ cut → value_codes q 0 (drop i s) ≡ []
   unfolding code_then
   over_where_cut e = nothing cut e (λ g. refl)
 
-  pub over_where_wrong : value_front (drop i s) ≡ wrong → value_codes q 0 (drop i s) ≡ []
+  over_where_wrong : value_front (drop i s) ≡ wrong → value_codes q 0 (drop i s) ≡ []
   unfolding code_then
   over_where_wrong e = nothing wrong e (λ g. refl)
+
+  pub over_at_fault : (e : Flaw) → value_front (drop i s) ≡ told (Err e) → value_codes q 0 (drop i s) ≡ []
+  over_at_fault Cut h = over_where_cut h
+  over_at_fault Wrong h = over_where_wrong h
 
   pub point_read : (c w d : ℕ) → value_front (drop i s) ≡ found c w → d ≡ value_code (get_or s i 0) c
       → PointRead s i q d (i + 1 + w)
@@ -63,9 +70,9 @@ module _ (s : List ℕ) (q i : ℕ) (inside : i < length s) (no_quote : get_or s
       }
 
 -- what `next_code` tells, by its variant
-module _ (s : List ℕ) (at q : ℕ) (r : Code) (read : CodeRead s at q r) where
-  pub a_point : (c next : ℕ) → r ≡ Point c next → PointRead s at q c next
-  a_point c next e = subst (λ (x : Code). CodeRead s at q x) e read
+module _ (s : List ℕ) (at q : ℕ) (r : RustOption Code) (read : CodeRead s at q r) where
+  pub a_point : (c : Code) → r ≡ Some c → PointRead s at q c.point c.next
+  a_point c e = subst (λ (x : RustOption Code). CodeRead s at q x) e read
 
-  pub no_point : r ≡ Over → value_codes q 0 (drop at s) ≡ []
-  no_point e = subst (λ (x : Code). CodeRead s at q x) e read
+  pub no_point : r ≡ None → value_codes q 0 (drop at s) ≡ []
+  no_point e = subst (λ (x : RustOption Code). CodeRead s at q x) e read

@@ -13,33 +13,29 @@ use Rattle.xliff.specs.Text.{between}
 use Rattle.xliff.proofs.lists.Tests.{or_left, or_right}
 use Rattle.xml.specs.Attributes.{with, upper_hex, hexadecimal}
 use Rattle.xml_values.specs.Values.{value_codes}
-use Rattle.xml_slots.specs.Slots.{bad, or_bad}
 use Rattle.xml_slots.proofs.ValueLaws.{Within, nothing, value, digit_within}
-use Rattle.xml_words.specs.Codes.{PointRead, digit_or_16}
+use Rattle.xml_words.specs.Codes.{PointRead}
 
 -- one digit
 module _ (c : ℕ) where
-  pub decimal_digit : between 48 c 57 ≡ true → c - 48 ≡ digit_or_16 (upper_hex c)
-  unfolding digit_or_16 upper_hex
+  pub decimal_digit : between 48 c 57 ≡ true → some (c - 48) ≡ upper_hex c
+  unfolding upper_hex
   decimal_digit e = rw e
 
-  pub letter_digit : between 48 c 57 ≡ false → leb 65 c && leb c 70 ≡ true → c - 55 ≡ digit_or_16 (upper_hex c)
-  unfolding digit_or_16 upper_hex between
+  pub letter_digit : between 48 c 57 ≡ false → leb 65 c && leb c 70 ≡ true → some (c - 55) ≡ upper_hex c
+  unfolding upper_hex between
   letter_digit e f = rw (e, f)
 
-  pub no_upper_digit : between 48 c 57 ≡ false → leb 65 c && leb c 70 ≡ false → 16 ≡ digit_or_16 (upper_hex c)
-  unfolding digit_or_16 upper_hex between
+  pub no_upper_digit : between 48 c 57 ≡ false → leb 65 c && leb c 70 ≡ false → none ≡ upper_hex c
+  unfolding upper_hex between
   no_upper_digit e f = rw (e, f)
 
-digit_none : (o : Option ℕ) → Within 0 16 o → digit_or_16 o ≡ 16 → o ≡ none
-unfolding digit_or_16
-digit_none none nothing e = refl
-digit_none (some d) (value l h) e = absurd (let z : ⊥ = omega arith in z)
+digit_below : (o : Option ℕ) → Within 0 16 o → (d : ℕ) → o ≡ some d → d < 16
+digit_below none nothing d e = absurd (let z : ◌≡◌ {A = ℕ} 0 1 = cc in omega arith)
+digit_below (some c) (value l h) d e = let z : c ≡ d = cc in omega arith
 
-digit_some : (o : Option ℕ) → Within 0 16 o → (digit_or_16 o ≡ 16 → ⊥) → (o ≡ some (digit_or_16 o)) × (digit_or_16 o < 16)
-unfolding digit_or_16
-digit_some none nothing e = absurd (e refl)
-digit_some (some d) (value l h) e = (refl, h)
+pub digit_small : (c d : ℕ) → upper_hex c ≡ some d → d < 16
+digit_small c d e = digit_below (upper_hex c) (digit_within c) d e
 
 -- the value of what follows, with so many digits to come, where those so far give n
 unfoldable pub hex_on : ℕ → ℕ → List ℕ → Option ℕ
@@ -76,39 +72,25 @@ hex_begins (a ∷ b ∷ c ∷ d ∷ e ∷ v) =
     never (upper_hex a) _ (λ i.
     never (upper_hex b) _ (λ j. never (upper_hex c) _ (λ k. never (upper_hex d) _ (λ l. refl))))
 
--- at a code point: a fifth, or no digit
-module _ (k n c : ℕ) (v : List ℕ) (most : k ≤ 4) where
-  hex_stops : eqb k 4 || eqb (digit_or_16 (upper_hex c)) 16 ≡ true → hex_on (4 - k) n (c ∷ v) ≡ none
+-- at a code point: a fifth, or no digit, or a digit
+module _ (k n c : ℕ) (v : List ℕ) where
+  hex_fifth : k ≡ 4 → hex_on (4 - k) n (c ∷ v) ≡ none
+  unfolding hex_on
+  hex_fifth e = ap (λ (m : ℕ). hex_on m n (c ∷ v)) (let z : 4 - k ≡ 0 = omega arith in z)
+
+  hex_stops : upper_hex c ≡ none → hex_on (4 - k) n (c ∷ v) ≡ none
   unfolding hex_on with
-  hex_stops e = by (eqb k 4) refl (eqb (digit_or_16 (upper_hex c)) 16) refl e
+  hex_stops e = by (4 - k)
     where
-      no_digit : (m : ℕ) → upper_hex c ≡ none → hex_on m n (c ∷ v) ≡ none
-      no_digit zero e = refl
-      no_digit (suc m) e = rw (e, hex_on)
+      by : (m : ℕ) → hex_on m n (c ∷ v) ≡ none
+      by zero = refl
+      by (suc m) = rw (e, hex_on)
 
-      by : (x : Bool) → eqb k 4 ≡ x → (y : Bool) → eqb (digit_or_16 (upper_hex c)) 16 ≡ y → x || y ≡ true
-          → hex_on (4 - k) n (c ∷ v) ≡ none
-      by true p y q e = ap (λ (m : ℕ). hex_on m n (c ∷ v)) (let f = eqb-true k 4 p in let z : 4 - k ≡ 0 = omega arith in z)
-      by false p true q e =
-          no_digit (4 - k) (digit_none (upper_hex c) (digit_within c) (eqb-true (digit_or_16 (upper_hex c)) 16 q))
-      by false p false q e = absurd (let z : ◌≡◌ {A = ℕ} 0 1 = cc in omega arith)
-
-  module _ (fine : eqb k 4 || eqb (digit_or_16 (upper_hex c)) 16 ≡ false) where
-    pub more_due : k < 4
-    more_due = let apart = eqb-false k 4 (or_left (eqb k 4) _ fine) in omega (arith, apart)
-
-    is_digit : (upper_hex c ≡ some (digit_or_16 (upper_hex c))) × (digit_or_16 (upper_hex c) < 16)
-    is_digit =
-        digit_some (upper_hex c) (digit_within c) (eqb-false (digit_or_16 (upper_hex c)) 16 (or_right (eqb k 4) _ fine))
-
-    pub digit_small : digit_or_16 (upper_hex c) < 16
-    digit_small = is_digit.1
-
-    hex_goes_on : hex_on (4 - k) n (c ∷ v) ≡ hex_on (4 - (k + 1)) (n * 16 + digit_or_16 (upper_hex c)) v
-    unfolding hex_on with
-    hex_goes_on =
-        ap (λ (m : ℕ). hex_on m n (c ∷ v)) (let h = more_due in let z : 4 - k ≡ suc (4 - (k + 1)) = omega arith in z)
-        ∙ ap (λ (o : Option ℕ). with o (λ d. hex_on (4 - (k + 1)) (n * 16 + d) v)) is_digit.0
+  hex_goes_on : k < 4 → (d : ℕ) → upper_hex c ≡ some d → hex_on (4 - k) n (c ∷ v) ≡ hex_on (4 - (k + 1)) (n * 16 + d) v
+  unfolding hex_on with
+  hex_goes_on h d e =
+      ap (λ (m : ℕ). hex_on m n (c ∷ v)) (let z : 4 - k ≡ suc (4 - (k + 1)) = omega arith in z)
+      ∙ ap (λ (o : Option ℕ). with o (λ d. hex_on (4 - (k + 1)) (n * 16 + d) v)) e
 
 hex_over : (k n : ℕ) → k ≡ 4 → hex_on (4 - k) n [] ≡ some n
 unfolding hex_on
@@ -155,49 +137,46 @@ no_digit_yet s from q h =
     }
 
 module _ (s : List ℕ) (from q at n k : ℕ) (so_far : HexadecimalSoFar s from q at n k) where
-  none_is_bad : hex_on (4 - k) n (value_codes q 0 (drop at s)) ≡ none
-      → bad ≡ or_bad (hexadecimal (value_codes q 0 (drop from s)))
-  unfolding or_bad
-  none_is_bad e = sym (ap or_bad (so_far.same ∙ e))
+  none_is_none : hex_on (4 - k) n (value_codes q 0 (drop at s)) ≡ none
+      → none ≡ hexadecimal (value_codes q 0 (drop from s))
+  none_is_none e = sym (so_far.same ∙ e)
 
   -- the value is over
-  pub four_read : value_codes q 0 (drop at s) ≡ [] → k ≡ 4 → n ≡ or_bad (hexadecimal (value_codes q 0 (drop from s)))
-  unfolding or_bad
-  four_read e h = sym (ap or_bad (so_far.same ∙ ap (hex_on (4 - k) n) e ∙ hex_over k n h))
+  pub four_read : value_codes q 0 (drop at s) ≡ [] → k ≡ 4 → some n ≡ hexadecimal (value_codes q 0 (drop from s))
+  four_read e h = sym (so_far.same ∙ ap (hex_on (4 - k) n) e ∙ hex_over k n h)
 
   pub too_short : value_codes q 0 (drop at s) ≡ [] → (k ≡ 4 → ⊥)
-      → bad ≡ or_bad (hexadecimal (value_codes q 0 (drop from s)))
-  too_short e h = none_is_bad (ap (hex_on (4 - k) n) e ∙ hex_short k n so_far.few h)
+      → none ≡ hexadecimal (value_codes q 0 (drop from s))
+  too_short e h = none_is_none (ap (hex_on (4 - k) n) e ∙ hex_short k n so_far.few h)
 
   -- it goes on with the code point c
-  module _ (c next d : ℕ) (read : PointRead s at q c next) (digit : d ≡ digit_or_16 (upper_hex c)) where
-    as_told : (x : Bool) → eqb k 4 || eqb d 16 ≡ x → eqb k 4 || eqb (digit_or_16 (upper_hex c)) 16 ≡ x
-    as_told x e = ap (λ (m : ℕ). eqb k 4 || eqb m 16) (sym digit) ∙ e
+  module _ (c next : ℕ) (read : PointRead s at q c next) where
+    pub a_fifth : k ≡ 4 → none ≡ hexadecimal (value_codes q 0 (drop from s))
+    a_fifth e =
+        none_is_none (ap (hex_on (4 - k) n) read.codes ∙ hex_fifth k n c (value_codes q 0 (drop next s)) e)
 
-    pub no_digit : eqb k 4 || eqb d 16 ≡ true → bad ≡ or_bad (hexadecimal (value_codes q 0 (drop from s)))
-    no_digit e =
-        none_is_bad
-        (ap (hex_on (4 - k) n) read.codes ∙ hex_stops k n c (value_codes q 0 (drop next s)) so_far.few (as_told true e))
+    module _ (more_due : k ≡ 4 → ⊥) where
+      pub no_digit : none ≡ upper_hex c → none ≡ hexadecimal (value_codes q 0 (drop from s))
+      no_digit e =
+          none_is_none (ap (hex_on (4 - k) n) read.codes ∙ hex_stops k n c (value_codes q 0 (drop next s)) (sym e))
 
-    module _ (fine : eqb k 4 || eqb d 16 ≡ false) where
-      pub value_small : n * 16 + d < 65536
-      value_small =
-          let most = so_far.few in
-          let small = so_far.small in
-          let less = fewer k (more_due k n c [] most (as_told false fine)) in
-          let low = digit_small k n c [] most (as_told false fine) in
-          omega arith
+      module _ (d : ℕ) (digit : some d ≡ upper_hex c) where
+        pub value_small : n * 16 + d < 65536
+        value_small =
+            let most = so_far.few in
+            let small = so_far.small in
+            let less = fewer k (omega (arith, more_due)) in
+            let low = digit_small c d (sym digit) in
+            omega arith
 
-      pub hexadecimal_so_far : HexadecimalSoFar s from q next (n * 16 + d) (k + 1)
-      hexadecimal_so_far =
-          let rest : List ℕ = value_codes q 0 (drop next s) in
-          let due = more_due k n c rest so_far.few (as_told false fine) in
-          let low = digit_small k n c rest so_far.few (as_told false fine) in
-          record {
-            inside = read.inside;
-            few = omega arith;
-            small = one_digit_more k n d so_far.small (omega arith);
-            same = so_far.same ∙ ap (hex_on (4 - k) n) read.codes
-                ∙ hex_goes_on k n c rest so_far.few (as_told false fine)
-                ∙ ap (λ (m : ℕ). hex_on (4 - (k + 1)) (n * 16 + m) rest) (sym digit);
-          }
+        pub hexadecimal_so_far : HexadecimalSoFar s from q next (n * 16 + d) (k + 1)
+        hexadecimal_so_far =
+            let most = so_far.few in
+            let due : k < 4 = omega (arith, more_due) in
+            record {
+              inside = read.inside;
+              few = omega arith;
+              small = one_digit_more k n d so_far.small (digit_small c d (sym digit));
+              same = so_far.same ∙ ap (hex_on (4 - k) n) read.codes
+                  ∙ hex_goes_on k n c (value_codes q 0 (drop next s)) due d (sym digit);
+            }

@@ -13,7 +13,6 @@ use Rattle.xliff.proofs.lists.Tests.{and_left, and_right, and_false}
 use Rattle.xml.specs.Attributes.{all_digits, decimal_value, number}
 use Rattle.xml.proofs.BoundLaws.{grows}
 use Rattle.xml_values.specs.Values.{value_codes}
-use Rattle.xml_slots.specs.Slots.{bad, or_bad}
 use Rattle.xml_words.specs.Codes.{PointRead}
 
 -- the number that a value gives whose digits so far give n
@@ -105,31 +104,29 @@ no_digit_yet s from q h =
     record { inside = h; small = omega arith; same = sym (number_begins (value_codes q 0 (drop from s))) }
 
 module _ (s : List ℕ) (from q at n : ℕ) (so_far : NumberSoFar s from q at n) where
-  none_is_bad : number_on n (value_codes q 0 (drop at s)) ≡ none → bad ≡ or_bad (number (value_codes q 0 (drop from s)))
-  unfolding or_bad
-  none_is_bad e = sym (ap or_bad (so_far.same ∙ e))
+  none_is_none : number_on n (value_codes q 0 (drop at s)) ≡ none → none ≡ number (value_codes q 0 (drop from s))
+  none_is_none e = sym (so_far.same ∙ e)
 
   -- the value is over
-  pub a_number : value_codes q 0 (drop at s) ≡ [] → (n ≡ 0 → ⊥) → n ≡ or_bad (number (value_codes q 0 (drop from s)))
-  unfolding or_bad
-  a_number e h = sym (ap or_bad (so_far.same ∙ ap (number_on n) e ∙ number_over n h so_far.small))
+  pub a_number : value_codes q 0 (drop at s) ≡ [] → (n ≡ 0 → ⊥) → some n ≡ number (value_codes q 0 (drop from s))
+  a_number e h = sym (so_far.same ∙ ap (number_on n) e ∙ number_over n h so_far.small)
 
-  pub no_digits : value_codes q 0 (drop at s) ≡ [] → n ≡ 0 → bad ≡ or_bad (number (value_codes q 0 (drop from s)))
-  no_digits e h = none_is_bad (ap (number_on n) e ∙ number_empty n h)
+  pub no_digits : value_codes q 0 (drop at s) ≡ [] → n ≡ 0 → none ≡ number (value_codes q 0 (drop from s))
+  no_digits e h = none_is_none (ap (number_on n) e ∙ number_empty n h)
 
   -- it goes on with the code point c
   module _ (c next : ℕ) (read : PointRead s at q c next) where
-    pub no_number : not (between 48 c 57) || eqb n 0 && eqb c 48 ≡ true → bad ≡ or_bad (number (value_codes q 0 (drop from s)))
+    pub no_number : not (between 48 c 57) || eqb n 0 && eqb c 48 ≡ true → none ≡ number (value_codes q 0 (drop from s))
     no_number e =
-        none_is_bad (ap (number_on n) read.codes ∙ number_stops n c (value_codes q 0 (drop next s)) e)
+        none_is_none (ap (number_on n) read.codes ∙ number_stops n c (value_codes q 0 (drop next s)) e)
 
     module _ (fine : not (between 48 c 57) || eqb n 0 && eqb c 48 ≡ false) where
       one_digit_more : number_on n (value_codes q 0 (drop at s))
           ≡ number_on (n * 10 + (c - 48)) (value_codes q 0 (drop next s))
       one_digit_more = ap (number_on n) read.codes ∙ number_goes_on n c (value_codes q 0 (drop next s)) fine
 
-      pub too_large : 65535 < n * 10 + (c - 48) → bad ≡ or_bad (number (value_codes q 0 (drop from s)))
-      too_large h = none_is_bad (one_digit_more ∙ number_large (n * 10 + (c - 48)) (value_codes q 0 (drop next s)) h)
+      pub too_large : 65535 < n * 10 + (c - 48) → none ≡ number (value_codes q 0 (drop from s))
+      too_large h = none_is_none (one_digit_more ∙ number_large (n * 10 + (c - 48)) (value_codes q 0 (drop next s)) h)
 
       pub number_so_far : n * 10 + (c - 48) ≤ 65535 → NumberSoFar s from q next (n * 10 + (c - 48))
       number_so_far h = record { inside = read.inside; small = h; same = so_far.same ∙ one_digit_more }

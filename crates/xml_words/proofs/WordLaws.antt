@@ -1,7 +1,7 @@
 -- A value compared with a word, code point by code point.
 use Prim.Native.Nat.{ℕ, ◌+◌, ◌≤◌, ◌<◌}
 use mathlib.Core.Path.{◌≡◌, refl, sym, ap, ◌∙◌}
-use mathlib.Core.Bool.{true, false}
+use mathlib.Core.Bool.{Bool, true, false, not, true≢false}
 use mathlib.Core.List.{List, [], ◌∷◌}
 use native.Mathlib.Numerals.{add-one}
 use native.Mathlib.Omega.{arith}
@@ -10,7 +10,9 @@ use lib.Seq.{drop-cons}
 use borrow.Author.Tests.{eq-eqb, ne_eqb}
 use Rattle.xliff.specs.Bytes.{equal}
 use Rattle.xml_values.specs.Values.{value_codes}
-use Rattle.xml_words.specs.Codes.{PointRead}
+use Rattle.std.specs.Prelude.{Option as RustOption, Some, None, is_some}
+use Rattle.xml_words.specs.Codes.{PointRead, CodeRead}
+use Rattle.xml_words.specs.declared.Code.{Code}
 
 -- within the word
 module _ (word : List ℕ) (k : ℕ) (inside : k < length word) where
@@ -54,7 +56,7 @@ module _ (s word : List ℕ) (from q at k : ℕ) (so_far : WordSoFar s word from
     pub part_of_word : k < length word → false ≡ equal (value_codes q 0 (drop from s)) word
     part_of_word h = sym (told ∙ value_too_short word k h)
 
-    pub whole_word : length word ≤ k → true ≡ equal (value_codes q 0 (drop from s)) word
+    whole_word : length word ≤ k → true ≡ equal (value_codes q 0 (drop from s)) word
     whole_word h = sym (told ∙ both_over word k h)
 
   -- it goes on with the code point c
@@ -66,7 +68,7 @@ module _ (s word : List ℕ) (from q at k : ℕ) (so_far : WordSoFar s word from
     unfolding rest
     goes_on = so_far.same ∙ ap (λ (v : List ℕ). equal v (drop k word)) read.codes
 
-    pub more_than_word : length word ≤ k → false ≡ equal (value_codes q 0 (drop from s)) word
+    more_than_word : length word ≤ k → false ≡ equal (value_codes q 0 (drop from s)) word
     more_than_word h = sym (goes_on ∙ value_too_long word k h c rest)
 
     pub other_word : k < length word → (c ≡ get_or word k 0 → ⊥) → false ≡ equal (value_codes q 0 (drop from s)) word
@@ -76,3 +78,11 @@ module _ (s word : List ℕ) (from q at k : ℕ) (so_far : WordSoFar s word from
     unfolding rest
     word_so_far h e =
         record { inside = read.inside; in_word = omega arith; same = goes_on ∙ word_goes_on word k h c rest e }
+
+  -- behind the word: whether the value is over too
+  pub word_ends : (r : RustOption Code) → CodeRead s at q r → length word ≤ k → (b : Bool) → is_some r ≡ not b
+      → b ≡ equal (value_codes q 0 (drop from s)) word
+  word_ends None over h true e = whole_word over h
+  word_ends None over h false e = absurd (true≢false (sym e))
+  word_ends (Some c) read h true e = absurd (true≢false e)
+  word_ends (Some c) read h false e = more_than_word c.point c.next read h

@@ -41,32 +41,32 @@ open_read_lem cs o Ill = refl
 open_read_lem cs o (Broken b) = refl
 
 -- so far is written, and the rest of the records gives the rest of the unit's text
-pub record Told (t first : List ℕ) (begun : Draft) (at : ℕ) (o : Open) (out : List ℕ) (behind : Draft) : Type 0 where
+pub record Told (t : List ℕ) (begun : Draft) (at : ℕ) (o : Open) (behind : Draft) : Type 0 where
   pub done : List ℕ
   pub rest : List encode.Record
   pub there : At t at rest
   pub small : Each SmallRecord rest
-  pub wrote : Wrote done first begun out behind
+  pub wrote : Wrote done begun behind
   pub all : done ++ records_text o rest ≡ unit_text (unit t)
 
-pub told_start : (t out : List ℕ) (draft : Draft) → Passes t → draft.used ≤ length out → Told t out draft 0 Between out draft
-told_start t out draft p h =
+pub told_start : (t : List ℕ) (draft : Draft) → Passes t → Told t draft 0 Between draft
+told_start t draft p =
     record {
       done = [];
       rest = unit_records (unit t);
       there = at_start t p;
       small = small_unit (unit t) p.good_parts;
-      wrote = wrote_nothing h;
+      wrote = wrote_nothing;
       all = unit_written (unit t);
     }
 
 each_apart : {r : encode.Record} {rs : List encode.Record} → Each SmallRecord (r ∷ rs) → SmallRecord r × Each SmallRecord rs
 each_apart (each_cons a e) = (a, e)
 
-module _ (t first : List ℕ) (begun : Draft) (at : ℕ) (o : Open) (out : List ℕ) (behind : Draft)
-    (l : Told t first begun at o out behind)
+module _ (t : List ℕ) (begun : Draft) (at : ℕ) (o : Open) (behind : Draft)
+    (l : Told t begun at o behind)
   where
-    pub told_end : length t ≤ at → Wrote (unit_text (unit t)) first begun out behind
+    pub told_end : length t ≤ at → Wrote (unit_text (unit t)) begun behind
     unfolding records_text
     told_end h =
         let e = at_end t at l.rest l.there h in
@@ -91,10 +91,10 @@ module _ (t first : List ℕ) (begun : Draft) (at : ℕ) (o : Open) (out : List 
       pub told_fits : at + width r ≤ length t
       told_fits = (stepped t at l.rest r l.there h k).fits
 
-      pub told_on : (out' : List ℕ) (behind' : Draft) (o' : Open) → WroteRecord t at o (read_there t at r) out behind out' behind'
-          → o' ≡ open_read o r → Told t first begun (at + width r) o' out' behind'
+      pub told_on : (behind' : Draft) (o' : Open) → WroteRecord t at o (read_there t at r) behind behind'
+          → o' ≡ open_read o r → Told t begun (at + width r) o' behind'
       unfolding records_text
-      told_on out' behind' o' w e =
+      told_on behind' o' w e =
           let s = stepped t at l.rest r l.there h k in
           let (rs, a, m, n) = told_stands in
           let piece = record_text o (read_there t at r) s.others in

@@ -105,23 +105,23 @@ SmallRecord (broken b) = Unit {0}
 abbrev pub Stands : List ℕ → ℕ → encode.Record → ℕ → Type 0
 Stands t at r w = (rs : List encode.Record) × At t at (r ∷ rs) × SmallRecord r × (w ≡ length (record_bytes r))
 
-abbrev pub WroteRecord : List ℕ → ℕ → Open → encode.Record → List ℕ → Draft → List ℕ → Draft → Type 0
-WroteRecord t at o r out draft out' draft' =
-    (rs : List encode.Record) → At t at (r ∷ rs) → Wrote (record_text o r rs) out draft out' draft'
+abbrev pub WroteRecord : List ℕ → ℕ → Open → encode.Record → Draft → Draft → Type 0
+WroteRecord t at o r draft draft' =
+    (rs : List encode.Record) → At t at (r ∷ rs) → Wrote (record_text o r rs) draft draft'
 
 -- an inline record is written, whose content goes on at an offset; a text is written
-abbrev pub WroteInline : List ℕ → ℕ → Item → List ℕ → Draft → List ℕ → Draft → Type 0
-WroteInline t next x out draft out' draft' =
-    (rs : List encode.Record) → At t next rs → Wrote (item_text x (first_content rs)) out draft out' draft'
+abbrev pub WroteInline : List ℕ → ℕ → Item → Draft → Draft → Type 0
+WroteInline t next x draft draft' =
+    (rs : List encode.Record) → At t next rs → Wrote (item_text x (first_content rs)) draft draft'
 
 abbrev pub TextAt : List ℕ → ℕ → ℕ → Type 0
 TextAt t at w =
     (cs : List ℕ) × (rs : List encode.Record) × At t at (text_run cs ∷ rs) × (w ≡ length (record_bytes (text_run cs)))
 
-abbrev pub WroteText : List ℕ → ℕ → ℕ → List ℕ → Draft → List ℕ → Draft → Type 0
-WroteText t at w out draft out' draft' =
+abbrev pub WroteText : List ℕ → ℕ → ℕ → Draft → Draft → Type 0
+WroteText t at w draft draft' =
     (cs : List ℕ) (rs : List encode.Record) → At t at (text_run cs ∷ rs) → w ≡ length (record_bytes (text_run cs))
-    → Wrote (gather escaped cs) out draft out' draft'
+    → Wrote (gather escaped cs) draft draft'
 
 -- the record that was read there
 abbrev pub found : List ℕ → ℕ → Record → encode.Record

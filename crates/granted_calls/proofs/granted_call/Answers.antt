@@ -41,15 +41,15 @@ call_read-requires c =
     )
 
 -- return Answer::Refused(2, 0), for a request with bytes behind it
-pub returns-then-size_of-request : goal.returns-then-size_of-request
-returns-then-size_of-request c =
+pub returns-then-size-request : goal.returns-then-size-request
+returns-then-size-request c =
     let args = c.args in
     let checked = c.check-checked in
     let read = c.request_of in
     let table = args.table.now in
     let out = args.out.now in
     let passed = checked_none table checked.result _ checked.ensures c.in-Accepted.is in
-    let longer = ne_eqb _ _ (λ e. c.if-size_of-request.true (c.size_of.ensures ∙ e)) in
+    let longer = ne_eqb _ _ (λ e. c.if-size-request.true (c.size.ensures ∙ e)) in
     answers_refused _ 2 0 out
     (not_alone (grant_of args.role args.positions.now) table args.request.now (length out) passed
     read.result read.ensures.0 _ c.in-Some.is longer)
@@ -62,7 +62,7 @@ returns c =
     let read = c.request_of in
     let table = args.table.now in
     let passed = checked_none table checked.result _ checked.ensures c.in-Accepted.is in
-    let whole = eq-eqb _ _ (sym c.size_of.ensures ∙ c.if-size_of-request.false) in
+    let whole = eq-eqb _ _ (sym c.size.ensures ∙ c.if-size-request.false) in
     rw (one_request (grant_of args.role args.positions.now) table args.request.now (length args.out.now) passed
     read.result read.ensures.0 _ c.in-Some.is whole)
     c.call_read.ensures

@@ -13,7 +13,7 @@ loop-role-init c =
     let args = c.args in
     let pre = c.requires in
     let grant = grant_of args.role args.positions.now in
-    put_start (shown_part grant) args.t.now args.out.now args.draft pre.1 pre.0
+    put_start (shown_part grant) args.t.now args.draft.now pre
 
 -- let place = part_at::part_from(t, at)
 pub part_from-place-requires : goal.part_from-place-requires
@@ -21,19 +21,19 @@ part_from-place-requires c =
     let if1 = c.loop-role-test.true in
     let starts-part = c.starts_part in
     let loop = c.loop-role in
-    let passes = c.requires.1 in
+    let passes = c.requires in
     put_from passes loop.invariant (sym starts-part.ensures ∙ if1)
 
--- behind = put_part(out, behind, t, place, inside)
-pub put_part-behind-requires : goal.put_part-behind-requires
-put_part-behind-requires c =
+-- put_part(draft, t, place, inside)
+pub put_part-requires : goal.put_part-requires
+put_part-requires c =
     let part_from = c.part_from-place in
     let if1 = c.loop-role-test.true in
     let starts-part = c.starts_part in
     let loop = c.loop-role in
-    let passes = c.requires.1 in
+    let passes = c.requires in
     let is = sym starts-part.ensures ∙ if1 in
-    (loop.invariant.wrote.inside, put_stands passes loop.invariant is part_from.result part_from.ensures)
+    put_stands passes loop.invariant is part_from.result part_from.ensures
 
 -- n += 1
 pub overflow_add-n : goal.overflow_add-n
@@ -41,7 +41,7 @@ overflow_add-n c =
     let if1 = c.loop-role-test.true in
     let starts-part = c.starts_part in
     let loop = c.loop-role in
-    let passes = c.requires.1 in
+    let passes = c.requires in
     omega (arith, put_few passes loop.invariant (sym starts-part.ensures ∙ if1))
 
 -- at = place.end
@@ -51,14 +51,14 @@ loop-role-smaller c =
     let if1 = c.loop-role-test.true in
     let starts-part = c.starts_part in
     let loop = c.loop-role in
-    let passes = c.requires.1 in
+    let passes = c.requires in
     let is = sym starts-part.ensures ∙ if1 in
     put_less passes loop.invariant is part_from.result part_from.ensures
 
 -- one part more
 pub loop-role-preserved : goal.loop-role-preserved
 loop-role-preserved c =
-    let put-part = c.put_part-behind in
+    let put-part = c.put_part in
     let within = c.has_part-inside in
     let part_from = c.part_from-place in
     let if1 = c.loop-role-test.true in
@@ -66,16 +66,10 @@ loop-role-preserved c =
     let loop = c.loop-role in
     let grant = grant_of c.args.role c.args.positions.now in
     let is = sym starts-part.ensures ∙ if1 in
-    put_on c.requires.1 loop.invariant is part_from.result part_from.ensures put-part.new.out
-    put-part.result (shown_as_within grant loop.n within.result within.ensures put-part.ensures)
+    put_on c.requires loop.invariant is part_from.result part_from.ensures put-part.new.draft
+    (shown_as_within grant loop.n within.result within.ensures put-part.ensures)
 
--- the output keeps its length
-pub shape_of-out : goal.shape_of-out
-shape_of-out c =
-    let loop = c.loop-role in
-    loop.invariant.wrote.room
-
--- behind
+-- all parts
 pub returns : goal.returns
 returns c =
     let if1 = c.loop-role-test.false in
@@ -84,4 +78,4 @@ returns c =
     let args = c.args in
     let grant = grant_of args.role args.positions.now in
     let none = sym starts-part.ensures ∙ if1 in
-    wrote_as (view_by_part grant 1 (unit args.t.now).parts) (put_end c.requires.1 loop.invariant none)
+    wrote_as (view_by_part grant 1 (unit args.t.now).parts) (put_end c.requires loop.invariant none)

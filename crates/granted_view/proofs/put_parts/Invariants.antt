@@ -8,7 +8,7 @@ use Rattle.granted_view.proofs.put_parts.Given as goal
 -- the parts so far are written as the view shows them
 abbrev pub invariant-loop-role : goal.invariant-loop-role
 invariant-loop-role l =
-    PartsPut (shown_part (grant_of l.role l.positions)) l.t l.initial.out l.initial.behind l.at l.n l.out l.behind
+    PartsPut (shown_part (grant_of l.role l.positions)) l.t l.initial.draft l.at l.n l.draft
 
 abbrev pub decreases-loop-role : goal.decreases-loop-role
 decreases-loop-role l = length l.t - l.at

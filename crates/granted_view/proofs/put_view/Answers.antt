@@ -5,16 +5,11 @@ use Rattle.granted_view.proofs.put_view.Goals as goal
 
 -- &t[..marks::UNIT_WIDTH]
 pub slice_bounds-put-end : goal.slice_bounds-put-end
-slice_bounds-put-end c =
-    opening_long c.args.t.now c.requires.1
+slice_bounds-put-end c = opening_long c.args.t.now c.requires
 
--- draft::put(out, shown, b"UE")
+-- the opening, the parts, the end
 pub returns : goal.returns
 returns c =
-    let put2 = c.put in
-    let put-parts = c.put_parts-shown in
-    let put = c.put-opened in
     let args = c.args in
-    let passes = c.requires.1 in
-    wrote_as (view_pieces args.t.now passes (grant_of args.role args.positions.now))
-    (wrote_then (wrote_then put.ensures put-parts.ensures) put2.ensures)
+    wrote_as (view_pieces args.t.now c.requires (grant_of args.role args.positions.now))
+    (wrote_then (wrote_then c.put.ensures c.put_parts.ensures) c.put-2.ensures)

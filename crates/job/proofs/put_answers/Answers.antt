@@ -32,8 +32,8 @@ pub returns-in-Refused : goal.returns-in-Refused
 returns-in-Refused c =
     let args = c.args in
     let pre = c.requires in
-    let put-line = c.put_line in
+    let printed = rw c.in-Refused.is at c.put_line.ensures in
     let e = job_refused args.job.now args.n pre.0 _ _ (rw c.in-Refused.is at pre.4) in (
-      put-line.ensures.0 ∙ ap length (sym e),
-      put-line.ensures.1 ∙ ap (λ (l : List ℕ). lead l args.out.now) (sym e),
+      printed.0 ∙ ap length (sym e),
+      printed.1 ∙ ap (λ (l : List ℕ). lead l args.out.now) (sym e),
     )

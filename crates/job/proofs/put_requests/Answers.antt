@@ -23,8 +23,8 @@ loop-at-init c =
     )
 
 -- answer_request(r, &job[at..], table, m, &mut out[k..])
-pub answer_request-s-requires : goal.answer_request-s-requires
-answer_request-s-requires c =
+pub answer_request-step-requires : goal.answer_request-step-requires
+answer_request-step-requires c =
     let pre = c.requires in
     let loop = c.loop-at in
     let inv = loop.invariant in
@@ -44,14 +44,14 @@ answer_request-s-requires c =
       z.1.1,
     )
 
--- at += requests::size_of(r)
+-- at += r.size()
 pub overflow_add-at : goal.overflow_add-at
 overflow_add-at c =
     let loop = c.loop-at in
     let request-of = c.request_of in
     let e = simp tail_is at request-of.ensures in
     let z = rw c.in-Some.is at e in
-    omega (arith, z.1.1, c.size_of-at.ensures, length-drop loop.at c.args.job.now, c.requires.2)
+    omega (arith, z.1.1, c.size-at.ensures, length-drop loop.at c.args.job.now, c.requires.2)
 
 -- the loop ends
 pub loop-at-smaller : goal.loop-at-smaller
@@ -61,7 +61,7 @@ loop-at-smaller c =
     let request-of = c.request_of in
     let e = simp tail_is at request-of.ensures in
     let z = rw c.in-Some.is at e in
-    omega (arith, z.1.0, z.1.1, c.size_of-at.ensures, length-drop loop.at job)
+    omega (arith, z.1.0, z.1.1, c.size-at.ensures, length-drop loop.at job)
 
 -- the loop's step
 pub loop-at-preserved : goal.loop-at-preserved
@@ -73,8 +73,8 @@ loop-at-preserved c =
     let inv = loop.invariant in
     let loop-test = c.loop-at-test in
     let request-of = c.request_of in
-    let answer-request = c.answer_request-s in
-    let size_of = c.size_of-at in
+    let answer-request = c.answer_request-step in
+    let size_of = c.size-at in
     let e = simp tail_is at request-of.ensures in
     let z = rw c.in-Some.is at e in
     let w = rw (tail_is at-now job) at answer-request.ensures in (
@@ -92,8 +92,8 @@ loop-at-preserved c =
     )
 
 -- &table[..m]
-pub slice_bounds-put_unreadable-end-in-None-2 : goal.slice_bounds-put_unreadable-end-in-None-2
-slice_bounds-put_unreadable-end-in-None-2 c =
+pub slice_bounds-put_unreadable-end-in_default-2 : goal.slice_bounds-put_unreadable-end-in_default-2
+slice_bounds-put_unreadable-end-in_default-2 c =
     let loop = c.loop-at in
     sym (length-take-le loop.m loop.table (omega (arith, loop.invariant.1, loop.invariant.3)))
 
@@ -116,15 +116,15 @@ put_unreadable-requires c =
     )
 
 -- return k + put_unreadable(&mut out[k..], at, &table[..m])
-pub returns-in-None : goal.returns-in-None
-returns-in-None c =
+pub returns-in_default : goal.returns-in_default
+returns-in_default c =
     let args = c.args in
     let loop = c.loop-at in
     let loop-test = c.loop-at-test in
     let request-of = c.request_of in
     let put-unreadable = c.put_unreadable in
     let e = simp tail_is at request-of.ensures in
-    let z = rw c.in-None.is at e in
+    let z = rw c.in_default.is at e in
     printed_stop args.job.now args.table.now args.n args.out.now loop.out loop.table loop.at
     loop.m loop.k loop.invariant.5 put-unreadable.new.out put-unreadable.result _
     put-unreadable.ensures.0 put-unreadable.ensures.1 loop-test.true z.0 refl

@@ -1,22 +1,14 @@
 use native.Mathlib.Omega.{arith}
-use Rattle.xliff.specs.Bytes.{two_at}
 use Rattle.requests.proofs.RequestLaws.{cut_short, is_whole}
-use borrow.Author.Rules.{rules}
 use Rattle.requests.proofs.remove_of.Goals as goal
 
 -- return None
-pub returns-then-s-lt4 : goal.returns-then-s-lt4
-unfolding two_at
-returns-then-s-lt4 c = (cut_short c.args.s.now 4 _ c.if-s-lt4.true, tt)
+pub returns-then-s-lt-REMOVE_SIZE : goal.returns-then-s-lt-REMOVE_SIZE
+returns-then-s-lt-REMOVE_SIZE c = (cut_short c.args.s.now 4 _ c.if-s-lt-REMOVE_SIZE.true, tt)
 
--- Some(Request::RemoveTarget(table::number_at(s, 2)))
+-- Some(Request::RemoveTarget { .. })
 pub returns : goal.returns
-unfolding two_at
 returns c =
     let s = c.args.s.now in
-    let if1 = c.if-s-lt4 in
+    let if1 = c.if-s-lt-REMOVE_SIZE in
     (rw c.number_at.ensures (is_whole s 4 _ if1.false), (omega arith, if1.false))
-
-pub number_at-requires : goal.number_at-requires
-unfolding two_at
-number_at-requires c = search rules

@@ -1,30 +1,34 @@
-use native.Mathlib.Omega.{arith}
-use mathlib.Core.Path.{refl}
-use Rattle.sheet_columns.proofs.StepLaws.{row_put}
+use mathlib.Core.Path.{refl, sym, ◌∙◌}
+use Rattle.sheet_columns.proofs.StepLaws.{so_far_start, more_room, goes, so_far_on, falls, row_put}
 use Rattle.sheet_columns.proofs.put_row.Goals as goal
 
--- put_items(out, c, begun)
-pub put_items-f-requires : goal.put_items-f-requires
-put_items-f-requires c =
-    let (inside, some) = c.requires in
-    ((some, omega arith, inside), refl, refl)
+-- before the first item
+pub loop-row-init : goal.loop-row-init
+loop-row-init c = so_far_start c.args.c.now _ c.args.draft.now refl refl
 
--- sheet_forms::put_blanks(out, items, f.room)
-pub put_blanks-padded-requires : goal.put_blanks-padded-requires
-put_blanks-padded-requires c =
-    let put-items = c.put_items-f in
-    let (inside, (xs, ahead)) = c.requires in
-    let row = put-items.ensures.2 xs ahead in
-    (row.wrote.inside, omega (arith, row.cells))
+-- row.put_next(draft, c)
+pub put_next-requires : goal.put_next-requires
+put_next-requires c =
+    let loop = c.loop-row in
+    let (more, cells, ahead) = more_room loop.row _ (sym c.goes_on.ensures ∙ c.loop-row-test.true) in
+    (goes c.args.c.now _ _ loop.row loop.draft c.requires loop.invariant more, cells, ahead)
 
--- Row { next: Cursor { .. }, draft: padded }
+-- fewer bytes are ahead, or the row is full
+pub loop-row-smaller : goal.loop-row-smaller
+loop-row-smaller c =
+    let loop = c.loop-row in
+    falls c.args.c.now _ _ loop.row loop.draft c.requires loop.invariant _ _ c.put_next.ensures
+    (sym c.goes_on.ensures ∙ c.loop-row-test.true)
+
+-- one step more
+pub loop-row-preserved : goal.loop-row-preserved
+loop-row-preserved c =
+    let loop = c.loop-row in
+    so_far_on c.args.c.now _ _ loop.row loop.draft c.requires loop.invariant _ _ c.put_next.ensures
+
+-- the row with its padding
 pub returns : goal.returns
 returns c =
-    let put-blanks = c.put_blanks-padded in
-    let put-items = c.put_items-f in
-    let args = c.args in (
-      put-items.ensures.0,
-      put-items.ensures.1,
-      λ xs ahead. row_put args.c.now _ args.out.now put-items.result _ xs (put-items.ensures.2 xs ahead)
-          _ _ put-blanks.ensures,
-    )
+    let loop = c.loop-row in
+    row_put c.args.c.now _ _ loop.row loop.draft c.requires loop.invariant
+    (sym c.goes_on.ensures ∙ c.loop-row-test.false) refl _ c.put_blanks.ensures

@@ -1,17 +1,21 @@
-use mathlib.Core.Bool.{true, false}
-use Rattle.sheet_forms.proofs.FormLaws.{cell_by}
+use native.Mathlib.Omega.{arith}
+use Rattle.xliff.specs.Bytes.{among}
+use Rattle.sheet.specs.Column.{cell}
+use Rattle.sheet_forms.proofs.FormLaws.{tab_or_feed, other_cell}
 use Rattle.sheet_forms.proofs.cell_of.Goals as goal
 
--- { b'.' }
-pub returns-then-b : goal.returns-then-b
-returns-then-b c =
-    let if1 = c.if-b.true in
-    let args = c.args in
-    cell_by args.b true if1
+-- b'\r' => b'.'
+pub returns-in-9 : goal.returns-in-9
+unfolding cell among
+returns-in-9 c = rw c.in-9.is
 
--- else { b }
-pub returns-else-b : goal.returns-else-b
-returns-else-b c =
-    let if1 = c.if-b.false in
-    let args = c.args in
-    cell_by args.b false if1
+-- b'\t' | b'\n' => b'.'
+pub returns-in-9-2 : goal.returns-in-9-2
+returns-in-9-2 c = tab_or_feed c.args.b (omega arith) (omega arith)
+
+-- _ => b, below a tab and above
+pub returns-in_default : goal.returns-in_default
+returns-in_default c = other_cell c.args.b (λ e. omega arith) (λ e. omega arith) (λ e. omega arith)
+
+pub returns-in_default-2 : goal.returns-in_default-2
+returns-in_default-2 c = other_cell c.args.b (λ e. omega arith) (λ e. omega arith) (λ e. omega arith)

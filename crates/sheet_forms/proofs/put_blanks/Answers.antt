@@ -1,22 +1,17 @@
-use mathlib.Core.Path.{sym}
-use Rattle.xliff.specs.Desk.{blank}
-use Rattle.draft.proofs.DraftLaws.{wrote_as}
-use lib.ListN.{replicate}
-use lib.Seq.{length-take-le}
-use Rattle.sheet_forms.proofs.FormLaws.{take_replicate}
+use Rattle.draft.proofs.DraftLaws.{wrote_nothing, wrote_then, wrote_as}
+use Rattle.sheet_forms.proofs.FormLaws.{one_blank, whole_blanks}
 use Rattle.sheet_forms.proofs.put_blanks.Goals as goal
 
--- &blanks[..n]
-pub slice_bounds-put-end : goal.slice_bounds-put-end
-slice_bounds-put-end c =
-    let args = c.args in
-    let pre = c.requires in
-    sym (length-take-le args.n (replicate 33 blank) pre.1)
+-- before the first blank
+pub loop-i-init : goal.loop-i-init
+loop-i-init c = wrote_nothing
 
--- draft::put(out, draft, &blanks[..n])
+-- draft.put(b" ")
+pub loop-i-preserved : goal.loop-i-preserved
+loop-i-preserved c = wrote_as (one_blank c.loop-i.i) (wrote_then c.loop-i.invariant c.put.ensures)
+
+-- so many
 pub returns : goal.returns
 returns c =
-    let put = c.put in
-    let args = c.args in
-    let pre = c.requires in
-    wrote_as (take_replicate args.n 33 blank pre.1) put.ensures
+    let loop = c.loop-i in
+    wrote_as (whole_blanks c.args.n loop.i c.loop-i-test.false loop.auto.i-end) loop.invariant

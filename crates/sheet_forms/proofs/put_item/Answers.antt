@@ -1,3 +1,4 @@
+use Rattle.std.proofs.Common.{inl, inr}
 use Rattle.table.specs.Meaning.{fields, half, form}
 use Rattle.sheet.specs.Column.{shown}
 use Rattle.sheet_forms.proofs.FormLaws.{isolated_shown, pair_shown}
@@ -17,24 +18,22 @@ returns-in-Standalone c =
     let put-standalone = c.put_standalone in
     rw c.in-Standalone.is put-standalone.ensures
 
--- Item::Isolated(h, f) => put_half(piece, h, f.id)
+-- Item::Isolated(h, f) | Item::Pair(_, h, f) => put_half(piece, h, f.id)
 pub returns-in-Isolated : goal.returns-in-Isolated
 returns-in-Isolated c =
-    let put-half = c.put_half in
-    rw (c.in-Isolated.is, ← isolated_shown (half c.in-Isolated.h) (fields c.in-Isolated.f)) put-half.ensures
-
--- Item::Pair(_, h, f) => put_half(piece, h, f.id)
-pub returns-in-Pair : goal.returns-in-Pair
-returns-in-Pair c =
-    let put-half2 = c.put_half-in-Pair in
-    let of_pair = pair_shown (half c.in-Pair.h) (form c.in-Pair.field-0) (fields c.in-Pair.f) in
-    rw (c.in-Pair.is, ← of_pair) put-half2.ensures
+    let put-half = c.put_half-in-Isolated in
+    let h = half c.in-Isolated.h in
+    let f = fields c.in-Isolated.f in
+    elim c.in-Isolated.is [
+      | inl e ↦ rw (e, ← isolated_shown h f) put-half.ensures
+      | inr (w, e) ↦ rw (e, ← pair_shown h (form w) f) put-half.ensures
+    ]
 
 -- Item::AnnotationStart(_, id, _) => put_half(piece, Half::Start, id)
 pub returns-in-AnnotationStart : goal.returns-in-AnnotationStart
 unfolding shown
 returns-in-AnnotationStart c =
-    let put-half3 = c.put_half-in-AnnotationStart in
+    let put-half3 = c.put_half in
     rw c.in-AnnotationStart.is put-half3.ensures
 
 -- Item::AnnotationEnd(_, id) => put_half(piece, Half::End, id)

@@ -11,13 +11,12 @@ slice_bounds-put_between-end c =
     let args = c.args in
     head_long (decimal args.n) _ put.new.out put.result put.ensures.0 put.ensures.1
 
--- put_between(out, draft, blanks, &digits[..k], 0)
+-- put_between(draft, blanks, &digits[..k], 0)
 pub returns : goal.returns
 returns c =
     let between = c.put_between in
-    let missing = c.missing-blanks in
     let put = c.put_decimal-k in
     let args = c.args in
     let told = put.ensures in
     let there = at_head (decimal args.n) _ put.new.out put.result told.0 told.1 in
-    wrote_as (aligned args.cells (decimal args.n) there told.0 missing.ensures.0) between.ensures
+    wrote_as (aligned args.cells (decimal args.n) there told.0 c.saturating_sub.ensures) between.ensures

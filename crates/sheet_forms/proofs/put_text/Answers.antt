@@ -1,51 +1,20 @@
-use native.Mathlib.Omega.{arith}
-use mathlib.Core.Path.{refl, sym, ◌∙◌}
-use lib.ListN.{length-set}
-use lib.Seq.{length-take-le}
-use Rattle.draft.proofs.DraftLaws.{wrote_as}
+use Rattle.draft.proofs.DraftLaws.{wrote_nothing, wrote_then, wrote_as}
 use Rattle.sheet_forms.proofs.FormLaws.{text_more, text_whole}
 use Rattle.sheet_forms.proofs.put_text.Goals as goal
 
 -- before the first byte
-pub loop-i-init : goal.loop-i-init
-loop-i-init c =
-    (omega arith, refl, refl)
+pub loop-b-init : goal.loop-b-init
+loop-b-init c = wrote_nothing
 
--- cells[i] = ..
-pub bounds-cells-i : goal.bounds-cells-i
-bounds-cells-i c =
-    let test = c.loop-i-test.true in
-    let loop = c.loop-i in
-    let pre = c.requires in
-    omega (arith, loop.invariant.1, pre.1)
+-- draft.put(&[cell_of(*b)])
+pub loop-b-preserved : goal.loop-b-preserved
+loop-b-preserved c =
+    let loop = c.loop-b in
+    wrote_as (text_more c.args.text.now loop.b-index _ c.loop-b-test.true c.cell_of.ensures)
+    (wrote_then loop.invariant c.put.ensures)
 
--- cells[i] = cell_of(text[i]); i += 1
-pub loop-i-preserved : goal.loop-i-preserved
-loop-i-preserved c =
-    let cell-of = c.cell_of in
-    let test = c.loop-i-test.true in
-    let loop = c.loop-i in
-    let args = c.args in
-    let pre = c.requires in
-    let inv = loop.invariant in (
-      omega arith,
-      length-set loop.cells loop.i cell-of.result ∙ inv.1,
-      text_more args.text.now loop.cells loop.i cell-of.result test (omega (arith, inv.1, pre.1))
-          cell-of.ensures inv.2,
-    )
-
--- &cells[..i]
-pub slice_bounds-put-end : goal.slice_bounds-put-end
-slice_bounds-put-end c =
-    let loop = c.loop-i in
-    let pre = c.requires in
-    sym (length-take-le loop.i loop.cells (omega (arith, loop.invariant.0, loop.invariant.1, pre.1)))
-
--- draft::put(out, draft, &cells[..i])
+-- the whole text
 pub returns : goal.returns
 returns c =
-    let put = c.put in
-    let test = c.loop-i-test.false in
-    let loop = c.loop-i in
-    let args = c.args in
-    wrote_as (text_whole args.text.now loop.cells loop.i test loop.invariant.2) put.ensures
+    let loop = c.loop-b in
+    wrote_as (text_whole c.args.text.now loop.b-index c.loop-b-test.false) loop.invariant

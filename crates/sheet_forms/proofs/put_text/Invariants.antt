@@ -1,15 +1,9 @@
-use Prim.Native.Nat.{◌≤◌, ◌-◌}
-use mathlib.Core.Path.{◌≡◌}
 use mathlib.Core.List.{map}
-use lib.ListN.{length, take}
+use lib.ListN.{take}
+use Rattle.draft.specs.Drafts.{Wrote}
 use Rattle.sheet.specs.Column.{cell}
 use Rattle.sheet_forms.proofs.put_text.Given as goal
 
 -- the cells of the bytes so far
-abbrev pub invariant-loop-i : goal.invariant-loop-i
-invariant-loop-i l =
-    (l.i ≤ length l.text) × (length l.cells ≡ 132) × (take l.i l.cells ≡ map cell (take l.i l.text))
-
-abbrev pub decreases-loop-i : goal.decreases-loop-i
-decreases-loop-i l =
-    length l.text - l.i
+abbrev pub invariant-loop-b : goal.invariant-loop-b
+invariant-loop-b l = Wrote (map cell (take l.b-index l.text)) l.initial.draft l.draft

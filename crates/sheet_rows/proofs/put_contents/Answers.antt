@@ -1,31 +1,41 @@
+use mathlib.Core.Path.{sym, ◌∙◌}
 use Rattle.sheet_columns.proofs.CursorLaws.{ahead_start}
-use Rattle.sheet_rows.proofs.LaterLaws.{first_put, contents_put}
+use Rattle.sheet_rows.proofs.LaterLaws.{shown_start, shown_on, shown_end, fewer_left}
 use Rattle.sheet_rows.proofs.put_contents.Goals as goal
 
--- let first = put_columns(out, draft, source, begin, target, begin)
-pub put_columns-first-requires : goal.put_columns-first-requires
-put_columns-first-requires c =
-    let args = c.args in
-    let pre = c.requires in
-    let (xs, h) = pre.1 in
-    let (ys, k) = pre.2 in
-    (pre.0, (xs, ahead_start args.source.now xs h), (ys, ahead_start args.target.now ys k))
+-- columns.put_row(draft, source, target), the first row
+pub put_row-requires : goal.put_row-requires
+put_row-requires c =
+    let ((xs, h), (ys, k)) = c.requires in
+    ((xs, ahead_start c.args.source.now xs h), (ys, ahead_start c.args.target.now ys k))
 
--- put_later(out, first, source, target)
-pub put_later-requires : goal.put_later-requires
-put_later-requires c =
-    let put-columns = c.put_columns-first in
-    let args = c.args in
-    let pre = c.requires in
-    let (xs, h) = pre.1 in
-    let (ys, k) = pre.2 in
-    let first = first_put args.source.now args.target.now _ _ _ _ put-columns.ensures xs ys h k in
-    (first.wrote.inside, (_, first.source_ahead), (_, first.target_ahead))
+pub loop-columns-init : goal.loop-columns-init
+loop-columns-init c = shown_start c.args.source.now c.args.target.now _ _ _ c.put_row.ensures
 
--- put_later(out, first, source, target)
+-- columns.put_row(draft, source, target), a later row
+pub put_row-requires-in-loop-columns : goal.put_row-requires-in-loop-columns
+put_row-requires-in-loop-columns c =
+    let ((xs, h), (ys, k)) = c.requires in
+    let shown = c.loop-columns.invariant xs ys h k in
+    ((shown.sources, shown.source_ahead), (shown.targets, shown.target_ahead))
+
+pub loop-columns-smaller : goal.loop-columns-smaller
+loop-columns-smaller c =
+    let (source, target, put) = c.put_row-in-loop-columns.ensures in
+    fewer_left c.args.source.now c.args.target.now c.loop-columns.columns _
+    (sym c.goes_on.ensures ∙ c.loop-columns-test.true) source target
+
+pub loop-columns-preserved : goal.loop-columns-preserved
+loop-columns-preserved c =
+    let loop = c.loop-columns in
+    λ xs ys h k.
+    shown_on c.args.source.now c.args.target.now _ loop.columns loop.draft xs ys (loop.invariant xs ys h k)
+    (sym c.goes_on.ensures ∙ c.loop-columns-test.true) _ c.put_blanks.ensures _ _ c.put_row-in-loop-columns.ensures
+
+-- no column goes on
 pub returns : goal.returns
 returns c =
-    let put-later = c.put_later in
-    let put-columns = c.put_columns-first in
-    let args = c.args in
-    contents_put args.source.now args.target.now _ _ _ _ put-columns.ensures _ _ put-later.ensures
+    let loop = c.loop-columns in
+    λ xs ys h k.
+    shown_end c.args.source.now c.args.target.now _ loop.columns loop.draft xs ys (loop.invariant xs ys h k)
+    (sym c.goes_on.ensures ∙ c.loop-columns-test.false)

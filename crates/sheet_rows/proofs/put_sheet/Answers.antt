@@ -12,7 +12,7 @@ pub loop-place-init : goal.loop-place-init
 loop-place-init c =
     let args = c.args in
     let pre = c.requires in
-    put_start part_sheet args.t.now args.out.now args.draft pre.1 pre.0
+    put_start part_sheet args.t.now args.draft.now pre
 
 -- let place = part_at::part_from(t, at)
 pub part_from-place-requires : goal.part_from-place-requires
@@ -20,19 +20,19 @@ part_from-place-requires c =
     let if1 = c.loop-place-test.true in
     let starts-part = c.starts_part in
     let loop = c.loop-place in
-    let passes = c.requires.1 in
+    let passes = c.requires in
     put_from passes loop.invariant (sym starts-part.ensures ∙ if1)
 
--- behind = put_part(out, behind, t, n, place)
-pub put_part-behind-requires : goal.put_part-behind-requires
-put_part-behind-requires c =
+-- put_part(draft, t, n, place)
+pub put_part-requires : goal.put_part-requires
+put_part-requires c =
     let part_from = c.part_from-place in
     let if1 = c.loop-place-test.true in
     let starts-part = c.starts_part in
     let loop = c.loop-place in
-    let passes = c.requires.1 in
+    let passes = c.requires in
     let is = sym starts-part.ensures ∙ if1 in
-    (loop.invariant.wrote.inside, put_stands passes loop.invariant is part_from.result part_from.ensures)
+    put_stands passes loop.invariant is part_from.result part_from.ensures
 
 -- n += 1
 pub overflow_add-n : goal.overflow_add-n
@@ -40,7 +40,7 @@ overflow_add-n c =
     let if1 = c.loop-place-test.true in
     let starts-part = c.starts_part in
     let loop = c.loop-place in
-    let passes = c.requires.1 in
+    let passes = c.requires in
     omega (arith, put_few passes loop.invariant (sym starts-part.ensures ∙ if1))
 
 -- at = place.end
@@ -50,28 +50,22 @@ loop-place-smaller c =
     let if1 = c.loop-place-test.true in
     let starts-part = c.starts_part in
     let loop = c.loop-place in
-    let passes = c.requires.1 in
+    let passes = c.requires in
     put_less passes loop.invariant (sym starts-part.ensures ∙ if1) part_from.result part_from.ensures
 
 -- one part more
 pub loop-place-preserved : goal.loop-place-preserved
 loop-place-preserved c =
-    let put-part = c.put_part-behind in
+    let put-part = c.put_part in
     let part_from = c.part_from-place in
     let if1 = c.loop-place-test.true in
     let starts-part = c.starts_part in
     let loop = c.loop-place in
-    let passes = c.requires.1 in
+    let passes = c.requires in
     put_on passes loop.invariant (sym starts-part.ensures ∙ if1) part_from.result part_from.ensures
-    put-part.new.out put-part.result put-part.ensures
+    put-part.new.draft put-part.ensures
 
--- the output keeps its length
-pub shape_of-out : goal.shape_of-out
-shape_of-out c =
-    let loop = c.loop-place in
-    loop.invariant.wrote.room
-
--- behind
+-- the whole sheet
 pub returns : goal.returns
 unfolding sheet_bytes sheet_rows
 returns c =
@@ -79,4 +73,4 @@ returns c =
     let starts-part = c.starts_part in
     let loop = c.loop-place in
     let none = sym starts-part.ensures ∙ if1 in
-    wrote_as (sheet_by_part 1 (unit c.args.t.now).parts) (put_end c.requires.1 loop.invariant none)
+    wrote_as (sheet_by_part 1 (unit c.args.t.now).parts) (put_end c.requires loop.invariant none)

@@ -1,3 +1,4 @@
+use Rattle.std.specs.Prelude.{Some}
 use mathlib.Core.Path.{sym, ◌∙◌}
 use native.Mathlib.Omega.{arith}
 use Rattle.walk.specs.Marks.{is_other}
@@ -8,7 +9,7 @@ use Rattle.walk.proofs.has_other.Goals as goal
 pub loop-at-init : goal.loop-at-init
 loop-at-init c =
     let args = c.args in
-    (omega arith, λ rs o. search_start (is_other args.kind args.id) args.c.now rs o)
+    (omega arith, λ rs o. search_start (is_other (Some args.kind) args.id) args.c.now rs o)
 
 -- the next record ends within the content
 pub overflow_add-next : goal.overflow_add-next
@@ -48,7 +49,7 @@ returns-then-other_at c =
     let c₀ = args.c.now in
     let m = loop.invariant.1 rs o in
     let n = next c₀ loop.at _ m.after loop-test m.rest width_at.ensures in
-    other_found args.kind args.id c₀ rs loop.at _ m n (sym other_at.ensures ∙ if1)
+    other_found (Some args.kind) args.id c₀ rs loop.at _ m n (sym other_at.ensures ∙ if1)
 
 -- the walk goes on
 pub loop-at-smaller : goal.loop-at-smaller
@@ -81,7 +82,7 @@ loop-at-preserved c =
       λ rs o.
           let m = loop.invariant.1 rs o in
           let n = next c₀ at-now _ m.after loop-test m.rest width_at.ensures in
-          other_on args.kind args.id c₀ rs at-now _ m n (sym other_at.ensures ∙ if1),
+          other_on (Some args.kind) args.id c₀ rs at-now _ m n (sym other_at.ensures ∙ if1),
     )
 
 -- no record is
@@ -90,4 +91,4 @@ returns c =
     let args = c.args in
     let loop = c.loop-at in
     let loop-test = c.loop-at-test.false in
-    λ rs o. other_none args.kind args.id args.c.now rs loop.at loop-test (loop.invariant.1 rs o)
+    λ rs o. other_none (Some args.kind) args.id args.c.now rs loop.at loop-test (loop.invariant.1 rs o)

@@ -1,3 +1,4 @@
+use Rattle.std.specs.Prelude.{Some}
 use mathlib.Core.List.{List}
 use Prim.Native.Nat.{◌≤◌, ◌-◌}
 use lib.ListN.{length}
@@ -8,7 +9,7 @@ use Rattle.walk.proofs.WalkLaws.{Searched}
 use Rattle.walk.proofs.has_other.Given as goal
 
 abbrev pub invariant-loop-at : goal.invariant-loop-at
-invariant-loop-at l = (l.at ≤ length l.c) × ((rs : List Record) → Of l.c rs → Searched (is_other l.kind l.id) l.c rs l.at)
+invariant-loop-at l = (l.at ≤ length l.c) × ((rs : List Record) → Of l.c rs → Searched (is_other (Some l.kind) l.id) l.c rs l.at)
 
 abbrev pub decreases-loop-at : goal.decreases-loop-at
 decreases-loop-at l = length l.c - l.at

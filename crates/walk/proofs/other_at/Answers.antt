@@ -1,6 +1,8 @@
+use Rattle.std.specs.Prelude.{◌≡◌, Some}
+use Rattle.std.proofs.Common.{rules}
 use mathlib.Core.Path.{ap, ◌∙◌}
 use Rattle.marks.proofs.RecordLaws.{number_there}
-use Rattle.walk.specs.Marks.{kind_of, kind_at}
+use Rattle.walk.specs.Marks.{kind_of, kind_at, are_opposite}
 use Rattle.walk.proofs.other_at.Goals as goal
 
 -- the kind of its mark, and its id
@@ -8,11 +10,7 @@ pub returns : goal.returns
 unfolding kind_at
 returns c =
     let args = c.args in
-    let mark_at = c.mark_at in
-    let kind-of = c.kind_of in
-    let opposite-kinds = c.opposite_kinds in
-    let number_at = c.number_at in
-    let c₀ = args.c.now in
-    let kind = kind-of.ensures ∙ ap kind_of mark_at.ensures in
-    let id = number_at.ensures ∙ number_there c₀ args.at 2 in
-    simp (id, opposite-kinds.ensures, kind)
+    let kind = c.kind_of.ensures ∙ ap kind_of c.mark_at.ensures in
+    let id = c.number_at.ensures ∙ number_there args.c.now args.at 2 in
+    let halves : c.eq.result ≡ are_opposite (Some args.kind) c.kind_of.result = search rules in
+    simp (id, halves, kind)

@@ -1,7 +1,6 @@
-use mathlib.Core.Path.{sym, ap, ◌∙◌}
-use native.Mathlib.Omega.{arith}
+use mathlib.Core.Path.{sym, ◌∙◌}
 use lib.ListN.{length}
-use Rattle.draft.specs.declared.Draft.{Draft}
+use Rattle.std.proofs.Common.{rules}
 use Rattle.places.proofs.Places.{checked_passes}
 use Rattle.table.proofs.WidthLaws.{bytes_known}
 use Rattle.outcomes.proofs.OutcomeLaws.{answers_refused}
@@ -31,64 +30,35 @@ returns-then-too_deep c =
     let out = args.out.now in
     answers_refused _ 22 0 out (refused_22 table (length out) pre (sym too_deep.ensures ∙ if1))
 
--- xml_writer::put_unit, measured
-pub put_unit-measured-requires : goal.put_unit-measured-requires
-put_unit-measured-requires c =
-    let begin = c.begin in
-    let shared-slice-known = c.shared_slice_known-1.given in
-    let args = c.args in
-    let pre = c.requires in (
-      omega (arith, ap (λ (d : Draft). d.used) begin.ensures),
-      checked_passes args.table.now
-          (bytes_known args.table.now shared-slice-known) pre,
-    )
+-- xml_writer::put_unit(&mut measured, table)
+pub put_unit-requires : goal.put_unit-requires
+put_unit-requires c =
+    let table = c.args.table.now in
+    checked_passes table (bytes_known table c.type_inv.table) c.requires
 
 -- return Answer::Refused(15, 0)
-pub returns-then-measured : goal.returns-then-measured
-returns-then-measured c =
-    let if2 = c.if-measured.true in
-    let put-unit = c.put_unit-measured in
-    let begin = c.begin in
-    let if1 = c.if-too_deep.false in
-    let too_deep = c.too_deep in
-    let args = c.args in
-    let pre = c.requires in
-    let table = args.table.now in
-    let out = args.out.now in
-    let room = length out in
-    let flat = sym too_deep.ensures ∙ if1 in
-    answers_15 (write_xml table room) (unit_text (unit table)) out (refused_15 table room pre flat)
-    (written table room pre flat)
-    _ begin.ensures _ _ put-unit.ensures if2
+pub returns-then-is_full : goal.returns-then-is_full
+returns-then-is_full c =
+    let table = c.args.table.now in
+    let room = length c.args.out.now in
+    let flat = sym c.too_deep.ensures ∙ c.if-too_deep.false in
+    answers_15 (write_xml table room) (unit_text (unit table)) _ (refused_15 table room c.requires flat)
+    (written table room c.requires flat) _ c.begin-measured.ensures _ c.put_unit.ensures
+    (sym c.is_full.ensures ∙ c.if-is_full.true) (search rules)
 
--- xml_writer::put_unit, written
-pub put_unit-written-requires : goal.put_unit-written-requires
-put_unit-written-requires c =
-    let begin2 = c.begin-2 in
-    let shared-slice-known = c.shared_slice_known-1.given in
-    let args = c.args in
-    let pre = c.requires in (
-      omega (arith, ap (λ (d : Draft). d.used) begin2.ensures),
-      checked_passes args.table.now
-          (bytes_known args.table.now shared-slice-known) pre,
-    )
+-- xml_writer::put_unit(&mut written, table)
+pub put_unit-requires-2 : goal.put_unit-requires-2
+put_unit-requires-2 c =
+    let table = c.args.table.now in
+    checked_passes table (bytes_known table c.type_inv.table) c.requires
 
--- Answer::Accepted(written.used)
+-- Answer::Accepted(written.used())
 pub returns : goal.returns
 returns c =
-    let put-unit2 = c.put_unit-written in
-    let begin2 = c.begin-2 in
-    let if2 = c.if-measured.false in
-    let put-unit = c.put_unit-measured in
-    let begin = c.begin in
-    let if1 = c.if-too_deep.false in
-    let too_deep = c.too_deep in
-    let args = c.args in
-    let pre = c.requires in
-    let table = args.table.now in
-    let out = args.out.now in
-    let room = length out in
-    let flat = sym too_deep.ensures ∙ if1 in
-    answers_written (write_xml table room) (unit_text (unit table)) out (refused_15 table room pre flat)
-    (written table room pre flat) _ begin.ensures _ _ put-unit.ensures if2 _ begin2.ensures _ _
-    put-unit2.ensures
+    let table = c.args.table.now in
+    let room = length c.args.out.now in
+    let flat = sym c.too_deep.ensures ∙ c.if-too_deep.false in
+    answers_written (write_xml table room) (unit_text (unit table)) _ (refused_15 table room c.requires flat)
+    (written table room c.requires flat) _ c.begin-measured.ensures _ c.put_unit.ensures
+    (sym c.is_full.ensures ∙ c.if-is_full.false) _ (search rules) _ c.begin-written.ensures _ c.put_unit-2.ensures
+    c.used.ensures (search rules)

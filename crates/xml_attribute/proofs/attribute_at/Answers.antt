@@ -1,7 +1,7 @@
 use Rattle.xml_attribute.proofs.NameLaws.{equals_missing, equals_wrong, equals_read}
 use Rattle.xml_attribute.proofs.attribute_at.Goals as goal
 
--- return Next::Short
+-- return Err(Flaw::Cut)
 pub returns-then-text-equals : goal.returns-then-text-equals
 returns-then-text-equals c =
     let pre = c.requires in
@@ -10,7 +10,7 @@ returns-then-text-equals c =
     equals_missing c.args.text.now c.args.at name_end.result blanks-end.result pre.0
     pre.1 name_end.ensures blanks-end.ensures c.if-text-equals.true
 
--- return Next::Fault
+-- return Err(Flaw::Wrong)
 pub returns-then-text-equals-ne61 : goal.returns-then-text-equals-ne61
 returns-then-text-equals-ne61 c =
     let pre = c.requires in
@@ -19,7 +19,7 @@ returns-then-text-equals-ne61 c =
     equals_wrong c.args.text.now c.args.at name_end.result blanks-end.result pre.0 pre.1
     name_end.ensures blanks-end.ensures c.if-text-equals.false c.if-text-equals-ne61.true
 
--- value_at(text, at, upto, equals + 1)
+-- value_at(text, Span { from: at, upto }, equals + 1)
 pub returns : goal.returns
 returns c =
     let pre = c.requires in

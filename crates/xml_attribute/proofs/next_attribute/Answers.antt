@@ -3,14 +3,14 @@ use mathlib.Core.Path.{sym, ◌∙◌}
 use Rattle.xml_attribute.proofs.NextLaws.{tag_cut, tag_closed, slash_read, no_name, no_space, attribute_read}
 use Rattle.xml_attribute.proofs.next_attribute.Goals as goal
 
--- return Next::Short
+-- return Err(Flaw::Cut)
 pub returns-then-text-at : goal.returns-then-text-at
 returns-then-text-at c =
     let args = c.args in
     let blanks-end = c.blanks_end-at in
     tag_cut args.text.now args.from blanks-end.result blanks-end.ensures c.if-text-at.true
 
--- return Next::End(at + 1, false)
+-- return Ok(Next::End(at + 1, false))
 pub returns-then-b-eq62 : goal.returns-then-b-eq62
 returns-then-b-eq62 c =
     let args = c.args in
@@ -27,7 +27,7 @@ returns-then-b-eq47 c =
     slash_read args.text.now args.from blanks-end.result blanks-end.ensures if1.false
     c.if-b-eq62.false c.if-b-eq47.true c.short_end.result c.short_end.ensures
 
--- return Next::Fault
+-- return Err(Flaw::Wrong)
 pub returns-then-not-name_starts : goal.returns-then-not-name_starts
 returns-then-not-name_starts c =
     let args = c.args in
@@ -37,7 +37,7 @@ returns-then-not-name_starts c =
     no_name args.text.now args.from blanks-end.result blanks-end.ensures if1.false if2.false
     c.if-b-eq47.false (sym c.name_starts.ensures ∙ not-true _ c.if-not-name_starts.true-raw)
 
--- return Next::Fault
+-- return Err(Flaw::Wrong)
 pub returns-then-at-from : goal.returns-then-at-from
 returns-then-at-from c =
     let args = c.args in

@@ -12,7 +12,7 @@ abbrev pub decreases-element : goal.decreases-element
 decreases-element l = l.depth + l.depth
 
 abbrev pub invariant-content-loop-next : goal.invariant-content-loop-next
-invariant-content-loop-next l = SoFar l.text l.start l.depth l.initial.table l.initial.so_far l.at l.table l.so_far
+invariant-content-loop-next l = SoFar l.text l.start l.depth l.initial.builder l.at l.builder
 
 abbrev pub decreases-content-loop-next : goal.decreases-content-loop-next
 decreases-content-loop-next l = length l.text - l.at

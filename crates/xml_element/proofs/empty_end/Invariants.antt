@@ -1,10 +1,10 @@
-use Rattle.xml_element.proofs.EmptyLaws.{Passed}
 use lib.ListN.{length}
 use Prim.Native.Nat.{◌-◌}
+use Rattle.xml_element.proofs.EmptyLaws.{Passed}
 use Rattle.xml_element.proofs.empty_end.Given as goal
 
-abbrev pub invariant-loop-name_from : goal.invariant-loop-name_from
-invariant-loop-name_from l = Passed l.text l.start l.at
+abbrev pub invariant-loop-inner : goal.invariant-loop-inner
+invariant-loop-inner l = Passed l.text l.start l.at
 
-abbrev pub decreases-loop-name_from : goal.decreases-loop-name_from
-decreases-loop-name_from l = length l.text - l.at
+abbrev pub decreases-loop-inner : goal.decreases-loop-inner
+decreases-loop-inner l = length l.text - l.at

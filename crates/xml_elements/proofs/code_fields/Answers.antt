@@ -1,64 +1,44 @@
-use native.Mathlib.Omega.{arith}
-use lib.Dec.{eqb}
-use Rattle.xml_elements.proofs.CodeLaws.{both_below, number_lacks, letter_lacks, all_there}
+use mathlib.Core.Path.{refl}
+use Rattle.xml.specs.Attributes.{with, code_fields}
+use Rattle.xml_elements.specs.Reading.{BySlots, words_of}
 use Rattle.xml_elements.proofs.code_fields.Goals as goal
 
--- return Coded::Bad: a number is not good
-pub returns-then-id-copy_of : goal.returns-then-id-copy_of
-returns-then-id-copy_of c =
-    let reorder = c.letter-reorder in
-    let delete = c.letter-delete in
-    let copy = c.letter-copy in
-    let data-ref = c.optional_number-data_ref in
-    let copy_of = c.optional_number-copy_of in
-    let id = c.required_number-id in
-    let args = c.args in
-    number_lacks args.slots.now _ _ id.result copy_of.result data-ref.result copy.result delete.result
-    args.overlap reorder.result id.ensures copy_of.ensures data-ref.ensures copy.ensures delete.ensures
-    reorder.ensures c.if-id-copy_of.true
+-- id: none
+pub returns-in_err-id : goal.returns-in_err-id
+unfolding BySlots code_fields words_of with
+returns-in_err-id c = λ ats told. rw (c.from_residual.ensures, ← c.in_err-id.ensures ats told) refl
 
--- return Coded::Bad: a letter is not good
-pub returns-then-copy-delete : goal.returns-then-copy-delete
-returns-then-copy-delete c =
-    let reorder = c.letter-reorder in
-    let delete = c.letter-delete in
-    let copy = c.letter-copy in
-    let data-ref = c.optional_number-data_ref in
-    let copy_of = c.optional_number-copy_of in
-    let id = c.required_number-id in
-    let args = c.args in
-    letter_lacks args.slots.now _ _ id.result copy_of.result data-ref.result copy.result delete.result
-    args.overlap reorder.result id.ensures copy_of.ensures data-ref.ensures copy.ensures delete.ensures
-    reorder.ensures c.if-copy-delete.true
+-- copy_of: none
+pub returns-in_err-copy_of : goal.returns-in_err-copy_of
+unfolding BySlots code_fields words_of with
+returns-in_err-copy_of c = λ ats told. rw (c.from_residual-in_err-copy_of.ensures, ← c.in_ok-id.ensures ats told, ← c.in_err-copy_of.ensures ats told) refl
 
--- copy_of as u16
-pub overflow_cast-result : goal.overflow_cast-result
-overflow_cast-result c =
-    let id = c.required_number-id in
-    let copy_of = c.optional_number-copy_of in
-    let data-ref = c.optional_number-data_ref in
-    let small = both_below (eqb id.result 0) copy_of.result data-ref.result c.if-id-copy_of.false in
-    omega arith
+-- data_ref: none
+pub returns-in_err-data_ref : goal.returns-in_err-data_ref
+unfolding BySlots code_fields words_of with
+returns-in_err-data_ref c = λ ats told. rw (c.from_residual-in_err-data_ref.ensures, ← c.in_ok-id.ensures ats told, ← c.in_ok-copy_of.ensures ats told, ← c.in_err-data_ref.ensures ats told) refl
 
--- data_ref as u16
-pub overflow_cast-result-2 : goal.overflow_cast-result-2
-overflow_cast-result-2 c =
-    let id = c.required_number-id in
-    let copy_of = c.optional_number-copy_of in
-    let data-ref = c.optional_number-data_ref in
-    let small = both_below (eqb id.result 0) copy_of.result data-ref.result c.if-id-copy_of.false in
-    omega arith
+-- copy: none
+pub returns-in_err-copy : goal.returns-in_err-copy
+unfolding BySlots code_fields words_of with
+returns-in_err-copy c = λ ats told. rw (c.from_residual-in_err-copy.ensures, ← c.in_ok-id.ensures ats told, ← c.in_ok-copy_of.ensures ats told, ← c.in_ok-data_ref.ensures ats told, ← c.in_err-copy.ensures ats told) refl
 
--- Coded::Good(Fields { .. })
+-- delete: none
+pub returns-in_err-delete : goal.returns-in_err-delete
+unfolding BySlots code_fields words_of with
+returns-in_err-delete c = λ ats told. rw (c.from_residual-in_err-delete.ensures, ← c.in_ok-id.ensures ats told, ← c.in_ok-copy_of.ensures ats told, ← c.in_ok-data_ref.ensures ats told, ← c.in_ok-copy.ensures ats told, ← c.in_err-delete.ensures ats told) refl
+
+-- overlap: none
+pub returns-in_err-overlap : goal.returns-in_err-overlap
+unfolding BySlots code_fields words_of with
+returns-in_err-overlap c = λ ats told. rw (c.from_residual-in_err-overlap.ensures, ← c.in_ok-id.ensures ats told, ← c.in_ok-copy_of.ensures ats told, ← c.in_ok-data_ref.ensures ats told, ← c.in_ok-copy.ensures ats told, ← c.in_ok-delete.ensures ats told, c.in_err-overlap.was) refl
+
+-- reorder: none
+pub returns-in_err-reorder : goal.returns-in_err-reorder
+unfolding BySlots code_fields words_of with
+returns-in_err-reorder c = λ ats told. rw (c.from_residual-in_err-reorder.ensures, ← c.in_ok-id.ensures ats told, ← c.in_ok-copy_of.ensures ats told, ← c.in_ok-data_ref.ensures ats told, ← c.in_ok-copy.ensures ats told, ← c.in_ok-delete.ensures ats told, c.in_ok-overlap.was, ← c.in_err-reorder.ensures ats told) refl
+
+-- Some(Fields { .. })
 pub returns : goal.returns
-returns c =
-    let reorder = c.letter-reorder in
-    let delete = c.letter-delete in
-    let copy = c.letter-copy in
-    let data-ref = c.optional_number-data_ref in
-    let copy_of = c.optional_number-copy_of in
-    let id = c.required_number-id in
-    let args = c.args in
-    all_there args.slots.now _ _ id.result copy_of.result data-ref.result copy.result delete.result
-    args.overlap reorder.result id.ensures copy_of.ensures data-ref.ensures copy.ensures delete.ensures
-    reorder.ensures c.if-id-copy_of.false c.if-copy-delete.false
+unfolding BySlots code_fields words_of with
+returns c = λ ats told. rw (← c.in_ok-id.ensures ats told, ← c.in_ok-copy_of.ensures ats told, ← c.in_ok-data_ref.ensures ats told, ← c.in_ok-copy.ensures ats told, ← c.in_ok-delete.ensures ats told, c.in_ok-overlap.was, ← c.in_ok-reorder.ensures ats told) refl

@@ -1,18 +1,23 @@
-use Rattle.xml_elements.proofs.ElementLaws.{half_other, half_are}
+use mathlib.Core.Path.{refl}
+use borrow.Author.Tests.{not-true, not-false}
+use Rattle.xml_slots.specs.Slots.{ByAttributes}
+use Rattle.xml_elements.specs.Reading.{BySlots, words_of}
+use Rattle.xml_elements.specs.Meanings.{half_fields}
 use Rattle.xml_elements.proofs.half_fields.Goals as goal
 
--- return Coded::Bad
+-- other attributes: None
 pub returns-then-not-has_only : goal.returns-then-not-has_only
-returns-then-not-has_only c =
-    let args = c.args in
-    let has-only = c.has_only in
-    half_other args.slots.now args.count has-only.result args.id_slot has-only.ensures c.if-not-has_only.true-raw
+unfolding ByAttributes half_fields
+returns-then-not-has_only c = λ ats s. rw (← c.has_only.ensures ats s, not-true _ c.if-not-has_only.true-raw) refl
 
 -- code_fields(slots, id_slot, DATA_REF, overlap)
 pub returns : goal.returns
+unfolding ByAttributes BySlots words_of half_fields
 returns c =
-    let overlap = c.letter-overlap in
-    let has-only = c.has_only in
-    let args = c.args in
-    half_are args.slots.now args.count has-only.result args.id_slot has-only.ensures c.if-not-has_only.false-raw
-    overlap.result overlap.ensures _ c.code_fields.ensures
+    λ ats s.
+    rw (
+      ← c.has_only.ensures ats s,
+      not-false _ c.if-not-has_only.false-raw,
+      ← c.letter-overlap.ensures ats s.told,
+      ← c.code_fields.ensures ats s.told,
+    ) refl

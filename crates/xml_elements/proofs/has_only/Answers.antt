@@ -9,32 +9,32 @@ use Rattle.xml_elements.proofs.has_only.Goals as goal
 pub offset_bounds-slots-slot : goal.offset_bounds-slots-slot
 offset_bounds-slots-slot c =
     let (some, differ) = c.requires in
-    omega (arith, apart_at c.args.those.now differ c.loop-i.i c.loop-i-test.true)
+    omega (arith, apart_at c.args.those.now differ c.loop-slot.slot-index c.loop-slot-test.true)
 
 pub bounds-slots-slot : goal.bounds-slots-slot
 bounds-slots-slot c =
     let args = c.args in
     let (some, differ) = c.requires in
     let long = told_long args.slots.now some.attributes some.slotted.told in
-    omega (arith, long, apart_at args.those.now differ c.loop-i.i c.loop-i-test.true)
+    omega (arith, long, apart_at args.those.now differ c.loop-slot.slot-index c.loop-slot-test.true)
 
 -- there += present(slots[slot])
 pub overflow_add-there : goal.overflow_add-there
 overflow_add-there c =
     let args = c.args in
-    let (low, few, so_far) = c.loop-i.invariant in
-    omega (arith, c.present-there.ensures, held_most args.slots.now (get_or args.those.now c.loop-i.i 0))
+    let (low, few, so_far) = c.loop-slot.invariant in
+    omega (arith, c.present-there.ensures, held_most args.slots.now (get_or args.those.now c.loop-slot.slot-index 0))
 
-pub loop-i-preserved : goal.loop-i-preserved
-loop-i-preserved c =
+pub loop-slot-preserved : goal.loop-slot-preserved
+loop-slot-preserved c =
     let args = c.args in
     let slots = args.slots.now in
     let those = args.those.now in
-    let i = c.loop-i.i in
-    let (low, few, so_far) = c.loop-i.invariant in
+    let i = c.loop-slot.slot-index in
+    let (low, few, so_far) = c.loop-slot.invariant in
     let one = c.present-there.ensures in
     let most = held_most slots (get_or those i 0) in
-    let next = total_next slots those i c.loop-i-test.true in
+    let next = total_next slots those i c.loop-slot-test.true in
     (omega arith, omega arith, omega arith)
 
 -- there == count
@@ -45,6 +45,6 @@ returns c =
     let slots = args.slots.now in
     let those = args.those.now in
     let (some, differ) = c.requires in
-    let (low, few, so_far) = c.loop-i.invariant in
-    let end = total_end slots those c.loop-i.i c.loop-i-test.false in
-    λ ats slotted. only_told slots args.count ats slotted those differ c.loop-i.there (omega arith)
+    let (low, few, so_far) = c.loop-slot.invariant in
+    let end = total_end slots those c.loop-slot.slot-index c.loop-slot-test.false in
+    λ ats slotted. only_told slots args.count ats slotted those differ c.loop-slot.there (omega arith)

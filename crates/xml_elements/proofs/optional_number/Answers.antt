@@ -1,8 +1,7 @@
-use mathlib.Core.Path.{sym, ap, ◌∙◌}
 use native.Mathlib.Omega.{arith}
-use Rattle.xml_slots.specs.Slots.{good}
-use Rattle.xml_elements.specs.Reading.{BySlots}
-use Rattle.xml_elements.proofs.SlotLaws.{told_long, optional_told}
+use mathlib.Core.Path.{◌∙◌, ap}
+use Rattle.xml_elements.specs.Reading.{BySlots, value_meaning}
+use Rattle.xml_elements.proofs.SlotLaws.{told_long, optional_read}
 use Rattle.xml_elements.proofs.optional_number.Goals as goal
 
 -- slots[slot]
@@ -11,10 +10,11 @@ bounds-slots-slot c =
     let ((ats, told), number) = c.requires in
     omega (arith, told_long c.args.slots.now ats told)
 
--- or_default(slots[slot], 0)
+-- u16::try_from(..).ok()
 pub returns : goal.returns
 unfolding BySlots
 returns c =
     let args = c.args in
     let (some, number) = c.requires in
-    λ ats told. ap good c.or_default.ensures ∙ sym (optional_told args.slots.now ats told args.slot number)
+    λ ats told.
+    ap value_meaning c.ok.ensures.value ∙ optional_read args.slots.now args.slot ats told number c.or_default.result c.or_default.ensures _ c.try_from.ensures

@@ -1,38 +1,32 @@
 use mathlib.Core.Path.{refl}
+use borrow.Author.Tests.{not-true, not-false}
 use Rattle.xliff.specs.Bytes.{among}
 use Rattle.xml.specs.Attributes.{with}
-use Rattle.xml_elements.specs.Reading.{apart}
-use Rattle.xml_elements.proofs.ElementLaws.{ph_other, ph_is}
+use Rattle.xml.specs.Elements.{read_ph}
+use Rattle.xml_slots.specs.Slots.{ByAttributes}
+use Rattle.xml_elements.specs.Reading.{apart, BySlots, words_of}
 use Rattle.xml_elements.proofs.read_ph.Goals as goal
 
--- has_only(slots, count, &allowed): none of them twice
+-- has_only(..): none of the slots twice
 pub has_only-requires : goal.has_only-requires
 unfolding apart among
 has_only-requires c = (c.requires, refl)
 
--- return Inline::Bad
+-- other attributes: None
 pub returns-then-not-has_only : goal.returns-then-not-has_only
-returns-then-not-has_only c =
-    let args = c.args in
-    let has-only = c.has_only in
-    ph_other args.slots.now args.count has-only.result has-only.ensures c.if-not-has_only.true-raw
+unfolding ByAttributes read_ph
+returns-then-not-has_only c = λ ats s. rw (← c.has_only.ensures ats s, not-true _ c.if-not-has_only.true-raw) refl
 
--- Coded::Good(f) => Inline::Single(Item::Standalone(f))
-pub returns-in-Good : goal.returns-in-Good
-unfolding with
-returns-in-Good c =
-    let if1 = c.if-not-has_only in
-    let has-only = c.has_only in
-    let args = c.args in
-    ph_is args.slots.now args.count has-only.result has-only.ensures if1.false-raw _
-    (rw c.in-Good.is at c.code_fields.ensures)
+-- no fields: None
+pub returns-in_err-f : goal.returns-in_err-f
+unfolding ByAttributes BySlots words_of with read_ph
+returns-in_err-f c =
+    λ ats s.
+    rw (c.from_residual.ensures, ← c.has_only.ensures ats s, not-false _ c.if-not-has_only.false-raw, ← c.in_err-f.ensures ats s.told) refl
 
--- Coded::Bad => Inline::Bad
-pub returns-in-Bad : goal.returns-in-Bad
-unfolding with
-returns-in-Bad c =
-    let if1 = c.if-not-has_only in
-    let has-only = c.has_only in
-    let args = c.args in
-    ph_is args.slots.now args.count has-only.result has-only.ensures if1.false-raw _
-    (rw c.in-Bad.is at c.code_fields.ensures)
+-- Some(Inline::Single(Item::Standalone(f)))
+pub returns : goal.returns
+unfolding ByAttributes BySlots words_of with read_ph
+returns c =
+    λ ats s.
+    rw (← c.has_only.ensures ats s, not-false _ c.if-not-has_only.false-raw, ← c.in_ok-f.ensures ats s.told) refl

@@ -6,33 +6,28 @@ use Rattle.xml_elements.specs.Reading.{apart}
 use Rattle.xml_elements.proofs.ElementLaws.{sc_none, sc_is}
 use Rattle.xml_elements.proofs.read_sc.Goals as goal
 
--- return Inline::Bad
-pub returns-then-isolated-eq0 : goal.returns-then-isolated-eq0
-returns-then-isolated-eq0 c =
-    let args = c.args in
-    let isolated = c.letter-isolated in
-    sc_none args.slots.now args.count isolated.result isolated.ensures c.if-isolated-eq0.true
+-- no isolated: None
+pub returns-in_err-isolated : goal.returns-in_err-isolated
+returns-in_err-isolated c =
+    rw c.from_residual.ensures (sc_none c.args.slots.now c.args.count c.in_err-isolated.ensures)
 
 -- half_fields(slots, count, ID): none of the slots twice
 pub half_fields-requires : goal.half_fields-requires
 unfolding apart among
 half_fields-requires c = (c.requires, (refl, omega arith))
 
--- Coded::Good(f) => Inline::Single(half_item(isolated, Half::Start, f))
-pub returns-in-Good : goal.returns-in-Good
+-- no fields: None
+pub returns-in_err-f : goal.returns-in_err-f
 unfolding with
-returns-in-Good c =
-    let isolated = c.letter-isolated in
-    let args = c.args in
-    rw c.half_item.ensures
-    (sc_is args.slots.now args.count isolated.result isolated.ensures c.if-isolated-eq0.false _
-    (rw c.in-Good.is at c.half_fields.ensures))
+returns-in_err-f c =
+    let isolated = c.in_ok-isolated in
+    rw c.from_residual-in_err-f.ensures
+    (sc_is c.args.slots.now c.args.count isolated.isolated isolated.ensures _ c.in_err-f.ensures)
 
--- Coded::Bad => Inline::Bad
-pub returns-in-Bad : goal.returns-in-Bad
+-- Some(Inline::Single(half_item(isolated, Half::Start, f)))
+pub returns : goal.returns
 unfolding with
-returns-in-Bad c =
-    let isolated = c.letter-isolated in
-    let args = c.args in
-    sc_is args.slots.now args.count isolated.result isolated.ensures c.if-isolated-eq0.false _
-    (rw c.in-Bad.is at c.half_fields.ensures)
+returns c =
+    let isolated = c.in_ok-isolated in
+    rw c.half_item.ensures
+    (sc_is c.args.slots.now c.args.count isolated.isolated isolated.ensures _ c.in_ok-f.ensures)

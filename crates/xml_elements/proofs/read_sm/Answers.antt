@@ -1,30 +1,39 @@
 use mathlib.Core.Path.{refl}
+use borrow.Author.Tests.{not-true, not-false}
 use Rattle.xliff.specs.Bytes.{among}
-use Rattle.xml_elements.specs.Reading.{apart}
-use Rattle.xml_elements.proofs.ElementLaws.{sm_none, sm_some}
+use Rattle.xml.specs.Attributes.{with}
+use Rattle.xml.specs.Elements.{read_sm}
+use Rattle.xml_slots.specs.Slots.{ByAttributes}
+use Rattle.xml_elements.specs.Reading.{apart, BySlots, words_of}
 use Rattle.xml_elements.proofs.read_sm.Goals as goal
 
--- has_only(slots, count, &[ID, TRANSLATE]): none of them twice
+-- has_only(..): none of the slots twice
 pub has_only-requires : goal.has_only-requires
 unfolding apart among
 has_only-requires c = (c.requires, refl)
 
--- return Inline::Bad
-pub returns-then-has_only-id : goal.returns-then-has_only-id
-returns-then-has_only-id c =
-    let has-only = c.has_only in
-    let translate = c.letter-translate in
-    let id = c.required_number-id in
-    let args = c.args in
-    sm_none args.slots.now args.count has-only.result has-only.ensures id.result translate.result
-    id.ensures translate.ensures c.if-has_only-id.true
+-- other attributes: None
+pub returns-then-not-has_only : goal.returns-then-not-has_only
+unfolding ByAttributes read_sm
+returns-then-not-has_only c = λ ats s. rw (← c.has_only.ensures ats s, not-true _ c.if-not-has_only.true-raw) refl
 
--- Inline::Single(Item::AnnotationStart(Form::S, id, translate))
+-- no id: None
+pub returns-in_err-id : goal.returns-in_err-id
+unfolding ByAttributes BySlots words_of with read_sm
+returns-in_err-id c =
+    λ ats s.
+    rw (c.from_residual.ensures, ← c.has_only.ensures ats s, not-false _ c.if-not-has_only.false-raw, ← c.in_err-id.ensures ats s.told) refl
+
+-- no letter: None
+pub returns-in_err-translate : goal.returns-in_err-translate
+unfolding ByAttributes BySlots words_of with read_sm
+returns-in_err-translate c =
+    λ ats s.
+    rw (c.from_residual-in_err-translate.ensures, ← c.has_only.ensures ats s, not-false _ c.if-not-has_only.false-raw, ← c.in_ok-id.ensures ats s.told, ← c.in_err-translate.ensures ats s.told) refl
+
+-- Some(Inline::Single(Item::AnnotationStart(Form::S, id, translate)))
 pub returns : goal.returns
+unfolding ByAttributes BySlots words_of with read_sm
 returns c =
-    let has-only = c.has_only in
-    let translate = c.letter-translate in
-    let id = c.required_number-id in
-    let args = c.args in
-    sm_some args.slots.now args.count has-only.result has-only.ensures id.result translate.result
-    id.ensures translate.ensures c.if-has_only-id.false
+    λ ats s.
+    rw (← c.has_only.ensures ats s, not-false _ c.if-not-has_only.false-raw, ← c.in_ok-id.ensures ats s.told, ← c.in_ok-translate.ensures ats s.told) refl

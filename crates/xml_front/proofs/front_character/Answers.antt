@@ -3,36 +3,27 @@ use mathlib.Core.Bool.{true, false}
 use mathlib.Core.Path.{sym, ◌∙◌}
 use Rattle.xml_front.proofs.front_character.Goals as goal
 
--- width - 1
+-- c.width - 1
 pub overflow_sub-result : goal.overflow_sub-result
-overflow_sub-result c =
-    let text = c.args.text.now in
-    front_width text c.char_of.ensures c.in-Point.is
+overflow_sub-result c = front_width c.args.text.now c.char_of.ensures c.in-Some.is
 
--- return Front::Found(c, width - 1)
-pub returns-then-xml_char : goal.returns-then-xml_char
-returns-then-xml_char c =
+-- Some(c) if xml_char(c.point) => Ok(Front { .. })
+pub returns-in-Some : goal.returns-in-Some
+returns-in-Some c =
     let text = c.args.text.now in
-    front_found text c.char_of.ensures c.in-Point.is
-    (sym c.xml_char.ensures ∙ c.if-xml_char.true)
+    front_found text c.char_of.ensures c.in-Some.is (sym c.xml_char.ensures ∙ c.if-xml_char.true)
 
--- return Front::Cut
-pub returns-then-cut_in : goal.returns-then-cut_in
-returns-then-cut_in c =
-    let text = c.args.text.now in
-    front_bad text c.char_of.ensures true c.in-Bad.is
-    (sym c.if-cut_in.true ∙ c.cut_in.ensures)
+-- None if cut_in(text) => Err(Flaw::Cut)
+pub returns-in-None : goal.returns-in-None
+returns-in-None c =
+    front_bad c.args.text.now c.char_of.ensures true c.in-None.is (sym c.if-cut_in.true ∙ c.cut_in.ensures)
 
--- Front::Wrong, for a character that XML forbids
-pub returns-else-xml_char : goal.returns-else-xml_char
-returns-else-xml_char c =
-    let text = c.args.text.now in
-    front_forbidden text c.char_of.ensures c.in-Point.is
-    (sym c.xml_char.ensures ∙ c.if-xml_char.false)
+-- _ => Err(Flaw::Wrong), for a character that XML forbids
+pub returns-in_default : goal.returns-in_default
+returns-in_default c =
+    front_forbidden c.args.text.now c.char_of.ensures c.in-Some.is (sym c.xml_char.ensures ∙ c.if-xml_char.false)
 
--- Front::Wrong, for no character
-pub returns-else-cut_in : goal.returns-else-cut_in
-returns-else-cut_in c =
-    let text = c.args.text.now in
-    front_bad text c.char_of.ensures false c.in-Bad.is
-    (sym c.if-cut_in.false ∙ c.cut_in.ensures)
+-- _ => Err(Flaw::Wrong), for no character
+pub returns-in_default-2 : goal.returns-in_default-2
+returns-in_default-2 c =
+    front_bad c.args.text.now c.char_of.ensures false c.in-None.is (sym c.if-cut_in.false ∙ c.cut_in.ensures)

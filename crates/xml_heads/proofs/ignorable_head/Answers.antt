@@ -1,38 +1,41 @@
-use mathlib.Core.Bool.{not}
 use mathlib.Core.Path.{refl}
-use native.Mathlib.Omega.{arith}
+use borrow.Author.Tests.{not-true, not-false}
 use Rattle.xliff.specs.Bytes.{among}
-use Rattle.xml_elements.specs.Reading.{apart}
-use Rattle.xml_elements.proofs.CodeLaws.{below}
-use Rattle.xml_heads.proofs.HeadLaws.{ignorable_none, ignorable_some}
+use Rattle.xml.specs.Attributes.{with}
+use Rattle.xml.specs.Elements.{ignorable_head}
+use Rattle.xml_slots.specs.Slots.{ByAttributes}
+use Rattle.xml_elements.specs.Reading.{apart, BySlots, words_of}
 use Rattle.xml_heads.proofs.ignorable_head.Goals as goal
 
--- has_only(slots, count, &[ID]): none of them twice
+-- has_only(..): none of the slots twice
 pub has_only-requires : goal.has_only-requires
 unfolding apart among
 has_only-requires c = (c.requires, refl)
 
--- return Head::Bad
-pub returns-then-has_only-id : goal.returns-then-has_only-id
-returns-then-has_only-id c =
-    let has-only = c.has_only in
-    let id = c.optional_number-id in
-    let args = c.args in
-    ignorable_none args.slots.now args.count has-only.result has-only.ensures id.result id.ensures
-    c.if-has_only-id.true
+-- other attributes: None
+pub returns-then-not-has_only : goal.returns-then-not-has_only
+unfolding ByAttributes ignorable_head
+returns-then-not-has_only c = λ ats s. rw (← c.has_only.ensures ats s, not-true _ c.if-not-has_only.true-raw) refl
 
--- id as u16
-pub overflow_cast-result : goal.overflow_cast-result
-overflow_cast-result c =
-    let has-only = c.has_only in
-    let id = c.optional_number-id in
-    omega (arith, below (not has-only.result) id.result c.if-has_only-id.false)
+-- no id: None
+pub returns-in_err-id : goal.returns-in_err-id
+unfolding ByAttributes BySlots words_of with ignorable_head
+returns-in_err-id c =
+    λ ats s.
+    rw (
+      c.from_residual.ensures,
+      ← c.has_only.ensures ats s,
+      not-false _ c.if-not-has_only.false-raw,
+      ← c.in_err-id.ensures ats s.told,
+    ) refl
 
--- Head::Ignorable(id as u16)
+-- Some(Head::Ignorable(id))
 pub returns : goal.returns
+unfolding ByAttributes BySlots words_of with ignorable_head
 returns c =
-    let has-only = c.has_only in
-    let id = c.optional_number-id in
-    let args = c.args in
-    ignorable_some args.slots.now args.count has-only.result has-only.ensures id.result id.ensures
-    c.if-has_only-id.false
+    λ ats s.
+    rw (
+      ← c.has_only.ensures ats s,
+      not-false _ c.if-not-has_only.false-raw,
+      ← c.in_ok-id.ensures ats s.told,
+    ) refl

@@ -20,7 +20,7 @@ returns-then-is_word-2 c =
     let is = sym c.is_word-2.ensures ∙ c.if-is_word-2.true in
     is_ignorable args.name.now args.slots.now args.count _ not-segment is c.ignorable_head.ensures
 
--- Head::Bad
+-- None
 pub returns : goal.returns
 unfolding Words·all
 returns c =

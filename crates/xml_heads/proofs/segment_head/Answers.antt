@@ -1,53 +1,70 @@
-use mathlib.Core.Bool.{not}
 use mathlib.Core.Path.{refl}
-use native.Mathlib.Omega.{arith}
+use borrow.Author.Tests.{not-true, not-false}
 use Rattle.xliff.specs.Bytes.{among}
-use Rattle.xml_elements.specs.Reading.{apart}
-use Rattle.xml_elements.proofs.CodeLaws.{below}
-use Rattle.xml_heads.proofs.HeadLaws.{segment_other, segment_none, segment_some}
+use Rattle.xml.specs.Attributes.{with}
+use Rattle.xml.specs.Elements.{segment_head}
+use Rattle.xml_slots.specs.Slots.{ByAttributes}
+use Rattle.xml_elements.specs.Reading.{apart, BySlots, words_of}
 use Rattle.xml_heads.proofs.segment_head.Goals as goal
 
--- has_only(slots, count, &[ID, CAN_RESEGMENT, STATE]): none of them twice
+-- has_only(..): none of the slots twice
 pub has_only-requires : goal.has_only-requires
 unfolding apart among
 has_only-requires c = (c.requires, refl)
 
--- return Head::Bad: another attribute, or no good id
-pub returns-then-has_only-id : goal.returns-then-has_only-id
-returns-then-has_only-id c =
-    let has-only = c.has_only in
-    let state = c.letter-state in
-    let can-resegment = c.letter-can_resegment in
-    let id = c.optional_number-id in
-    let args = c.args in
-    segment_other args.slots.now args.count has-only.result has-only.ensures id.result can-resegment.result
-    state.result id.ensures can-resegment.ensures state.ensures c.if-has_only-id.true
+-- other attributes: None
+pub returns-then-not-has_only : goal.returns-then-not-has_only
+unfolding ByAttributes segment_head
+returns-then-not-has_only c = λ ats s. rw (← c.has_only.ensures ats s, not-true _ c.if-not-has_only.true-raw) refl
 
--- return Head::Bad: a letter is not good
-pub returns-then-can_resegment-state : goal.returns-then-can_resegment-state
-returns-then-can_resegment-state c =
-    let has-only = c.has_only in
-    let state = c.letter-state in
-    let can-resegment = c.letter-can_resegment in
-    let id = c.optional_number-id in
-    let args = c.args in
-    segment_none args.slots.now args.count has-only.result has-only.ensures id.result can-resegment.result
-    state.result id.ensures can-resegment.ensures state.ensures c.if-has_only-id.false c.if-can_resegment-state.true
+-- no id: None
+pub returns-in_err-id : goal.returns-in_err-id
+unfolding ByAttributes BySlots words_of with segment_head
+returns-in_err-id c =
+    λ ats s.
+    rw (
+      c.from_residual.ensures,
+      ← c.has_only.ensures ats s,
+      not-false _ c.if-not-has_only.false-raw,
+      ← c.in_err-id.ensures ats s.told,
+    ) refl
 
--- id as u16
-pub overflow_cast-result : goal.overflow_cast-result
-overflow_cast-result c =
-    let has-only = c.has_only in
-    let id = c.optional_number-id in
-    omega (arith, below (not has-only.result) id.result c.if-has_only-id.false)
+-- no canResegment: None
+pub returns-in_err-can_resegment : goal.returns-in_err-can_resegment
+unfolding ByAttributes BySlots words_of with segment_head
+returns-in_err-can_resegment c =
+    λ ats s.
+    rw (
+      c.from_residual-in_err-can_resegment.ensures,
+      ← c.has_only.ensures ats s,
+      not-false _ c.if-not-has_only.false-raw,
+      ← c.in_ok-id.ensures ats s.told,
+      ← c.in_err-can_resegment.ensures ats s.told,
+    ) refl
 
--- Head::Segment(Segment { .. })
+-- no state: None
+pub returns-in_err-state : goal.returns-in_err-state
+unfolding ByAttributes BySlots words_of with segment_head
+returns-in_err-state c =
+    λ ats s.
+    rw (
+      c.from_residual-in_err-state.ensures,
+      ← c.has_only.ensures ats s,
+      not-false _ c.if-not-has_only.false-raw,
+      ← c.in_ok-id.ensures ats s.told,
+      ← c.in_ok-can_resegment.ensures ats s.told,
+      ← c.in_err-state.ensures ats s.told,
+    ) refl
+
+-- Some(Head::Segment(Segment { .. }))
 pub returns : goal.returns
+unfolding ByAttributes BySlots words_of with segment_head
 returns c =
-    let has-only = c.has_only in
-    let state = c.letter-state in
-    let can-resegment = c.letter-can_resegment in
-    let id = c.optional_number-id in
-    let args = c.args in
-    segment_some args.slots.now args.count has-only.result has-only.ensures id.result can-resegment.result
-    state.result id.ensures can-resegment.ensures state.ensures c.if-has_only-id.false c.if-can_resegment-state.false
+    λ ats s.
+    rw (
+      ← c.has_only.ensures ats s,
+      not-false _ c.if-not-has_only.false-raw,
+      ← c.in_ok-id.ensures ats s.told,
+      ← c.in_ok-can_resegment.ensures ats s.told,
+      ← c.in_ok-state.ensures ats s.told,
+    ) refl

@@ -3,7 +3,7 @@ use native.Mathlib.Omega.{arith}
 use Rattle.xliff.specs.Bytes.{among}
 use Rattle.xml_elements.specs.Reading.{apart}
 use Rattle.xml_elements.proofs.SlotLaws.{told_long}
-use Rattle.xml_heads.proofs.HeadLaws.{order_other, order_absent, order_bad, order_given}
+use Rattle.xml_heads.proofs.HeadLaws.{order_other, order_absent, order_there}
 use Rattle.xml_heads.proofs.target_order.Goals as goal
 
 -- slots[ORDER]
@@ -17,33 +17,37 @@ pub has_only-requires : goal.has_only-requires
 unfolding apart among
 has_only-requires c = (c.requires, refl)
 
--- return Order::Bad: another attribute
+-- other attributes: None
 pub returns-then-not-has_only : goal.returns-then-not-has_only
 returns-then-not-has_only c =
     let has-only = c.has_only in
     let args = c.args in
     λ position. order_other args.slots.now args.count has-only.result has-only.ensures position c.if-not-has_only.true-raw
 
--- return Order::Absent
-pub returns-then-order-eq-ABSENT : goal.returns-then-order-eq-ABSENT
-returns-then-order-eq-ABSENT c =
+-- return Some(None): no order is there
+pub returns-then-slots-eq-ABSENT : goal.returns-then-slots-eq-ABSENT
+returns-then-slots-eq-ABSENT c =
     let has-only = c.has_only in
     let args = c.args in
-    λ position. order_absent args.slots.now args.count has-only.result has-only.ensures position
-    c.if-not-has_only.false-raw c.if-order-eq-ABSENT.true
+    λ position.
+    order_absent args.slots.now args.count has-only.result has-only.ensures position c.if-not-has_only.false-raw
+    c.if-slots-eq-ABSENT.true
 
--- return Order::Bad: no good order
-pub returns-then-order-ge-BAD : goal.returns-then-order-ge-BAD
-returns-then-order-ge-BAD c =
+-- no good order: None
+pub returns-in_err-order : goal.returns-in_err-order
+returns-in_err-order c =
     let has-only = c.has_only in
     let args = c.args in
-    λ position. order_bad args.slots.now args.count has-only.result has-only.ensures position
-    c.if-not-has_only.false-raw c.if-order-eq-ABSENT.false c.if-order-ge-BAD.true
+    λ position.
+    rw c.from_residual.ensures
+    (order_there args.slots.now args.count has-only.result has-only.ensures position c.if-not-has_only.false-raw
+    c.if-slots-eq-ABSENT.false _ c.in_err-order.ensures)
 
--- Order::Given(order as u16)
+-- Some(Some(order))
 pub returns : goal.returns
 returns c =
     let has-only = c.has_only in
     let args = c.args in
-    λ position. order_given args.slots.now args.count has-only.result has-only.ensures position
-    c.if-not-has_only.false-raw c.if-order-eq-ABSENT.false c.if-order-ge-BAD.false
+    λ position.
+    order_there args.slots.now args.count has-only.result has-only.ensures position c.if-not-has_only.false-raw
+    c.if-slots-eq-ABSENT.false _ c.in_ok-order.ensures

@@ -1,30 +1,43 @@
 use mathlib.Core.Path.{refl}
+use borrow.Author.Tests.{not-true, not-false}
 use Rattle.xliff.specs.Bytes.{among}
-use Rattle.xml_elements.specs.Reading.{apart}
-use Rattle.xml_heads.proofs.HeadLaws.{unit_none, unit_some}
+use Rattle.xml.specs.Attributes.{with}
+use Rattle.xml.specs.Elements.{unit_opening}
+use Rattle.xml_slots.specs.Slots.{ByAttributes}
+use Rattle.xml_elements.specs.Reading.{apart, BySlots, words_of}
+use Rattle.xml_heads.proofs.HeadLaws.{opening_is}
 use Rattle.xml_heads.proofs.unit_opening.Goals as goal
 
--- has_only(slots, count, &[ID, CAN_RESEGMENT]): none of them twice
+-- has_only(..): none of the slots twice
 pub has_only-requires : goal.has_only-requires
 unfolding apart among
 has_only-requires c = (c.requires, refl)
 
--- return UnitRead::Bad
-pub returns-then-has_only-id : goal.returns-then-has_only-id
-returns-then-has_only-id c =
-    let has-only = c.has_only in
-    let can-resegment = c.letter-can_resegment in
-    let id = c.required_number-id in
-    let args = c.args in
-    unit_none args.slots.now args.count has-only.result has-only.ensures id.result can-resegment.result
-    id.ensures can-resegment.ensures c.if-has_only-id.true
+-- other attributes: None
+pub returns-then-not-has_only : goal.returns-then-not-has_only
+unfolding ByAttributes unit_opening
+returns-then-not-has_only c = λ ats s. rw (← c.has_only.ensures ats s, not-true _ c.if-not-has_only.true-raw) refl
 
--- UnitRead::Good(can_resegment)
+-- no id: None
+pub returns-in_err-_id : goal.returns-in_err-_id
+unfolding ByAttributes BySlots words_of with unit_opening
+returns-in_err-_id c =
+    λ ats s.
+    rw (
+      c.from_residual.ensures,
+      ← c.has_only.ensures ats s,
+      not-false _ c.if-not-has_only.false-raw,
+      ← c.in_err-_id.ensures ats s.told,
+    ) refl
+
+-- letter(slots, CAN_RESEGMENT, b'Y')
 pub returns : goal.returns
+unfolding ByAttributes BySlots words_of with unit_opening
 returns c =
-    let has-only = c.has_only in
-    let can-resegment = c.letter-can_resegment in
-    let id = c.required_number-id in
-    let args = c.args in
-    unit_some args.slots.now args.count has-only.result has-only.ensures id.result can-resegment.result
-    id.ensures can-resegment.ensures c.if-has_only-id.false
+    λ ats s.
+    rw (
+      ← c.has_only.ensures ats s,
+      not-false _ c.if-not-has_only.false-raw,
+      ← c.in_ok-_id.ensures ats s.told,
+      ← c.letter.ensures ats s.told,
+    ) (opening_is c.letter.result)

@@ -6,13 +6,13 @@ use Rattle.xml_tags.proofs.TagLaws.{value_as}
 use Rattle.xml_items.proofs.ItemLaws.{four_digits}
 use Rattle.xml_items.proofs.put_character.Goals as goal
 
--- draft::put(out, told, b"/>")
+-- draft.put(b"/>")
 pub returns : goal.returns
 unfolding item_text short_tag hex_byte 'cp' 'hex' codes
 returns c =
-    let put2 = c.put in
-    let put-attribute = c.put_attribute-told in
-    let put = c.put-opened in
+    let put2 = c.put-2 in
+    let put-attribute = c.put_attribute in
+    let put = c.put in
     let hex-digit4 = c.hex_digit-fourth in
     let hex-digit3 = c.hex_digit-third in
     let hex-digit2 = c.hex_digit-second in

@@ -8,6 +8,6 @@ pub returns : goal.returns
 unfolding 'copyOf' codes
 returns c =
     let put-unless-zero = c.put_unless_zero in
-    let put-number = c.put_number-named in
-    let put = c.put-opened in
+    let put-number = c.put_number in
+    let put = c.put in
     wrote_then put.ensures (attributes_then _ _ put-number.ensures put-unless-zero.ensures)

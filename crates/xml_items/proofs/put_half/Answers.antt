@@ -7,15 +7,15 @@ use Rattle.xml_tags.proofs.TagLaws.{attributes_then}
 use Rattle.xml_items.proofs.ItemLaws.{code_closed}
 use Rattle.xml_items.proofs.put_half.Goals as goal
 
--- draft::put(out, told, b"/>")
+-- draft.put(b"/>")
 pub returns : goal.returns
 unfolding half_attributes 'dataRef' 'isolated' codes
 returns c =
     let put = c.put in
-    let put-attribute = c.put_attribute-told in
-    let put-hints = c.put_hints-hinted in
-    let put-unless-zero = c.put_unless_zero-data in
-    let put-code-start = c.put_code_start-opened in
+    let put-attribute = c.put_attribute in
+    let put-hints = c.put_hints in
+    let put-unless-zero = c.put_unless_zero in
+    let put-code-start = c.put_code_start in
     let args = c.args in
     let f = fields args.f in
     let told = attribute 'isolated' args.isolated.now in

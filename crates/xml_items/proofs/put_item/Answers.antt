@@ -4,75 +4,43 @@ use Rattle.xml.specs.Write.{item_text}
 use Rattle.xml_items.proofs.ItemLaws.{isolated_any, start_any, end_any}
 use Rattle.xml_items.proofs.put_item.Goals as goal
 
--- put_character(out, draft, c)
+-- put_character(draft, c)
 pub put_character-requires : goal.put_character-requires
-put_character-requires c =
-    let pre = c.requires in
-    (pre.0, rw c.in-Character.is at pre.1)
+put_character-requires c = rw c.in-Character.is at c.requires
 
--- put_standalone(out, draft, f)
-pub put_standalone-requires : goal.put_standalone-requires
-put_standalone-requires c =
-    let pre = c.requires in
-    pre.0
-
--- put_isolated(out, draft, h, f)
-pub put_isolated-requires : goal.put_isolated-requires
-put_isolated-requires c =
-    let pre = c.requires in
-    pre.0
-
--- put_pair(out, draft, w, h, f, end_data)
-pub put_pair-requires : goal.put_pair-requires
-put_pair-requires c =
-    let pre = c.requires in
-    pre.0
-
--- put_annotation_start(out, draft, w, id, translate)
-pub put_annotation_start-requires : goal.put_annotation_start-requires
-put_annotation_start-requires c =
-    let pre = c.requires in
-    pre.0
-
--- put_annotation_end(out, draft, w, id)
-pub put_annotation_end-requires : goal.put_annotation_end-requires
-put_annotation_end-requires c =
-    let pre = c.requires in
-    pre.0
-
--- put_character(out, draft, c)
+-- put_character(draft, c)
 pub returns-in-Character : goal.returns-in-Character
 unfolding item_text
 returns-in-Character c =
     let put-character = c.put_character in
     rw c.in-Character.is (λ after e. put-character.ensures)
 
--- put_standalone(out, draft, f)
+-- put_standalone(draft, f)
 pub returns-in-Standalone : goal.returns-in-Standalone
 unfolding item_text
 returns-in-Standalone c =
     let put-standalone = c.put_standalone in
     rw c.in-Standalone.is (λ after e. put-standalone.ensures)
 
--- put_isolated(out, draft, h, f)
+-- put_isolated(draft, h, f)
 pub returns-in-Isolated : goal.returns-in-Isolated
 returns-in-Isolated c =
     let put-isolated = c.put_isolated in
     rw c.in-Isolated.is (λ after e. wrote_as (isolated_any (half c.in-Isolated.h) (fields c.in-Isolated.f) after) put-isolated.ensures)
 
--- put_pair(out, draft, w, h, f, end_data)
+-- put_pair(draft, w, h, f, end_data)
 pub returns-in-Pair : goal.returns-in-Pair
 returns-in-Pair c =
     let put-pair = c.put_pair in
     rw c.in-Pair.is put-pair.ensures
 
--- put_annotation_start(out, draft, w, id, translate)
+-- put_annotation_start(draft, w, id, translate)
 pub returns-in-AnnotationStart : goal.returns-in-AnnotationStart
 returns-in-AnnotationStart c =
     let put-annotation-start = c.put_annotation_start in
     rw c.in-AnnotationStart.is (λ after e. wrote_as (start_any (form c.in-AnnotationStart.w) c.in-AnnotationStart.id c.in-AnnotationStart.translate after) put-annotation-start.ensures)
 
--- put_annotation_end(out, draft, w, id)
+-- put_annotation_end(draft, w, id)
 pub returns-in-AnnotationEnd : goal.returns-in-AnnotationEnd
 returns-in-AnnotationEnd c =
     let put-annotation-end = c.put_annotation_end in

@@ -3,13 +3,13 @@ use Rattle.table.specs.Meaning.{fields, half}
 use Rattle.xml_items.proofs.ItemLaws.{pair_any}
 use Rattle.xml_items.proofs.put_pair.Goals as goal
 
--- put_pair_p(out, draft, h, f, end_data)
+-- put_pair_p(draft, h, f, end_data)
 pub returns-in-P : goal.returns-in-P
 returns-in-P c =
     let put-pair-p = c.put_pair_p in
     rw c.in-P.is put-pair-p.ensures
 
--- put_pair_s(out, draft, h, f)
+-- put_pair_s(draft, h, f)
 pub returns-in-S : goal.returns-in-S
 returns-in-S c =
     let put-pair-s = c.put_pair_s in

@@ -6,7 +6,7 @@ use Rattle.xml.specs.Words.{'pc', codes}
 use Rattle.xml.specs.Write.{item_text, opening_tag, closing_tag, pc_attributes}
 use Rattle.xml_items.proofs.put_pair_p.Goals as goal
 
--- put_pc(out, draft, f, end_data)
+-- put_pc(draft, f, end_data)
 pub returns-in-Start : goal.returns-in-Start
 unfolding item_text
 returns-in-Start c =
@@ -15,7 +15,7 @@ returns-in-Start c =
     rw c.in-Start.is
     (λ after e. wrote_as (ap (λ (n : ℕ). opening_tag 'pc' (pc_attributes (fields args.f) n)) (sym e)) put-pc.ensures)
 
--- draft::put(out, draft, b"</pc>")
+-- draft.put(b"</pc>")
 pub returns-in-End : goal.returns-in-End
 unfolding item_text closing_tag 'pc' codes
 returns-in-End c =

@@ -2,14 +2,14 @@ use Rattle.xml.specs.Words.{'sc', 'ec', 'id', 'startRef', 'no', codes}
 use Rattle.xml.specs.Write.{item_text, short_tag}
 use Rattle.xml_items.proofs.put_pair_s.Goals as goal
 
--- put_half(out, draft, b"<sc", b"id", b"no", f)
+-- put_half(draft, b"<sc", b"id", b"no", f)
 pub returns-in-Start : goal.returns-in-Start
 unfolding item_text short_tag 'sc' 'id' 'no' codes
 returns-in-Start c =
     let put-half = c.put_half in
     rw c.in-Start.is put-half.ensures
 
--- put_half(out, draft, b"<ec", b"startRef", b"no", f)
+-- put_half(draft, b"<ec", b"startRef", b"no", f)
 pub returns-in-End : goal.returns-in-End
 unfolding item_text short_tag 'ec' 'startRef' 'no' codes
 returns-in-End c =

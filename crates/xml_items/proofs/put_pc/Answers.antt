@@ -8,15 +8,15 @@ use Rattle.xml_tags.proofs.TagLaws.{attributes_then}
 use Rattle.xml_items.proofs.ItemLaws.{code_closed}
 use Rattle.xml_items.proofs.put_pc.Goals as goal
 
--- draft::put(out, hinted, b">")
+-- draft.put(b">")
 pub returns : goal.returns
 unfolding opening_tag pc_attributes 'pc' 'id' 'dataRefStart' 'dataRefEnd' codes
 returns c =
     let put = c.put in
-    let put-hints = c.put_hints-hinted in
-    let put-unless-zero2 = c.put_unless_zero-end in
-    let put-unless-zero = c.put_unless_zero-start in
-    let put-code-start = c.put_code_start-opened in
+    let put-hints = c.put_hints in
+    let put-unless-zero2 = c.put_unless_zero-2 in
+    let put-unless-zero = c.put_unless_zero in
+    let put-code-start = c.put_code_start in
     let args = c.args in
     let f = fields args.f in
     let end = unless_zero 'dataRefEnd' args.end_data in

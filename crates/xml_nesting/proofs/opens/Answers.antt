@@ -1,11 +1,13 @@
-use mathlib.Core.Path.{◌∙◌}
-use Rattle.xml_nesting.proofs.StepLaws.{item_opens}
+use mathlib.Core.Path.{sym, ap, ◌∙◌}
+use Rattle.xml_nesting.specs.Nesting.{is_opening}
+use Rattle.xml_nesting.proofs.StepLaws.{item_opens, not_opening}
 use Rattle.xml_nesting.proofs.opens.Goals as goal
 
--- is_opening(item_step(i))
-pub returns : goal.returns
-returns c =
-    let is_opening = c.is_opening in
-    let item_step = c.item_step in
-    let args = c.args in
-    is_opening.ensures ∙ item_opens args.i item_step.result item_step.ensures
+-- Step::Opens
+pub returns-in-Opens : goal.returns-in-Opens
+returns-in-Opens c = ap is_opening (sym c.in-Opens.is) ∙ item_opens c.args.i c.item_step.result c.item_step.ensures
+
+-- another step
+pub returns-in_default : goal.returns-in_default
+returns-in_default c =
+    not_opening c.item_step.result c.in_default.not-Opens ∙ item_opens c.args.i c.item_step.result c.item_step.ensures

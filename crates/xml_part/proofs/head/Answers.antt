@@ -1,94 +1,35 @@
-use mathlib.Core.Path.{refl}
-use Rattle.xml.specs.Elements.{part_due, cut_short}
-use Rattle.xml_names.specs.Names.{bytes_between}
+use Rattle.std.proofs.lemmas.Result.{err_from_is_err_and}
 use Rattle.xml_attributes.proofs.SlotLaws.{all_absent}
 use Rattle.xml_part.specs.Parts.{HeadSteps}
-use Rattle.xml_part.proofs.TagSteps.{tag_cut, tag_fault, some_slots}
-use Rattle.xml_part.proofs.HeadLaws.{head_short, head_bad, segment_headed, ignorable_headed}
+use Rattle.xml_part.proofs.HeadLaws.{head_short, head_bad, head_read}
+use Rattle.xml_part.proofs.TagSteps.{part_tag, tag_bad}
 use Rattle.xml_part.proofs.head.Goals as goal
 
--- read_attributes(text, upto, &mut slots)
-pub read_attributes-requires : goal.read_attributes-requires
-read_attributes-requires c = (c.requires.0.inside, all_absent)
+-- attributes_at(text, tag, &mut slots)
+pub attributes_at-requires : goal.attributes_at-requires
+attributes_at-requires c = (c.requires, all_absent)
 
--- if short: return Went::Bad(place)
-pub returns-then-short : goal.returns-then-short
-returns-then-short c =
-    let args = c.args in
-    let text = args.text.now in
-    let name = bytes_between text args.from args.upto in
-    let tag = c.read_attributes in
-    head_short text args.place name args.upto tag.new.slots tag.result tag.ensures c.in-Whole.is
-    args.table.now args.built c.if-short.true
-
--- part_head(&text[from..upto], &slots, count)
-pub part_head-requires : goal.part_head-requires
-part_head-requires c =
-    let args = c.args in
-    let text = args.text.now in
-    let name = bytes_between text args.from args.upto in
-    let tag = c.read_attributes in
-    some_slots text args.place name args.upto tag.new.slots tag.result tag.ensures c.in-Whole.is
-
--- Head::Segment(f) => Went::On(next, put_segment(table, built, f))
-pub returns-in-Segment : goal.returns-in-Segment
-returns-in-Segment c =
-    let args = c.args in
-    let text = args.text.now in
-    let name = bytes_between text args.from args.upto in
-    let tag = c.read_attributes in
-    let head = c.part_head in
-    let put = c.put_segment in
-    segment_headed text args.place name args.upto tag.new.slots tag.result tag.ensures
-    c.in-Whole.is
-    c.if-short.false head.result head.ensures args.table.now put.new.table args.built put.result
-    c.in-Segment.is
-    put.ensures
-
--- Head::Ignorable(id) => Went::On(next, put_ignorable(table, built, id))
-pub returns-in-Ignorable : goal.returns-in-Ignorable
-returns-in-Ignorable c =
-    let args = c.args in
-    let text = args.text.now in
-    let name = bytes_between text args.from args.upto in
-    let tag = c.read_attributes in
-    let head = c.part_head in
-    let put = c.put_ignorable in
-    ignorable_headed text args.place name args.upto tag.new.slots tag.result tag.ensures
-    c.in-Whole.is
-    c.if-short.false head.result head.ensures args.table.now put.new.table args.built put.result
-    c.in-Ignorable.is
-    put.ensures
-
--- Head::Bad => Went::Bad(place)
-pub returns-in-Bad : goal.returns-in-Bad
-returns-in-Bad c =
-    let args = c.args in
-    let text = args.text.now in
-    let name = bytes_between text args.from args.upto in
-    let tag = c.read_attributes in
-    let head = c.part_head in
-    head_bad text args.place name args.upto tag.new.slots tag.result tag.ensures c.in-Whole.is
-    c.if-short.false head.result head.ensures args.table.now args.built c.in-Bad.is
-
--- Tagged::Cut => Went::Bad(text.len())
-pub returns-in-Cut : goal.returns-in-Cut
-unfolding HeadSteps cut_short
-returns-in-Cut c k =
-    let args = c.args in
-    let text = args.text.now in
-    let name = bytes_between text args.from args.upto in
-    let tag = c.read_attributes in
-    tag_cut text args.place name args.upto tag.new.slots tag.result tag.ensures c.in-Cut.is
-    (part_due k) refl
-
--- Tagged::Fault => Went::Bad(place)
-pub returns-in-Fault : goal.returns-in-Fault
+-- attributes_at(..)?: the tag is at fault
+pub returns-in_err-tagged : goal.returns-in_err-tagged
 unfolding HeadSteps
-returns-in-Fault c k =
-    let args = c.args in
-    let text = args.text.now in
-    let name = bytes_between text args.from args.upto in
-    let tag = c.read_attributes in
-    tag_fault text args.place name args.upto tag.new.slots tag.result tag.ensures c.in-Fault.is
-    (part_due k)
+returns-in_err-tagged c k =
+    let p = err_from_is_err_and c.from_residual.result c.from_residual.ensures.1 in
+    rw (p.1, p.2) (tag_bad c.args.text.now c.args.tag c.in_err-tagged.ensures _ (part_tag k))
+
+-- in the short form: Err(Blamed { place: tag.place })
+pub returns-then-tagged : goal.returns-then-tagged
+returns-then-tagged c =
+    head_short c.args.text.now c.args.tag c.attributes_at.new.slots c.in_ok-tagged.tagged c.in_ok-tagged.ensures
+    _ _ c.if-tagged.true
+
+-- no head: Err(Blamed { place: tag.place })
+pub returns-in_default : goal.returns-in_default
+returns-in_default c =
+    head_bad c.args.text.now c.args.tag c.attributes_at.new.slots c.in_ok-tagged.tagged c.in_ok-tagged.ensures
+    c.if-tagged.false _ _ (rw c.of.ensures at c.in_default.ensures)
+
+-- Ok(tagged.next)
+pub returns : goal.returns
+returns c =
+    head_read c.args.text.now c.args.tag c.attributes_at.new.slots c.in_ok-tagged.tagged c.in_ok-tagged.ensures
+    c.if-tagged.false _ (rw c.of.ensures at c.in-Some.ensures) c.put_head.ensures

@@ -1,93 +1,55 @@
+use Rattle.std.proofs.lemmas.Result.{err_from_is_err_and}
 use mathlib.Core.Path.{refl, sym, ◌∙◌}
 use mathlib.Core.List.{[]}
-use Rattle.xml.specs.Elements.{part_due, part_end_due, opened, closed, cut_short, finished, turn, outside}
-use Rattle.xml_names.specs.Names.{bytes_between}
+use borrow.Author.Tests.{not-true, not-false}
+use Rattle.xml.specs.Elements.{part_due, part_end_due, outside, opened, closed, turn}
+use Rattle.xml_element.specs.Opens.{spelled, TagBlamed}
 use Rattle.xml_passages.proofs.OuterLaws.{targeted_part_closes}
-use Rattle.xml_element.specs.Opens.{TagBlamed}
-use Rattle.xml_part.specs.Parts.{PartEnds}
-use Rattle.xml_part.proofs.StepLaws.{start_name, start_bad, end_tag_in, end_leads, end_bad, cut_bad, fault_bad, over_bad}
+use Rattle.xml_part.specs.Parts.{Missing, PartEnds}
+use Rattle.xml_part.proofs.StepLaws.{start_bad, end_leads, end_bad}
+use Rattle.xml_part.proofs.TagSteps.{part_end_tag}
 use Rattle.xml_part.proofs.part_end.Goals as goal
 
--- blamed_tag(text, place, name_upto)
-pub blamed_tag-requires : goal.blamed_tag-requires
-blamed_tag-requires c =
-    let outer = c.outer_at in
-    (start_name c.args.text.now c.args.start outer.result outer.ensures
-    c.in-Start.is).inside
+-- tag_behind(text, start)?: no tag
+pub returns-in_err-tag : goal.returns-in_err-tag
+unfolding PartEnds Missing
+returns-in_err-tag c k =
+    let p = err_from_is_err_and c.from_residual.result c.from_residual.ensures.1 in
+    rw (p.1, p.2) (c.in_err-tag.ensures _ (part_end_tag k (spelled c.args.text.now c.args.name)))
 
--- ends_name(text, from, upto, end)
-pub ends_name-requires : goal.ends_name-requires
-ends_name-requires c =
-    let outer = c.outer_at in (
-      c.requires.1,
-      (end_tag_in c.args.text.now c.args.start outer.result outer.ensures
-          c.in-Close.is).name,
-    )
-
--- return Emptied::On(end.next)
-pub returns-then-ends_name : goal.returns-then-ends_name
-unfolding PartEnds
-returns-then-ends_name c k =
-    let args = c.args in
-    let text = args.text.now in
-    let name = bytes_between text args.from args.upto in
-    let outer = c.outer_at in
-    let end = c.in-Close.end in (
-      (end_tag_in text args.start outer.result outer.ensures c.in-Close.is).goes,
-      end_leads text args.start outer.result outer.ensures c.in-Close.is [] (part_end_due k name)
-          (part_due k)
-          (targeted_part_closes k name (bytes_between text end.from end.upto) end.place _
-          (sym c.ends_name.ensures ∙ c.if-ends_name.true)),
-    )
-
--- Outer::Start(..) => Emptied::Bad(blamed_tag(text, place, name_upto))
+-- a start tag: Err(blamed_tag(text, tag))
 pub returns-in-Start : goal.returns-in-Start
-unfolding PartEnds TagBlamed turn opened cut_short
+unfolding PartEnds TagBlamed turn opened
 returns-in-Start c k =
     let args = c.args in
     let text = args.text.now in
-    let name = bytes_between text args.from args.upto in
-    let outer = c.outer_at in
-    start_bad text args.start outer.result outer.ensures c.in-Start.is (part_end_due k name)
-    (c.blamed_tag.ensures _ (outside (part_end_due k name)) (λ ats. refl) refl)
+    let tag = c.in-Start.tag in
+    let found = rw c.in-Start.is at c.in_ok-tag.ensures in
+    let name = spelled text args.name in
+    start_bad text args.start tag _ found.2 (part_end_due k name)
+    (c.blamed_tag.ensures (spelled text tag.name) (outside (part_end_due k name)) (λ ats. refl)
+    ((part_end_tag k name).cut tag.place))
 
--- Emptied::Bad(end.place)
-pub returns-else-ends_name : goal.returns-else-ends_name
+-- return Err(Blamed { place: end.place }): the end tag of another name
+pub returns-then-not-ends_name : goal.returns-then-not-ends_name
 unfolding PartEnds closed
-returns-else-ends_name c k =
+returns-then-not-ends_name c k =
     let args = c.args in
-    let text = args.text.now in
-    let name = bytes_between text args.from args.upto in
-    let outer = c.outer_at in
-    end_bad text args.start outer.result outer.ensures c.in-Close.is (part_end_due k name)
-    (rw (sym c.ends_name.ensures ∙ c.if-ends_name.false) refl)
+    let found = rw c.in-Close.is at c.in_ok-tag.ensures in
+    end_bad args.text.now args.start c.in-Close.end found.1 (part_end_due k (spelled args.text.now args.name))
+    (rw (sym c.ends_name.ensures ∙ not-true _ c.if-not-ends_name.true-raw) refl)
 
--- Outer::Cut(place) => Emptied::Bad(text.len())
-pub returns-in-Cut : goal.returns-in-Cut
-unfolding PartEnds cut_short
-returns-in-Cut c k =
-    let args = c.args in
-    let text = args.text.now in
-    let name = bytes_between text args.from args.upto in
-    let outer = c.outer_at in
-    cut_bad text args.start outer.result outer.ensures c.in-Cut.is (part_end_due k name) refl
-
--- Outer::Bad(place) => Emptied::Bad(place)
-pub returns-in-Bad : goal.returns-in-Bad
+-- Ok(end.next)
+pub returns-else-not-ends_name : goal.returns-else-not-ends_name
 unfolding PartEnds
-returns-in-Bad c k =
+returns-else-not-ends_name c k =
     let args = c.args in
     let text = args.text.now in
-    let name = bytes_between text args.from args.upto in
-    let outer = c.outer_at in
-    fault_bad text args.start outer.result outer.ensures c.in-Bad.is (part_end_due k name)
-
--- Outer::End(place) => Emptied::Bad(place)
-pub returns-in-End : goal.returns-in-End
-unfolding PartEnds finished
-returns-in-End c k =
-    let args = c.args in
-    let text = args.text.now in
-    let name = bytes_between text args.from args.upto in
-    let outer = c.outer_at in
-    over_bad text args.start outer.result outer.ensures c.in-End.is (part_end_due k name) refl
+    let end = c.in-Close.end in
+    let name = spelled text args.name in
+    let found = rw c.in-Close.is at c.in_ok-tag.ensures in (
+      found.0.goes,
+      end_leads text args.start end found.1 [] (part_end_due k name) (part_due k)
+          (targeted_part_closes k name (spelled text end.name) end.place _
+          (sym c.ends_name.ensures ∙ not-false _ c.if-not-ends_name.false-raw)),
+    )

@@ -1,77 +1,31 @@
-use mathlib.Core.Path.{sym, ◌∙◌}
-use native.Mathlib.Omega.{arith}
-use Rattle.xml_part.proofs.SideLaws.{short_side, content_end, side_ends, side_other, side_at_fault}
+use Rattle.std.proofs.lemmas.Result.{err_from_is_err_and}
+use mathlib.Core.Path.{sym, ap, ◌∙◌}
+use borrow.Author.Tests.{not-true, not-false}
+use Rattle.xliff.specs.Bytes.{equal}
+use Rattle.xml_part.proofs.SideLaws.{short_side, side_ends, side_other, side_at_fault}
 use Rattle.xml_part.proofs.side.Goals as goal
 
--- if short: return Went::On(next, built)
-pub returns-then-short : goal.returns-then-short
-returns-then-short c =
-    let args = c.args in
-    let text = args.text.now in
-    let word = args.name.now in
-    let table = args.table.now in
-    short_side text args.next word table args.built c.requires.0 c.if-short.true
+-- return Ok(tagged.next), in the short form
+pub returns-then-tagged : goal.returns-then-tagged
+returns-then-tagged c =
+    short_side c.args.text.now c.args.tagged.next c.args.name.now c.requires c.args.builder.now c.if-tagged.true
 
--- text[from..upto], the name of the end tag
-pub slice_bounds-is_word-count : goal.slice_bounds-is_word-count
-slice_bounds-is_word-count c =
-    let args = c.args in
-    let content = c.content in
-    let ends =
-    content_end args.text.now args.next args.name.now args.table.now args.built content.new.table
-    content.result content.ensures c.if-short.false c.in-By.is in
-    omega (arith, ends.name.ordered, ends.name.inside)
+-- content(..)?: a place at fault
+pub returns-in_err-end : goal.returns-in_err-end
+returns-in_err-end c =
+    let p = err_from_is_err_and c.from_residual.result c.from_residual.ensures.1 in
+    rw (p.1, p.2)
+    (side_at_fault c.args.text.now c.args.tagged.next c.args.name.now c.if-tagged.false c.args.builder.now _ _
+    c.in_err-end.ensures)
 
-pub slice_bounds-is_word-start : goal.slice_bounds-is_word-start
-slice_bounds-is_word-start c =
-    let args = c.args in
-    let content = c.content in
-    let ends =
-    content_end args.text.now args.next args.name.now args.table.now args.built content.new.table
-    content.result content.ensures c.if-short.false c.in-By.is in
-    omega (arith, ends.name.ordered, ends.name.inside)
+-- return Err(Blamed { place: end.place }): the end tag of another name
+pub returns-then-not-is_word : goal.returns-then-not-is_word
+returns-then-not-is_word c =
+    side_other c.args.text.now c.args.tagged.next c.args.name.now c.if-tagged.false c.in_ok-end.end c.in_ok-end.ensures
+    (rw c.of.ensures at (sym c.is_word.ensures ∙ not-true _ c.if-not-is_word.true-raw))
 
-pub slice_bounds-is_word-end : goal.slice_bounds-is_word-end
-slice_bounds-is_word-end c =
-    let args = c.args in
-    let content = c.content in
-    let ends =
-    content_end args.text.now args.next args.name.now args.table.now args.built content.new.table
-    content.result content.ensures c.if-short.false c.in-By.is in
-    omega (arith, ends.name.ordered, ends.name.inside)
-
--- return Went::On(end.next, within)
-pub returns-then-is_word : goal.returns-then-is_word
-returns-then-is_word c =
-    let args = c.args in
-    let text = args.text.now in
-    let word = args.name.now in
-    let table = args.table.now in
-    let content = c.content in
-    let last = content.new.table in
-    side_ends text args.next word table args.built last content.result content.ensures c.if-short.false
-    c.in-By.is (sym c.is_word.ensures ∙ c.if-is_word.true)
-
--- Went::Bad(end.place)
-pub returns-else-is_word : goal.returns-else-is_word
-returns-else-is_word c =
-    let args = c.args in
-    let text = args.text.now in
-    let word = args.name.now in
-    let table = args.table.now in
-    let content = c.content in
-    let last = content.new.table in
-    side_other text args.next word table args.built last content.result content.ensures c.if-short.false
-    c.in-By.is (sym c.is_word.ensures ∙ c.if-is_word.false)
-
--- Closed::Bad(place) => Went::Bad(place)
-pub returns-in-Bad : goal.returns-in-Bad
-returns-in-Bad c =
-    let args = c.args in
-    let text = args.text.now in
-    let word = args.name.now in
-    let table = args.table.now in
-    let content = c.content in
-    let last = content.new.table in
-    side_at_fault text args.next word table args.built last content.result content.ensures c.if-short.false
-    c.in-Bad.is
+-- Ok(end.next)
+pub returns : goal.returns
+returns c =
+    side_ends c.args.text.now c.args.tagged.next c.args.name.now c.if-tagged.false c.in_ok-end.end c.in_ok-end.ensures
+    (rw c.of.ensures at (sym c.is_word.ensures ∙ not-false _ c.if-not-is_word.false-raw))

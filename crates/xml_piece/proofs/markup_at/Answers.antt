@@ -1,14 +1,14 @@
 use Rattle.xml_piece.proofs.PieceLaws.{markup_read}
 use Rattle.xml_piece.proofs.markup_at.Goals as goal
 
--- Markup::Start(from, upto) => Piece::Start(from, upto)
+-- Markup::Start(name) => Piece::Start(name)
 pub returns-in-Start : goal.returns-in-Start
 returns-in-Start c =
     let args = c.args in
     let tag_at = c.tag_at in
     markup_read args.text.now args.at tag_at.result _ tag_at.ensures c.in-Start.is
 
--- Markup::Close(from, upto, next) => Piece::Close(from, upto, next)
+-- Markup::Close(name, next) => Piece::Close(name, next)
 pub returns-in-Close : goal.returns-in-Close
 returns-in-Close c =
     let args = c.args in

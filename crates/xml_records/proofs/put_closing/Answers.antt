@@ -4,7 +4,7 @@ use Rattle.xml_records.proofs.CollectLaws.{whole_closing, collects_record}
 use mathlib.Core.Path.{refl}
 use Rattle.xml_records.proofs.put_closing.Goals as goal
 
--- table_builder::put_record(table, built, b"UE", false)
+-- builder.put_record(b"UE", false)
 pub returns : goal.returns
 unfolding record_bytes is_part
-returns c = collects_record c.put_record.ensures whole_closing refl refl
+returns c = collects_record c.put_record.ensures.put whole_closing refl refl

@@ -12,7 +12,7 @@ use mathlib.Core.List.{[], ◌∷◌}
 use lib.ListN.{replicate}
 use Rattle.xml_records.proofs.put_ignorable.Goals as goal
 
--- the mark, the id; table_builder::put_record(table, built, &bytes, true)
+-- the mark, the id; builder.put_record(&bytes, true)
 pub returns : goal.returns
 unfolding record_bytes head_bytes two is_part
 returns c =
@@ -20,5 +20,5 @@ returns c =
     let bytes = record_bytes (part_head (ignorable id)) in
     let mark = behind (none_yet (replicate 4 0)) (73 ∷ 71 ∷ []) c.put_mark-id_at.ensures in
     let wrote = written (behind mark (number_bytes id) c.put_number-end.ensures) bytes refl in
-    collects_record c.put_record.ensures (whole_head (ignorable id))
+    collects_record c.put_record.ensures.put (whole_head (ignorable id))
     (array_is bytes (replicate 4 0) wrote (omega arith)) refl

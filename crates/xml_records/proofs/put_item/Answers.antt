@@ -22,10 +22,10 @@ slice_bounds-put_record-end c =
     sym (length-take-le put_item.result put_item.new.out
     (omega (arith, item_long c.args.x, put_item.ensures.0)))
 
--- table_builder::put_record(table, built, &bytes[..wide], false)
+-- builder.put_record(&bytes[..wide], false)
 pub returns : goal.returns
 unfolding is_part
 returns c =
     let x = c.args.x in
     let wrote = front_is (record_bytes (inline (item x))) (replicate 12 0) c.put_item-wide.ensures in
-    collects_record c.put_record.ensures (whole_item x) wrote refl
+    collects_record c.put_record.ensures.put (whole_item x) wrote refl

@@ -10,7 +10,7 @@ use mathlib.Core.List.{[], ◌∷◌}
 use lib.ListN.{replicate}
 use Rattle.xml_records.proofs.put_opening.Goals as goal
 
--- the mark, the letter; table_builder::put_record(table, built, &bytes, false)
+-- the mark, the letter; builder.put_record(&bytes, false)
 pub returns : goal.returns
 unfolding record_bytes is_part
 returns c =
@@ -19,5 +19,5 @@ returns c =
     let bytes = record_bytes (opening o) in
     let mark = behind (none_yet (replicate 3 0)) (85 ∷ 78 ∷ []) c.put_mark-letter_at.ensures in
     let wrote = written (behind mark (letter ∷ []) c.put_byte-end.ensures) bytes refl in
-    collects_record c.put_record.ensures (whole_opening o)
+    collects_record c.put_record.ensures.put (whole_opening o)
     (array_is bytes (replicate 3 0) wrote (omega arith)) refl

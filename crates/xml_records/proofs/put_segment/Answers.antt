@@ -14,7 +14,7 @@ use Rattle.xml_records.proofs.put_segment.Goals as goal
 pub put_segment-wide-requires : goal.put_segment-wide-requires
 put_segment-wide-requires c = omega (arith, segment_long (segment_meaning c.args.f))
 
--- table_builder::put_record(table, built, &bytes, true)
+-- builder.put_record(&bytes, true)
 pub returns : goal.returns
 unfolding record_bytes is_part
 returns c =
@@ -22,4 +22,4 @@ returns c =
     let bytes = head_bytes (segment f) in
     let head = c.put_segment-wide.ensures in
     let wrote = array_is bytes (replicate 6 0) head (omega (arith, segment_long f)) in
-    collects_record c.put_record.ensures (whole_head (segment f)) wrote refl
+    collects_record c.put_record.ensures.put (whole_head (segment f)) wrote refl

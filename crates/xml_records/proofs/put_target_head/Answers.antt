@@ -12,7 +12,7 @@ use Rattle.xml_records.proofs.put_target_head.Goals as goal
 pub put_target_head-wide-requires : goal.put_target_head-wide-requires
 put_target_head-wide-requires c = omega (arith, target_long c.args.order)
 
--- table_builder::put_record(table, built, &bytes, false)
+-- builder.put_record(&bytes, false)
 pub returns : goal.returns
 unfolding is_part
 returns c =
@@ -20,4 +20,4 @@ returns c =
     let bytes = record_bytes (target_head order) in
     let head = c.put_target_head-wide.ensures in
     let wrote = array_is bytes (replicate 4 0) head (omega (arith, target_long order)) in
-    collects_record c.put_record.ensures (whole_target order) wrote refl
+    collects_record c.put_record.ensures.put (whole_target order) wrote refl

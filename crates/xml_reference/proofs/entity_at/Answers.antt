@@ -1,47 +1,32 @@
-use mathlib.Core.Path.{sym, ◌∙◌}
+use mathlib.Core.Path.{sym, ap, ◌∙◌}
+use mathlib.Core.Bool.{Bool, cond}
+use mathlib.Core.List.{[]}
 use Rattle.xml.specs.Words.{Words·all}
-use Rattle.xml.specs.Characters.{entity}
-use Rattle.xml_reference.specs.References.{rare}
+use Rattle.xml.specs.Characters.{cut, wrong, only_name, entity}
+use Rattle.xml_reference.specs.References.{entities_else}
 use Rattle.xml_reference.proofs.entity_at.Goals as goal
 
--- return Front::Found(b'&' as u32, 4)
-pub returns-then-begins : goal.returns-then-begins
-unfolding entity rare Words·all
-returns-then-begins c = simp (sym c.begins.ensures ∙ c.if-begins.true)
+-- Some(front) => Ok(front)
+pub returns-in-Some : goal.returns-in-Some
+unfolding entity entities_else Words·all
+returns-in-Some c =
+    let first = rw c.in-Some.is at c.entity_of.ensures in
+    sym (first (cond (only_name [] c.args.text.now) cut wrong))
 
--- return Front::Found(b'<' as u32, 3)
-pub returns-then-begins-2 : goal.returns-then-begins-2
-unfolding entity rare Words·all
-returns-then-begins-2 c =
-    let begins = c.begins in
-    let if1 = c.if-begins in
-    simp (sym begins.ensures ∙ if1.false, sym c.begins-2.ensures ∙ c.if-begins-2.true)
+-- None if is_only_name(text) => Err(Flaw::Cut)
+pub returns-in-None : goal.returns-in-None
+unfolding entity entities_else Words·all
+returns-in-None c =
+    let none = rw c.in-None.is at c.entity_of.ensures in
+    sym
+    (none (cond (only_name [] c.args.text.now) cut wrong)
+    ∙ ap (λ (b : Bool). cond b cut wrong) (sym c.is_only_name.ensures ∙ c.if-is_only_name.true))
 
--- return Front::Found(b'>' as u32, 3)
-pub returns-then-begins-3 : goal.returns-then-begins-3
-unfolding entity rare Words·all
-returns-then-begins-3 c =
-    let begins = c.begins in
-    let if1 = c.if-begins in
-    let begins2 = c.begins-2 in
-    let if2 = c.if-begins-2 in
-    simp (
-      sym begins.ensures ∙ if1.false,
-      sym begins2.ensures ∙ if2.false,
-      sym c.begins-3.ensures ∙ c.if-begins-3.true,
-    )
-
--- rare_entity(text)
-pub returns : goal.returns
-unfolding entity rare Words·all
-returns c =
-    let begins = c.begins in
-    let if1 = c.if-begins in
-    let begins2 = c.begins-2 in
-    let if2 = c.if-begins-2 in
-    simp (
-      c.rare_entity.ensures,
-      sym begins.ensures ∙ if1.false,
-      sym begins2.ensures ∙ if2.false,
-      sym c.begins-3.ensures ∙ c.if-begins-3.false,
-    )
+-- None => Err(Flaw::Wrong)
+pub returns-in-None-2 : goal.returns-in-None-2
+unfolding entity entities_else Words·all
+returns-in-None-2 c =
+    let none = rw c.in-None.is at c.entity_of.ensures in
+    sym
+    (none (cond (only_name [] c.args.text.now) cut wrong)
+    ∙ ap (λ (b : Bool). cond b cut wrong) (sym c.is_only_name.ensures ∙ c.if-is_only_name.false))

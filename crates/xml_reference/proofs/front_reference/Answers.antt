@@ -2,7 +2,7 @@ use Rattle.xml_reference.proofs.ReferenceLaws.{no_reference, by_number, by_name}
 use mathlib.Core.Path.{◌∙◌}
 use Rattle.xml_reference.proofs.front_reference.Goals as goal
 
--- return Front::Cut
+-- return Err(Flaw::Cut)
 pub returns-then-text-lt1 : goal.returns-then-text-lt1
 returns-then-text-lt1 c = no_reference c.args.text.now c.if-text-lt1.true
 

@@ -1,14 +1,8 @@
-use Rattle.xml_reference.specs.References.{capped}
-use borrow.Author.Tests.{le-leb, lt-leb}
-use borrow.Author.Rules.{rules}
+use mathlib.Core.Path.{◌∙◌}
+use native.Mathlib.Omega.{arith}
+use Rattle.xml_reference.proofs.DigitLaws.{capped_is}
 use Rattle.xml_reference.proofs.grown.Goals as goal
 
--- return sum
-pub returns-then-sum-le1114111 : goal.returns-then-sum-le1114111
-unfolding capped
-returns-then-sum-le1114111 c = (simp (← c.times_base.ensures.0, le-leb _ _ c.if-sum-le1114111.true), search rules)
-
--- 0x110000
+-- (value * base_of(hex) + digit).min(0x110000)
 pub returns : goal.returns
-unfolding capped
-returns c = (simp (← c.times_base.ensures.0, lt-leb _ _ c.if-sum-le1114111.false), search rules)
+returns c = (rw c.base_of.ensures at c.min.ensures ∙ capped_is _, omega arith)

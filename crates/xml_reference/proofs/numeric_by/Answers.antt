@@ -2,7 +2,7 @@ use Rattle.xml_reference.proofs.ReferenceLaws.{behind_none, behind_x, behind_dig
 use mathlib.Core.Path.{◌∙◌}
 use Rattle.xml_reference.proofs.numeric_by.Goals as goal
 
--- return Front::Cut
+-- return Err(Flaw::Cut)
 pub returns-then-text-lt2 : goal.returns-then-text-lt2
 returns-then-text-lt2 c = behind_none c.args.text.now c.if-text-lt2.true
 

@@ -30,7 +30,7 @@ returns-then-text-end c =
     end_cut args.text.now args.place args.at name_end.result blanks-end.result if1.false
     (sym name-starts.ensures ∙ not-false _ if2.false-raw) name_end.ensures blanks-end.ensures c.if-text-end.true
 
--- return Markup::Close(at, upto, end + 1)
+-- return Markup::Close(Span { .. }, end + 1)
 pub returns-then-text-end-eq62 : goal.returns-then-text-end-eq62
 returns-then-text-end-eq62 c =
     let args = c.args in

@@ -24,13 +24,13 @@ returns-then-begins c =
     let loop = c.loop-at in
     comment_read args.text.now args.from loop.at loop.invariant c.hyphens_at.result c.hyphens_at.ensures
 
--- at = at + 1 + more
-pub overflow_add-at-in-Found : goal.overflow_add-at-in-Found
-overflow_add-at-in-Found c =
+-- at = at + 1 + front.more
+pub overflow_add-at-in-Ok : goal.overflow_add-at-in-Ok
+overflow_add-at-in-Ok c =
     let text = c.args.text.now in
     let loop = c.loop-at in
     let front_character = c.front_character in
-    let front = sym (simp tail_is at front_character.ensures) ∙ ap told c.in-Found.is in
+    let front = sym (simp tail_is at front_character.ensures) ∙ ap told c.in-Ok.is in
     omega (arith, character_within text loop.at _ _ (search rules) front)
 
 -- the loop's measure
@@ -40,7 +40,7 @@ loop-at-smaller c =
     let loop = c.loop-at in
     let loop-test = c.loop-at-test in
     let front_character = c.front_character in
-    let front = sym (simp tail_is at front_character.ensures) ∙ ap told c.in-Found.is in
+    let front = sym (simp tail_is at front_character.ensures) ∙ ap told c.in-Ok.is in
     omega (arith, character_within text loop.at _ _ (search rules) front, loop-test.true)
 
 -- the loop's step
@@ -50,27 +50,27 @@ loop-at-preserved c =
     let loop = c.loop-at in
     let no-hyphens = sym (simp tail_is at c.begins.ensures) ∙ c.if-begins.false in
     let front_character = c.front_character in
-    let front = sym (simp tail_is at front_character.ensures) ∙ ap told c.in-Found.is in
+    let front = sym (simp tail_is at front_character.ensures) ∙ ap told c.in-Ok.is in
     comment_goes_on args.text.now args.from loop.at loop.invariant (search rules) no-hyphens _ _ front
 
--- Front::Cut: return Markup::Fault(text.len())
-pub returns-in-Cut : goal.returns-in-Cut
-returns-in-Cut c =
+-- Err(Flaw::Cut): return Markup::Fault(text.len())
+pub returns-in-Err-Cut : goal.returns-in-Err-Cut
+returns-in-Err-Cut c =
     let args = c.args in
     let loop = c.loop-at in
     let if1 = c.if-begins in
     let no-hyphens = sym (simp tail_is at c.begins.ensures) ∙ if1.false in
-    let front = sym (simp tail_is at c.front_character.ensures) ∙ ap told c.in-Cut.is in
+    let front = sym (simp tail_is at c.front_character.ensures) ∙ ap told (rw c.in-Err-Cut.field-0-is at c.in-Err-Cut.is) in
     comment_cut args.text.now args.from loop.at loop.invariant (search rules) no-hyphens front
 
--- Front::Wrong: return Markup::Fault(at)
-pub returns-in-Wrong : goal.returns-in-Wrong
-returns-in-Wrong c =
+-- Err(Flaw::Wrong): return Markup::Fault(at)
+pub returns-in-Err-Wrong : goal.returns-in-Err-Wrong
+returns-in-Err-Wrong c =
     let args = c.args in
     let loop = c.loop-at in
     let if1 = c.if-begins in
     let no-hyphens = sym (simp tail_is at c.begins.ensures) ∙ if1.false in
-    let front = sym (simp tail_is at c.front_character.ensures) ∙ ap told c.in-Wrong.is in
+    let front = sym (simp tail_is at c.front_character.ensures) ∙ ap told (rw c.in-Err-Wrong.field-0-is at c.in-Err-Wrong.is) in
     comment_wrong args.text.now args.from loop.at loop.invariant (search rules) no-hyphens front
 
 -- Markup::Fault(text.len()), where the text ends

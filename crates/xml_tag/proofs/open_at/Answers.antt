@@ -3,7 +3,7 @@ use Rattle.xml_tag.proofs.TagLaws.{start_read, slash_read, no_tag}
 use borrow.Author.Rules.{rules}
 use Rattle.xml_tag.proofs.open_at.Goals as goal
 
--- return Markup::Start(at, name_end(text, at + 1))
+-- return Markup::Start(Span { .. })
 pub returns-then-name_starts : goal.returns-then-name_starts
 returns-then-name_starts c =
     let args = c.args in

@@ -5,11 +5,11 @@ use Rattle.xml_tags.proofs.put_attribute.Goals as goal
 -- the five pieces
 pub returns : goal.returns
 returns c =
-    let put5 = c.put in
-    let put4 = c.put-valued in
-    let put3 = c.put-quoted in
-    let put2 = c.put-named in
-    let put = c.put-blank in
+    let put5 = c.put-5 in
+    let put4 = c.put-4 in
+    let put3 = c.put-3 in
+    let put2 = c.put-2 in
+    let put = c.put in
     let args = c.args in
     wrote_as (one_attribute args.name.now args.value.now)
     (wrote_then put.ensures

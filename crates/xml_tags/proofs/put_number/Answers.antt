@@ -13,7 +13,7 @@ slice_bounds-put_attribute-end c =
     head_long (decimal wide.result) _ put-decimal.new.out put-decimal.result put-decimal.ensures.0
     put-decimal.ensures.1
 
--- put_attribute(out, draft, name, &digits[..k])
+-- put_attribute(draft, name, &digits[..k])
 pub returns : goal.returns
 unfolding number_attribute
 returns c =

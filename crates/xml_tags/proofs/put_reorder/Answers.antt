@@ -1,51 +1,34 @@
-use borrow.Author.Tests.{eq-eqb, ne_eqb}
+use native.Mathlib.Omega.{arith}
+use borrow.Author.Tests.{ne_eqb}
 use Rattle.xml.specs.Words.{'yes', 'no', 'firstNo', 'canReorder', codes}
 use Rattle.xml.specs.Attributes.{yes_first_no}
 use Rattle.xml.specs.Write.{word_of, word_attribute}
 use Rattle.xml_tags.proofs.TagLaws.{value_as}
 use Rattle.xml_tags.proofs.put_reorder.Goals as goal
 
--- put_attribute(out, draft, b"canReorder", b"yes")
-pub returns-then-letter-eq89 : goal.returns-then-letter-eq89
+-- b'Y' => put_attribute(draft, .., b"yes")
+pub returns-in-89 : goal.returns-in-89
 unfolding word_attribute word_of yes_first_no 'canReorder' 'yes' codes
-returns-then-letter-eq89 c =
-    let put-attribute = c.put_attribute in
-    let if1 = c.if-letter-eq89.true in
-    let args = c.args in
-    value_as 'canReorder' (rw (eq-eqb args.letter 89 if1)) put-attribute.ensures
+returns-in-89 c = rw c.in-89.is c.put_attribute.ensures
 
--- b"firstNo"
-pub returns-then-letter-eq70 : goal.returns-then-letter-eq70
+-- b'F' => put_attribute(draft, .., b"firstNo")
+pub returns-in-70 : goal.returns-in-70
 unfolding word_attribute word_of yes_first_no 'canReorder' 'firstNo' codes
-returns-then-letter-eq70 c =
-    let put-attribute2 = c.put_attribute-then-letter-eq70 in
-    let if2 = c.if-letter-eq70.true in
-    let if1 = c.if-letter-eq89.false in
-    let args = c.args in
-    value_as 'canReorder' (rw (ne_eqb args.letter 89 if1, eq-eqb args.letter 70 if2)) put-attribute2.ensures
+returns-in-70 c = rw c.in-70.is c.put_attribute-in-70.ensures
 
--- b"no"
-pub returns-then-letter-eq78 : goal.returns-then-letter-eq78
+-- b'N' => put_attribute(draft, .., b"no")
+pub returns-in-78 : goal.returns-in-78
 unfolding word_attribute word_of yes_first_no 'canReorder' 'no' codes
-returns-then-letter-eq78 c =
-    let put-attribute3 = c.put_attribute-then-letter-eq78 in
-    let if3 = c.if-letter-eq78.true in
-    let if2 = c.if-letter-eq70.false in
-    let if1 = c.if-letter-eq89.false in
-    let args = c.args in
-    value_as 'canReorder'
-    (rw (ne_eqb args.letter 89 if1, ne_eqb args.letter 70 if2, eq-eqb args.letter 78 if3))
-    put-attribute3.ensures
+returns-in-78 c = rw c.in-78.is c.put_attribute-in-78.ensures
 
--- b""
-pub returns : goal.returns
+-- any other letter
+pub returns-in_default : goal.returns-in_default
 unfolding word_attribute word_of yes_first_no 'canReorder' codes
-returns c =
-    let put-attribute4 = c.put_attribute-2 in
-    let if3 = c.if-letter-eq78.false in
-    let if2 = c.if-letter-eq70.false in
-    let if1 = c.if-letter-eq89.false in
-    let args = c.args in
+returns-in_default c =
+    let l = c.args.letter in
     value_as 'canReorder'
-    (rw (ne_eqb args.letter 89 if1, ne_eqb args.letter 70 if2, ne_eqb args.letter 78 if3))
-    put-attribute4.ensures
+    (rw (
+      ne_eqb l 89 (λ e. omega arith),
+      ne_eqb l 70 (λ e. omega arith),
+      ne_eqb l 78 (λ e. omega arith),
+    )) c.put_attribute-in_default.ensures

@@ -1,28 +1,29 @@
-use Rattle.xml_values.proofs.BlankLaws.{no_blank, blank_more}
-use borrow.Author.Tests.{not-true, not-false}
-use mathlib.Core.Path.{sym, ◌∙◌}
-use borrow.Author.Rules.{rules}
+use Prim.Native.Nat.{ℕ, ◌-◌}
+use mathlib.Core.Path.{ap}
+use mathlib.Core.List.{List}
+use Rattle.std.specs.List.{prefix_len}
+use lib.ListN.{length, take, drop}
+use Rattle.std.proofs.lemmas.List.{take_rest}
+use Rattle.std.proofs.Common.{rules, tests, ◌∙◌}
+use Rattle.std.proofs.lemmas.Iterator.{YieldsList-from_slice}
+use Rattle.std.proofs.lemmas.Iterator.Consumers.{count_from_yields_List}
+use Rattle.std.proofs.lemmas.Iterator.Search.{YieldsList-from_take_while}
+use Rattle.std.proofs.lemmas.List.Folds.{length-prefix_len}
+use Rattle.xml.specs.Characters.{is_blank}
+use Rattle.xml_values.proofs.BlankLaws.{blanks_end}
 use Rattle.xml_values.proofs.blanks_end.Goals as goal
 
--- the loop's start
-pub loop-at-init : goal.loop-at-init
-loop-at-init c = no_blank c.args.text.now c.args.from (search rules)
+abbrev rest : List ℕ → ℕ → List ℕ
+rest s from = take (length s - from) (drop from s)
 
--- return at
-pub returns-then-not-is_blank : goal.returns-then-not-is_blank
-returns-then-not-is_blank c =
-    let loop = c.loop-at in
-    record { read = loop.invariant; stops = λ h. sym c.is_blank.ensures ∙ not-true _ c.if-not-is_blank.true-raw }
-
--- the loop's step
-pub loop-at-preserved : goal.loop-at-preserved
-loop-at-preserved c =
-    let args = c.args in
-    let loop = c.loop-at in
-    blank_more args.text.now args.from loop.at loop.invariant (search rules)
-    (sym c.is_blank.ensures ∙ not-false _ c.if-not-is_blank.false-raw)
-
--- at, where the text ends
+-- from + more
 pub returns : goal.returns
 returns c =
-    record { read = c.loop-at.invariant; stops = λ h. absurd (let z : ⊥ = search rules in z) }
+    let args = c.args in
+    let text = args.text.now in
+    let more =
+    count_from_yields_List c.take_while.result _ c.count-more.ensures.ran
+    (YieldsList-from_take_while _ is_blank (YieldsList-from_slice (rest text args.from) cc) c.take_while.ensures.closure
+    c.take_while.ensures.done (λ x b q k. search (rules, tests)))
+    ∙ length-prefix_len is_blank (rest text args.from) ∙ ap (prefix_len is_blank) (take_rest text args.from) in
+    rw more (blanks_end text args.from c.requires)

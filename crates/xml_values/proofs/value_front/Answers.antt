@@ -4,7 +4,7 @@ use mathlib.Core.Path.{◌∙◌}
 use borrow.Author.Rules.{rules}
 use Rattle.xml_values.proofs.value_front.Goals as goal
 
--- return Front::Wrong
+-- return Err(Flaw::Wrong)
 pub returns-then-b-eq60 : goal.returns-then-b-eq60
 returns-then-b-eq60 c =
     let text = c.args.text.now in

@@ -1,85 +1,97 @@
 use Rattle.xml_words.proofs.CodeLaws.{a_point, no_point}
-use Rattle.xml_words.proofs.HexadecimalLaws.{no_digit_yet, four_read, too_short, no_digit, value_small, hexadecimal_so_far}
+use Rattle.xml_words.proofs.HexadecimalLaws.{no_digit_yet, four_read, too_short, a_fifth, no_digit, value_small, hexadecimal_so_far}
+use mathlib.Core.Path.{sym, ap, ◌∙◌}
 use native.Mathlib.Omega.{arith}
+use Rattle.xml_front.specs.Fronts.{number_told}
 use Rattle.xml_words.proofs.hexadecimal_value.Goals as goal
 
 -- the loop's start
-pub loop-c-init : goal.loop-c-init
-loop-c-init c =
+pub loop-code-init : goal.loop-code-init
+loop-code-init c =
     let args = c.args in
     no_digit_yet args.text.now args.start args.quote c.requires
 
--- if (k == 4) | (digit == 16) { return BAD; }
-pub returns-then-k-digit : goal.returns-then-k-digit
-returns-then-k-digit c =
-    let loop = c.loop-c in
+-- if k == 4 { return None; }
+pub returns-then-k-eq4 : goal.returns-then-k-eq4
+returns-then-k-eq4 c =
+    let loop = c.loop-code in
     let args = c.args in
     let text = args.text.now in
-    let read = a_point text loop.at args.quote _ c.next_code.ensures _ _ c.in-Point.is in
-    no_digit text args.start args.quote loop.at loop.n loop.k loop.invariant _ _ _ read
-    c.upper_digit-digit.ensures c.if-k-digit.true
+    let read = a_point text loop.at args.quote _ c.next_code.ensures _ c.in-Some.is in
+    a_fifth text args.start args.quote loop.at loop.n loop.k loop.invariant _ _ read c.if-k-eq4.true
+
+-- upper_digit(code.point)?
+pub returns-in_err-digit : goal.returns-in_err-digit
+returns-in_err-digit c =
+    let loop = c.loop-code in
+    let args = c.args in
+    let text = args.text.now in
+    let read = a_point text loop.at args.quote _ c.next_code.ensures _ c.in-Some.is in
+    rw c.from_residual.ensures
+    (no_digit text args.start args.quote loop.at loop.n loop.k loop.invariant _ _ read
+    c.if-k-eq4.false (sym (ap number_told c.in_err-digit.was) ∙ c.upper_digit.ensures))
 
 -- n * 16
 pub overflow_mul-n : goal.overflow_mul-n
 overflow_mul-n c =
-    let loop = c.loop-c in
+    let loop = c.loop-code in
     let args = c.args in
     let text = args.text.now in
-    let read = a_point text loop.at args.quote _ c.next_code.ensures _ _ c.in-Point.is in
+    let read = a_point text loop.at args.quote _ c.next_code.ensures _ c.in-Some.is in
     let small =
-    value_small text args.start args.quote loop.at loop.n loop.k loop.invariant _ _ _ read
-    c.upper_digit-digit.ensures c.if-k-digit.false in
+    value_small text args.start args.quote loop.at loop.n loop.k loop.invariant _ _ read
+    c.if-k-eq4.false _ (sym (ap number_told c.in_ok-digit.was) ∙ c.upper_digit.ensures) in
     omega (arith, small)
 
 -- n * 16 + digit
 pub overflow_add-n : goal.overflow_add-n
 overflow_add-n c =
-    let loop = c.loop-c in
+    let loop = c.loop-code in
     let args = c.args in
     let text = args.text.now in
-    let read = a_point text loop.at args.quote _ c.next_code.ensures _ _ c.in-Point.is in
+    let read = a_point text loop.at args.quote _ c.next_code.ensures _ c.in-Some.is in
     let small =
-    value_small text args.start args.quote loop.at loop.n loop.k loop.invariant _ _ _ read
-    c.upper_digit-digit.ensures c.if-k-digit.false in
+    value_small text args.start args.quote loop.at loop.n loop.k loop.invariant _ _ read
+    c.if-k-eq4.false _ (sym (ap number_told c.in_ok-digit.was) ∙ c.upper_digit.ensures) in
     omega (arith, small)
 
 -- k += 1
 pub overflow_add-k : goal.overflow_add-k
-overflow_add-k c = omega (arith, c.loop-c.invariant.few)
+overflow_add-k c = omega (arith, c.loop-code.invariant.few)
 
 -- the loop's measure
-pub loop-c-smaller : goal.loop-c-smaller
-loop-c-smaller c =
-    let loop = c.loop-c in
+pub loop-code-smaller : goal.loop-code-smaller
+loop-code-smaller c =
+    let loop = c.loop-code in
     let args = c.args in
     let text = args.text.now in
-    let read = a_point text loop.at args.quote _ c.next_code.ensures _ _ c.in-Point.is in
+    let read = a_point text loop.at args.quote _ c.next_code.ensures _ c.in-Some.is in
     omega (arith, read.ahead, read.inside)
 
 -- the loop's step
-pub loop-c-preserved : goal.loop-c-preserved
-loop-c-preserved c =
-    let loop = c.loop-c in
+pub loop-code-preserved : goal.loop-code-preserved
+loop-code-preserved c =
+    let loop = c.loop-code in
     let args = c.args in
     let text = args.text.now in
-    let read = a_point text loop.at args.quote _ c.next_code.ensures _ _ c.in-Point.is in
-    hexadecimal_so_far text args.start args.quote loop.at loop.n loop.k loop.invariant _ _ _ read
-    c.upper_digit-digit.ensures c.if-k-digit.false
+    let read = a_point text loop.at args.quote _ c.next_code.ensures _ c.in-Some.is in
+    hexadecimal_so_far text args.start args.quote loop.at loop.n loop.k loop.invariant _ _ read
+    c.if-k-eq4.false _ (sym (ap number_told c.in_ok-digit.was) ∙ c.upper_digit.ensures)
 
--- Code::Over => return n
-pub returns-then-k-eq4 : goal.returns-then-k-eq4
-returns-then-k-eq4 c =
-    let loop = c.loop-c in
+-- if k == 4 { Some(n) }
+pub returns-then-k-eq4-2 : goal.returns-then-k-eq4-2
+returns-then-k-eq4-2 c =
+    let loop = c.loop-code in
     let args = c.args in
     let text = args.text.now in
-    let over = no_point text loop.at args.quote _ c.next_code.ensures c.in-Over.is in
-    four_read text args.start args.quote loop.at loop.n loop.k loop.invariant over c.if-k-eq4.true
+    let over = no_point text loop.at args.quote _ c.next_code.ensures c.in_default.is in
+    four_read text args.start args.quote loop.at loop.n loop.k loop.invariant over c.if-k-eq4-2.true
 
--- Code::Over => return BAD
-pub returns-else-k-eq4 : goal.returns-else-k-eq4
-returns-else-k-eq4 c =
-    let loop = c.loop-c in
+-- else { None }
+pub returns-else-k-eq4-2 : goal.returns-else-k-eq4-2
+returns-else-k-eq4-2 c =
+    let loop = c.loop-code in
     let args = c.args in
     let text = args.text.now in
-    let over = no_point text loop.at args.quote _ c.next_code.ensures c.in-Over.is in
-    too_short text args.start args.quote loop.at loop.n loop.k loop.invariant over c.if-k-eq4.false
+    let over = no_point text loop.at args.quote _ c.next_code.ensures c.in_default.is in
+    too_short text args.start args.quote loop.at loop.n loop.k loop.invariant over c.if-k-eq4-2.false

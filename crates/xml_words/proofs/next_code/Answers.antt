@@ -1,4 +1,4 @@
-use Rattle.xml_words.proofs.CodeLaws.{over_at_end, over_where_cut, over_where_wrong, point_read}
+use Rattle.xml_words.proofs.CodeLaws.{over_at_end, over_at_fault, point_read}
 use Rattle.xml_values.proofs.ValueLaws.{codes_end}
 use Rattle.xml_values.proofs.FitLaws.{value_within}
 use Rattle.xml_front.specs.Fronts.{told}
@@ -7,48 +7,36 @@ use native.Mathlib.Omega.{arith}
 use mathlib.Core.Path.{sym, ap, ◌∙◌}
 use Rattle.xml_words.proofs.next_code.Goals as goal
 
--- if text.len() <= at { return Code::Over; }
+-- if text.len() <= at { return None; }
 pub returns-then-text-at : goal.returns-then-text-at
 returns-then-text-at c =
     let args = c.args in
     over_at_end args.text.now args.quote args.at c.if-text-at.true
 
--- if first == quote { return Code::Over; }
+-- if first == quote { return None; }
 pub returns-then-first-quote : goal.returns-then-first-quote
 returns-then-first-quote c =
     let args = c.args in
     codes_end args.text.now args.quote args.at c.if-text-at.false c.if-first-quote.true
 
--- at + 1 + more
-pub overflow_add-result-in-Found : goal.overflow_add-result-in-Found
-overflow_add-result-in-Found c =
-    let inside = c.if-text-at.false in
+-- let Ok(front) = .. else { return None; }
+pub returns-in_default : goal.returns-in_default
+returns-in_default c =
     let args = c.args in
-    let front = sym (simp tail_is at c.value_front.ensures) ∙ ap told c.in-Found.is in
-    let within = value_within args.text.now args.at _ _ inside front in
-    omega (arith, within)
+    let front = sym (simp tail_is at c.value_front.ensures) ∙ ap told c.in_default.is in
+    over_at_fault args.text.now args.quote args.at c.if-text-at.false c.if-first-quote.false _ front
 
--- Front::Found(c, more) => Code::Point(code_of(first, c), at + 1 + more)
-pub returns-in-Found : goal.returns-in-Found
-returns-in-Found c =
-    let inside = c.if-text-at.false in
+-- at + 1 + front.more
+pub overflow_add-result-2 : goal.overflow_add-result-2
+overflow_add-result-2 c =
     let args = c.args in
-    let front = sym (simp tail_is at c.value_front.ensures) ∙ ap told c.in-Found.is in
-    point_read args.text.now args.quote args.at inside c.if-first-quote.false _ _ _ front
+    let front = sym (simp tail_is at c.value_front.ensures) ∙ ap told c.in-Ok.is in
+    omega (arith, value_within args.text.now args.at _ _ c.if-text-at.false front)
+
+-- Some(Code { .. })
+pub returns : goal.returns
+returns c =
+    let args = c.args in
+    let front = sym (simp tail_is at c.value_front.ensures) ∙ ap told c.in-Ok.is in
+    point_read args.text.now args.quote args.at c.if-text-at.false c.if-first-quote.false _ _ _ front
     c.code_of.ensures
-
--- Front::Cut => Code::Over
-pub returns-in-Cut : goal.returns-in-Cut
-returns-in-Cut c =
-    let inside = c.if-text-at.false in
-    let args = c.args in
-    let front = sym (simp tail_is at c.value_front.ensures) ∙ ap told c.in-Cut.is in
-    over_where_cut args.text.now args.quote args.at inside c.if-first-quote.false front
-
--- Front::Wrong => Code::Over
-pub returns-in-Wrong : goal.returns-in-Wrong
-returns-in-Wrong c =
-    let inside = c.if-text-at.false in
-    let args = c.args in
-    let front = sym (simp tail_is at c.value_front.ensures) ∙ ap told c.in-Wrong.is in
-    over_where_wrong args.text.now args.quote args.at inside c.if-first-quote.false front

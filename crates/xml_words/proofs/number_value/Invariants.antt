@@ -3,8 +3,8 @@ use Prim.Native.Nat.{◌-◌}
 use lib.ListN.{length}
 use Rattle.xml_words.proofs.number_value.Given as goal
 
-abbrev pub invariant-loop-c : goal.invariant-loop-c
-invariant-loop-c l = NumberSoFar l.text l.start l.quote l.at l.n
+abbrev pub invariant-loop-code : goal.invariant-loop-code
+invariant-loop-code l = NumberSoFar l.text l.start l.quote l.at l.n
 
-abbrev pub decreases-loop-c : goal.decreases-loop-c
-decreases-loop-c l = length l.text - l.at
+abbrev pub decreases-loop-code : goal.decreases-loop-code
+decreases-loop-code l = length l.text - l.at

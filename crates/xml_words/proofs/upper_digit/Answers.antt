@@ -14,7 +14,7 @@ overflow_sub-result c =
     let low = leb-true 48 c.args.c (and_left _ _ digit) in
     omega arith
 
--- return c - b'0' as u32
+-- return Some(c - b'0' as u32)
 pub returns-then-is_digit : goal.returns-then-is_digit
 returns-then-is_digit c = decimal_digit c.args.c (sym c.is_digit.ensures ∙ c.if-is_digit.true)
 
@@ -22,13 +22,13 @@ returns-then-is_digit c = decimal_digit c.args.c (sym c.is_digit.ensures ∙ c.i
 pub overflow_sub-result-then-c-2 : goal.overflow_sub-result-then-c-2
 overflow_sub-result-then-c-2 c = let low = leb-true 65 c.args.c (and_left _ _ c.if-c.true) in omega arith
 
--- return c - (b'A' as u32 - 10)
+-- return Some(c - (b'A' as u32 - 10))
 pub returns-then-c : goal.returns-then-c
 returns-then-c c =
     let code = c.args.c in
     letter_digit code (sym c.is_digit.ensures ∙ c.if-is_digit.false) c.if-c.true
 
--- 16
+-- None
 pub returns : goal.returns
 returns c =
     let code = c.args.c in

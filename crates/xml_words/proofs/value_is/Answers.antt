@@ -1,6 +1,6 @@
 use Rattle.xml_words.proofs.CodeLaws.{a_point, no_point}
-use Rattle.xml_words.proofs.WordLaws.{nothing_compared, part_of_word, whole_word, more_than_word, other_word, word_so_far}
-use native.Mathlib.Omega.{arith}
+use Rattle.xml_words.proofs.WordLaws.{nothing_compared, part_of_word, word_ends, other_word, word_so_far}
+use mathlib.Core.Path.{sym, ◌∙◌}
 use Rattle.xml_words.proofs.value_is.Goals as goal
 
 -- the loop's start
@@ -9,19 +9,15 @@ loop-k-init c =
     let args = c.args in
     nothing_compared args.text.now args.word.now args.start args.quote c.requires
 
--- word[k] as u32
-pub overflow_cast-word : goal.overflow_cast-word
-overflow_cast-word c = omega (arith, c.shared_slice_known-in-Point-1.given c.loop-k.k)
-
--- if c != word[k] as u32 { return false; }
-pub returns-then-c-word : goal.returns-then-c-word
-returns-then-c-word c =
+-- another code point than the word's: return false
+pub returns-in_default : goal.returns-in_default
+returns-in_default c =
     let loop = c.loop-k in
     let args = c.args in
     let text = args.text.now in
-    let read = a_point text loop.at args.quote _ c.next_code.ensures _ _ c.in-Point.is in
+    let read = a_point text loop.at args.quote _ c.next_code.ensures _ c.in-Some.is in
     other_word text args.word.now args.start args.quote loop.at loop.k loop.invariant _ _ read
-    c.loop-k-test.true c.if-c-word.true
+    c.loop-k-test.true (λ e. c.if-code-from.false (e ∙ sym c.from.ensures))
 
 -- the loop's step
 pub loop-k-preserved : goal.loop-k-preserved
@@ -29,36 +25,24 @@ loop-k-preserved c =
     let loop = c.loop-k in
     let args = c.args in
     let text = args.text.now in
-    let read = a_point text loop.at args.quote _ c.next_code.ensures _ _ c.in-Point.is in
+    let read = a_point text loop.at args.quote _ c.next_code.ensures _ c.in-Some.is in
     word_so_far text args.word.now args.start args.quote loop.at loop.k loop.invariant _ _ read
-    c.loop-k-test.true c.if-c-word.false
+    c.loop-k-test.true (c.if-code-from.true ∙ c.from.ensures)
 
--- Code::Over => return false
-pub returns-in-Over : goal.returns-in-Over
-returns-in-Over c =
+-- the value is over: return false
+pub returns-in_default-2 : goal.returns-in_default-2
+returns-in_default-2 c =
     let loop = c.loop-k in
     let args = c.args in
     let text = args.text.now in
-    let over = no_point text loop.at args.quote _ c.next_code.ensures c.in-Over.is in
+    let over = no_point text loop.at args.quote _ c.next_code.ensures c.in_default.is in
     part_of_word text args.word.now args.start args.quote loop.at loop.k loop.invariant over
     c.loop-k-test.true
 
--- Code::Point(_, _) => false
-pub returns-in-Point-next_code : goal.returns-in-Point-next_code
-returns-in-Point-next_code c =
+-- next_code(text, at, quote).is_none()
+pub returns : goal.returns
+returns c =
     let loop = c.loop-k in
     let args = c.args in
-    let text = args.text.now in
-    let read = a_point text loop.at args.quote _ c.next_code-2.ensures _ _ c.in-Point-next_code.is in
-    more_than_word text args.word.now args.start args.quote loop.at loop.k loop.invariant _ _ read
-    c.loop-k-test.false
-
--- Code::Over => true
-pub returns-in-Over-next_code : goal.returns-in-Over-next_code
-returns-in-Over-next_code c =
-    let loop = c.loop-k in
-    let args = c.args in
-    let text = args.text.now in
-    let over = no_point text loop.at args.quote _ c.next_code-2.ensures c.in-Over-next_code.is in
-    whole_word text args.word.now args.start args.quote loop.at loop.k loop.invariant over
-    c.loop-k-test.false
+    word_ends args.text.now args.word.now args.start args.quote loop.at loop.k loop.invariant _
+    c.next_code-2.ensures c.loop-k-test.false _ c.is_none.ensures

@@ -1,10 +1,5 @@
 use Rattle.xml_words.proofs.WordLaws.{WordSoFar}
-use Prim.Native.Nat.{◌-◌}
-use lib.ListN.{length}
 use Rattle.xml_words.proofs.value_is.Given as goal
 
 abbrev pub invariant-loop-k : goal.invariant-loop-k
 invariant-loop-k l = WordSoFar l.text l.word l.start l.quote l.at l.k
-
-abbrev pub decreases-loop-k : goal.decreases-loop-k
-decreases-loop-k l = length l.word - l.k

@@ -9,7 +9,7 @@ pub returns-in-Between : goal.returns-in-Between
 unfolding part_end
 returns-in-Between c =
     let pre = c.requires in
-    rw c.in-Between.is (wrote_nothing pre)
+    rw c.in-Between.is wrote_nothing
 
 -- b"</source></segment>"
 pub returns-in-SegmentSource : goal.returns-in-SegmentSource

@@ -11,7 +11,7 @@ pub overflow_add-start : goal.overflow_add-start
 overflow_add-start c =
     let pre = c.requires in
     let args = c.args in
-    let (cs, rs, a, e) = pre.1 in
+    let (cs, rs, a, e) = pre in
     let f = text_fits args.t.now args.at args.w cs rs a e in
     omega (arith, f.0, f.1)
 
@@ -20,7 +20,7 @@ pub overflow_add-end : goal.overflow_add-end
 overflow_add-end c =
     let pre = c.requires in
     let args = c.args in
-    let (cs, rs, a, e) = pre.1 in
+    let (cs, rs, a, e) = pre in
     let f = text_fits args.t.now args.at args.w cs rs a e in
     omega (arith, f.0, f.1)
 
@@ -29,7 +29,7 @@ pub slice_bounds-put_text-count : goal.slice_bounds-put_text-count
 slice_bounds-put_text-count c =
     let pre = c.requires in
     let args = c.args in
-    let (cs, rs, a, e) = pre.1 in
+    let (cs, rs, a, e) = pre in
     let f = text_fits args.t.now args.at args.w cs rs a e in
     omega (arith, f.0, f.1)
 
@@ -38,7 +38,7 @@ pub slice_bounds-put_text-start : goal.slice_bounds-put_text-start
 slice_bounds-put_text-start c =
     let pre = c.requires in
     let args = c.args in
-    let (cs, rs, a, e) = pre.1 in
+    let (cs, rs, a, e) = pre in
     let f = text_fits args.t.now args.at args.w cs rs a e in
     omega (arith, f.0, f.1)
 
@@ -47,15 +47,9 @@ pub slice_bounds-put_text-end : goal.slice_bounds-put_text-end
 slice_bounds-put_text-end c =
     let pre = c.requires in
     let args = c.args in
-    let (cs, rs, a, e) = pre.1 in
+    let (cs, rs, a, e) = pre in
     let f = text_fits args.t.now args.at args.w cs rs a e in
     omega (arith, f.0, f.1)
-
--- xml_text::put_text(out, draft, &t[start..end])
-pub put_text-requires : goal.put_text-requires
-put_text-requires c =
-    let pre = c.requires in
-    pre.0
 
 -- the bytes there are those of the text
 pub returns : goal.returns

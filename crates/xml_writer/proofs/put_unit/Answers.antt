@@ -9,18 +9,15 @@ pub loop-at-init : goal.loop-at-init
 loop-at-init c =
     let args = c.args in
     let pre = c.requires in
-    told_start args.t.now args.out.now args.draft pre.1 pre.0
+    told_start args.t.now args.draft.now pre
 
--- put_read(out, behind, t, at, within, r)
-pub put_read-behind-requires : goal.put_read-behind-requires
-put_read-behind-requires c =
+-- put_read(draft, t, at, within, r)
+pub put_read-requires : goal.put_read-requires
+put_read-requires c =
     let known_at_lem = c.known_at-r in
     let loop-test = c.loop-at-test.true in
     let loop = c.loop-at in
-    let args = c.args in (
-      loop.invariant.wrote.inside,
-      told_stands args.t.now _ _ loop.at loop.within _ _ loop.invariant loop-test known_at_lem.result known_at_lem.ensures,
-    )
+    told_stands c.args.t.now _ loop.at loop.within _ loop.invariant loop-test known_at_lem.result known_at_lem.ensures
 
 -- at += syntax::width_of(r)
 pub overflow_add-at : goal.overflow_add-at
@@ -33,7 +30,7 @@ overflow_add-at c =
     omega (
       arith,
       width_of_lem.ensures,
-      told_fits args.t.now _ _ loop.at loop.within _ _ loop.invariant loop-test known_at_lem.result known_at_lem.ensures,
+      told_fits args.t.now _ loop.at loop.within _ loop.invariant loop-test known_at_lem.result known_at_lem.ensures,
     )
 
 -- the walk goes on
@@ -47,8 +44,8 @@ loop-at-smaller c =
     omega (
       arith,
       width_of_lem.ensures,
-      told_fits args.t.now _ _ loop.at loop.within _ _ loop.invariant loop-test known_at_lem.result known_at_lem.ensures,
-      told_moves args.t.now _ _ loop.at loop.within _ _ loop.invariant loop-test known_at_lem.result known_at_lem.ensures,
+      told_fits args.t.now _ loop.at loop.within _ loop.invariant loop-test known_at_lem.result known_at_lem.ensures,
+      told_moves args.t.now _ loop.at loop.within _ loop.invariant loop-test known_at_lem.result known_at_lem.ensures,
     )
 
 -- one record more
@@ -56,28 +53,21 @@ pub loop-at-preserved : goal.loop-at-preserved
 loop-at-preserved c =
     let width_of_lem = c.width_of-at in
     let open_behind = c.open_behind-within in
-    let put-read = c.put_read-behind in
+    let put-read = c.put_read in
     let known_at_lem = c.known_at-r in
     let loop-test = c.loop-at-test.true in
     let loop = c.loop-at in
     let args = c.args in
     let t = args.t.now in
-    let first = args.out.now in
-    let told = told_on t first args.draft loop.at loop.within _ _ loop.invariant loop-test known_at_lem.result known_at_lem.ensures
-    put-read.new.out put-read.result open_behind.result put-read.ensures open_behind.ensures in
-    subst (λ (n : ℕ). Told t first args.draft (loop.at + n) open_behind.result put-read.new.out put-read.result)
-    (sym width_of_lem.ensures) told
+    let begun = args.draft.now in
+    let told = told_on t begun loop.at loop.within _ loop.invariant loop-test known_at_lem.result known_at_lem.ensures
+    put-read.new.draft open_behind.result put-read.ensures open_behind.ensures in
+    subst (λ (n : ℕ). Told t begun (loop.at + n) open_behind.result put-read.new.draft) (sym width_of_lem.ensures) told
 
--- the output keeps its length
-pub shape_of-out : goal.shape_of-out
-shape_of-out c =
-    let loop = c.loop-at in
-    loop.invariant.wrote.room
-
--- behind
+-- the whole unit
 pub returns : goal.returns
 returns c =
     let loop-test = c.loop-at-test.false in
     let loop = c.loop-at in
     let args = c.args in
-    told_end args.t.now args.out.now args.draft loop.at loop.within _ _ loop.invariant loop-test
+    told_end args.t.now _ loop.at loop.within _ loop.invariant loop-test

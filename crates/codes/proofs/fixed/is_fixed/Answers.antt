@@ -1,46 +1,35 @@
-use mathlib.Core.Path.{sym, ◌∙◌}
-use lib.ListN.{drop}
+use mathlib.Core.Path.{sym, ap, ◌∙◌}
+use mathlib.Core.Bool.{not}
 use lib.Seq.{get_or-drop}
-use borrow.Author.Tests.{eq-eqb, ne_eqb}
 use native.Mathlib.Omega.{arith}
+use Rattle.std.specs.Prelude.{is_some}
 use Rattle.xliff.specs.Bytes.{among}
 use Rattle.xliff.proofs.lists.Tests.{or_none}
-use Rattle.codes.specs.Codes.{code_at}
 use Rattle.codes.specs.Fixed.{fixed_at}
 use Rattle.codes.proofs.CodeLaws.{code_there}
 use Rattle.codes.proofs.fixed.is_fixed.Goals as goal
 
 -- no code
-pub returns-then-code_at-eq0 : goal.returns-then-code_at-eq0
+pub returns-then-is_none : goal.returns-then-is_none
 unfolding fixed_at
-returns-then-code_at-eq0 c =
-    let args = c.args in
-    let code_fields_at = c.code_at in
-    let if1 = c.if-code_at-eq0.true in
-    simp (eq-eqb (code_at (drop args.at args.c.now)) 0 (sym code_fields_at.ensures ∙ if1))
+returns-then-is_none c =
+    simp (sym (ap is_some c.code_at.ensures) ∙ c.is_none.ensures ∙ ap not c.if-is_none.true)
 
 -- `at + CAN_REORDER`
 pub overflow_add-reorder : goal.overflow_add-reorder
 overflow_add-reorder c =
-    let args = c.args in
-    let pre = c.requires in
-    let code_fields_at = c.code_at in
-    omega (arith, code_there args.c.now args.at pre (omega (arith, code_fields_at.ensures)))
+    let there = sym (ap is_some c.code_at.ensures) ∙ c.is_none.ensures ∙ ap not c.if-is_none.false in
+    omega (arith, code_there c.args.c.now c.args.at c.requires there)
 
 -- `c[at + CAN_REORDER]`
 pub bounds-c-at : goal.bounds-c-at
 bounds-c-at c =
-    let args = c.args in
-    let pre = c.requires in
-    let code_fields_at = c.code_at in
-    omega (arith, code_there args.c.now args.at pre (omega (arith, code_fields_at.ensures)))
+    let there = sym (ap is_some c.code_at.ensures) ∙ c.is_none.ensures ∙ ap not c.if-is_none.false in
+    omega (arith, code_there c.args.c.now c.args.at c.requires there)
 
 -- a code: its canReorder
 pub returns : goal.returns
 unfolding fixed_at among
 returns c =
-    let args = c.args in
-    let code_fields_at = c.code_at in
-    let c₀ = args.c.now in
-    let a_code = ne_eqb (code_at (drop args.at c₀)) 0 (omega (arith, code_fields_at.ensures)) in
-    simp (a_code, get_or-drop args.at c₀ 11 0, or_none)
+    let there = sym (ap is_some c.code_at.ensures) ∙ c.is_none.ensures ∙ ap not c.if-is_none.false in
+    simp (there, get_or-drop c.args.at c.args.c.now 11 0, or_none)
