@@ -7,7 +7,7 @@ ghost use Rattle.grants.specs.Grant.{role_of, within};
 ghost use Rattle.granted_parts.specs.Roles.{role_meaning, grant_of};
 
 // A translator's, a reviewer's or an engineer's; any other grants nothing.
-#[derive(Clone, Copy)]
+#[derive(Clone, Copy, PartialEq, Eq)]
 pub enum Role {
     Translator,
     Reviewer,
@@ -15,7 +15,7 @@ pub enum Role {
     Other,
 }
 
-// The role of a letter, T, R or E.
+// The role of a letter, T, R or E. As a match its last arm has no name for "none of these", so tests.
 pub fn role_of(letter: u8) -> Role
     ensures { role_meaning result ≡ role_of letter }
 {
@@ -31,32 +31,28 @@ pub fn role_of(letter: u8) -> Role
     Role::Other
 }
 
-fn wide(x: u8) -> usize
-    ensures { result ≡ x }
-{
-    x as usize
+// What a call is granted by: a role, and the positions of parts.
+#[derive(Clone, Copy)]
+pub struct Grant<'a> {
+    pub role: Role,
+    pub positions: &'a [u8],
 }
 
 fn is_listed(positions: &[u8], n: usize) -> bool
     ensures { result ≡ among n positions.now }
 {
-    for i in 0..positions.len() {
-        let p = wide(positions[i]);
-        if n == p {
-            return true;
-        }
-    }
-    false
+    positions.iter().any(|p| n == usize::from(*p))
 }
 
-// Whether the part `n` is within the grant. "An engineer's grant counts as every part"
-pub fn within(role: Role, positions: &[u8], n: usize) -> bool
-    ensures { result ≡ within (grant_of role positions.now) n }
-{
-    match role {
-        Role::Translator => is_listed(positions, n),
-        Role::Reviewer => is_listed(positions, n),
-        Role::Engineer => true,
-        Role::Other => false,
+impl Grant<'_> {
+    // Whether the part `n` is within the grant. "An engineer's grant counts as every part"
+    pub fn has_part(self, n: usize) -> bool
+        ensures { result ≡ within (grant_of self.entry.role self.entry.positions.now) n }
+    {
+        match self.role {
+            Role::Translator | Role::Reviewer => is_listed(self.positions, n),
+            Role::Engineer => true,
+            Role::Other => false,
+        }
     }
 }

@@ -9,24 +9,19 @@ ghost use Rattle.grants.specs.Grant.{is_engineer, whole_granted, rewrite_granted
 ghost use Rattle.granted_parts.specs.Roles.{role_meaning, grant_of};
 ghost use Rattle.granted_requests.specs.Granted.{GrantedIs};
 
-use granted_parts::Role;
+use granted_parts::{Grant, Role};
 use requests::Request;
 
 fn is_engineer(role: Role) -> bool
     ensures { result ≡ is_engineer (role_meaning role) }
 {
-    match role {
-        Role::Translator => false,
-        Role::Reviewer => false,
-        Role::Engineer => true,
-        Role::Other => false,
-    }
+    matches!(role, Role::Engineer)
 }
 
 // Whether the side has a complete pair or annotation of the id, both halves in granted parts.
-fn whole_granted(role: Role, positions: &[u8], table: &[u8], side: u8, id: u16) -> bool
+fn whole_granted(grant: Grant, table: &[u8], side: u8, id: u16) -> bool
     requires { table_refusal table.now ≡ none }
-    ensures { result ≡ whole_granted (grant_of role positions.now) (unit table.now).parts side
+    ensures { result ≡ whole_granted (grant_of grant.entry.role grant.entry.positions.now) (unit table.now).parts side
         id }
 {
     if !((side == b'S') | (side == b'T')) {
@@ -35,38 +30,34 @@ fn whole_granted(role: Role, positions: &[u8], table: &[u8], side: u8, id: u16) 
     if whole_pair::find(table, side, id).is_none() {
         return false;
     }
-    granted_halves::halves_within(table, role, positions, side, id)
+    granted_halves::halves_within(table, grant, side, id)
 }
 
 // "A rewrite is within a translator's grant never, within a reviewer's exactly if that side has a complete pair or
 // annotation of that id and both halves stand in granted parts."
-fn rewrite_granted(role: Role, positions: &[u8], table: &[u8], side: u8, id: u16) -> bool
+fn rewrite_granted(grant: Grant, table: &[u8], side: u8, id: u16) -> bool
     requires { table_refusal table.now ≡ none }
-    ensures { result ≡ rewrite_granted (role_meaning role) (whole_granted (grant_of role positions.now)
+    ensures { result ≡ rewrite_granted (role_meaning grant.entry.role) (whole_granted (grant_of grant.entry.role grant.entry.positions.now)
         (unit table.now).parts side id) }
 {
-    match role {
+    match grant.role {
         Role::Translator => false,
-        Role::Reviewer => whole_granted(role, positions, table, side, id),
+        Role::Reviewer => whole_granted(grant, table, side, id),
         Role::Engineer => true,
         Role::Other => false,
     }
 }
 
 // Whether a request on a table that the check passed is granted.
-pub fn granted(role: Role, positions: &[u8], table: &[u8], r: Request) -> bool
+pub fn granted(grant: Grant, table: &[u8], r: Request) -> bool
     requires { table_refusal table.now ≡ none }
-    ensures { GrantedIs (grant_of role positions.now) table.now r result }
+    ensures { GrantedIs (grant_of grant.entry.role grant.entry.positions.now) table.now r result }
 {
     match r {
-        Request::Split { .. } => is_engineer(role),
-        Request::Join { .. } => is_engineer(role),
-        Request::SetTarget { part, .. } => granted_parts::within(
-            role,
-            positions,
-            marks::wide(part),
-        ),
-        Request::RemoveTarget { part } => granted_parts::within(role, positions, marks::wide(part)),
-        Request::Rewrite { side, id, .. } => rewrite_granted(role, positions, table, side, id),
+        Request::Split { .. } => is_engineer(grant.role),
+        Request::Join { .. } => is_engineer(grant.role),
+        Request::SetTarget { part, .. } => grant.has_part(usize::from(part)),
+        Request::RemoveTarget { part } => grant.has_part(usize::from(part)),
+        Request::Rewrite { side, id, .. } => rewrite_granted(grant, table, side, id),
     }
 }

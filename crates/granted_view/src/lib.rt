@@ -18,7 +18,7 @@ ghost use Rattle.granted_view.specs.Shown.{PutHead, PutPart};
 
 use answers::Answer;
 use draft::Draft;
-use granted_parts::Role;
+use granted_parts::{Grant, Role};
 use marks::SEGMENT_WIDTH;
 use part_at::PartPlace;
 
@@ -58,7 +58,7 @@ fn put_parts(draft: &mut Draft, t: &[u8], role: Role, positions: &[u8])
     let mut n: usize = 1;
     while part_at::starts_part(t, at) {
         let place = part_at::part_from(t, at);
-        let inside = granted_parts::within(role, positions, n);
+        let inside = Grant { role, positions }.has_part(n);
         put_part(draft, t, place, inside);
         at = place.end;
         n += 1;

@@ -1,14 +1,8 @@
 // Join: document 01, "Join (part, with the next)".
 #![tactic(auto)]
 
-ghost use Rattle.std.specs.Prelude.{◌≡◌, ◌<◌, length};
-ghost use Rattle.std.proofs.Math.Option.{none};
-ghost use Rattle.xliff.specs.Check.{table_refusal, check};
-ghost use Rattle.xliff.specs.Focus.{focus};
-ghost use Rattle.xliff.specs.Parse.{unit};
+ghost use Rattle.std.specs.Prelude.{length};
 ghost use Rattle.xliff.specs.Join.{join};
-ghost use Rattle.answers.specs.Answers.{answer_meaning};
-ghost use Rattle.part_at.specs.Stands.{PartFound, CheckedPart};
 ghost use Rattle.outcomes.specs.Outcomes.{Answers};
 ghost use Rattle.join.specs.Pair.{PairAt, Ended, PairAnswers};
 
@@ -49,41 +43,21 @@ fn join_pair(table: &[u8], x: PartPlace, y: PartPlace, out: &mut [u8]) -> Answer
     join_ended(table, x, y, out)
 }
 
-// The part `n` at `x`: joined with the next, if there is one.
-fn join_next(table: &[u8], n: usize, x: PartPlace, out: &mut [u8]) -> Answer
-    requires { CheckedPart table.now n x × (n < 65536) }
-    ensures { Answers (join table.now n (length out.old)) result out.old out.new }
-{
-    match part_at::part_at(table, n + 1) {
-        Some(y) => join_pair(table, x, y, out),
-        None => Answer::Refused(11, 0),
-    }
-}
-
-fn join_found(table: &[u8], n: usize, found: Option<PartPlace>, out: &mut [u8]) -> Answer
-    requires { (table_refusal table.now ≡ none) × PartFound table.now (focus (unit table.now).parts n) found × (n < 65536) }
-    ensures { Answers (join table.now n (length out.old)) result out.old out.new }
-{
-    match found {
-        Some(x) => join_next(table, n, x, out),
-        None => Answer::Refused(11, 0),
-    }
-}
-
-fn join_checked(table: &[u8], a: Answer, n: usize, out: &mut [u8]) -> Answer
-    requires { (answer_meaning a ≡ check table.now) × (n < 65536) }
-    ensures { Answers (join table.now n (length out.old)) result out.old out.new }
-{
-    match a {
-        Answer::Accepted(_) => join_found(table, n, part_at::part_at(table, n), out),
-        Answer::Refused(k, at) => Answer::Refused(k, at),
-    }
-}
-
 // Accepted: the output's first bytes are the joined table, the rest is unchanged. Refused: the whole output is
 // unchanged.
 pub fn join(table: &[u8], part: u16, out: &mut [u8]) -> Answer
     ensures { Answers (join table.now part (length out.old)) result out.old out.new }
 {
-    join_checked(table, table_check::check(table), marks::wide(part), out)
+    let checked = table_check::check(table);
+    let Answer::Accepted(_) = checked else {
+        return checked;
+    };
+    let n = usize::from(part);
+    let Some(x) = part_at::part_at(table, n) else {
+        return Answer::Refused(11, 0);
+    };
+    let Some(y) = part_at::part_at(table, n + 1) else {
+        return Answer::Refused(11, 0);
+    };
+    join_pair(table, x, y, out)
 }

@@ -1,7 +1,7 @@
 -- The orders among the records of a table, and the highest that is unused.
 use Prim.Native.Nat.{ℕ, zero, suc, ◌-◌, ◌≤◌, ◌<◌}
-use mathlib.Core.Path.{◌≡◌, refl, sym, ap, ◌∙◌}
-use mathlib.Core.Bool.{Bool, true, false, ◌&&◌, ◌||◌, cond}
+use mathlib.Core.Path.{◌≡◌, refl, sym, ap, ap₂, ◌∙◌}
+use mathlib.Core.Bool.{Bool, true, false, ◌&&◌, ◌||◌, cond, true≢false}
 use mathlib.Core.List.{List, [], ◌∷◌, ◌++◌, append_assoc}
 use native.Mathlib.Omega.{arith}
 use lib.ListN.{length, drop}
@@ -22,8 +22,8 @@ use Rattle.glance.specs.declared.Head.{Head}
 use Rattle.glance.specs.declared.Head.TheVariants.{Part as PartSet, Target as TargetSet, Other}
 use Rattle.glance.specs.Glances as glance
 use Rattle.glance.specs.Glances.{order_set}
-use Rattle.std.specs.Prelude.{Option, Some, None}
-use Rattle.orders.proofs.OrderLaws.{order_walked}
+use Rattle.std.specs.Prelude.{Option, Some, None, is_some}
+use Rattle.orders.proofs.OrderLaws.{order_walked, is_not, is_is}
 use Rattle.orders.proofs.WalkLaws.{Walked}
 use Rattle.part_at.specs.declared.PartPlace.{PartPlace}
 use Rattle.part_at.specs.Stands.{TargetStands}
@@ -111,28 +111,27 @@ module _ (used : List ℕ) where
   unused_none (suc k) l = absurd (omega arith)
 
 -- by the targets
-none_some : {A : Type 0} → ◌≡◌ {A = Bool} true false → A
-none_some e = absurd (let z : ◌≡◌ {A = ℕ} 0 1 = cc in omega arith)
-
 module _ (t : List ℕ) (x y : PartPlace) (ps : List Part) (r : ℕ) where
-  both_by : (g h : Target) → TargetStands t x g → TargetStands t y h → x.has_target && y.has_target ≡ true → lower_above x.order r ≡ join_order ps g h r
+  both_by : (g h : Target) → TargetStands t x g → TargetStands t y h → (o k : ℕ) → x.order ≡ Some o → y.order ≡ Some k
+      → lower_above o r ≡ join_order ps g h r
   unfolding join_order
-  both_by no_target h a b e = none_some (sym e ∙ ap (λ (c : Bool). c && y.has_target) a.0)
-  both_by (target q xs) no_target a b e = none_some (sym e ∙ ap (λ (c : Bool). c && y.has_target) a.0 ∙ b.0)
-  both_by (target q xs) (target k ys) a b e = ap (λ (n : ℕ). lower_above n r) a.1
+  both_by no_target h a b o k e f = is_not (sym a.0 ∙ e)
+  both_by (target q xs) no_target a b o k e f = is_not (sym b.0 ∙ f)
+  both_by (target q xs) (target l ys) a b o k e f = ap (λ (n : ℕ). lower_above n r) (is_is (sym e ∙ a.0))
 
-  one_by : (g h : Target) → TargetStands t x g → TargetStands t y h → x.has_target && y.has_target ≡ false
+  one_by : (g h : Target) → TargetStands t x g → TargetStands t y h → is_some x.order && is_some y.order ≡ false
       → lower_above (highest_unused (length ps) (orders ps)) r ≡ join_order ps g h r
   unfolding join_order
   one_by no_target no_target a b e = refl
   one_by no_target (target k ys) a b e = refl
   one_by (target q xs) no_target a b e = refl
-  one_by (target q xs) (target k ys) a b e = none_some (sym (ap (λ (c : Bool). c && y.has_target) a.0 ∙ b.0) ∙ e)
+  one_by (target q xs) (target k ys) a b e =
+      absurd (true≢false (sym (ap₂ (λ (u w : Option ℕ). is_some u && is_some w) a.0 b.0) ∙ e))
 
-pub both_fall : (t : List ℕ) (x y : PartPlace) → x.has_target && y.has_target ≡ true → FallsAbove t x y x.order
-both_fall t x y e b p a c q d s u r = both_by t x y (unit t).parts r p.target q.target s.target u.target e
+pub both_fall : (t : List ℕ) (x y : PartPlace) (o k : ℕ) → x.order ≡ Some o → y.order ≡ Some k → FallsAbove t x y o
+both_fall t x y o k e f b p a c q d s u r = both_by t x y (unit t).parts r p.target q.target s.target u.target o k e f
 
-pub one_falls : (t : List ℕ) (x y : PartPlace) (o : ℕ) → x.has_target && y.has_target ≡ false → o ≡ highest_unused (length (unit t).parts) (orders (unit t).parts)
+pub one_falls : (t : List ℕ) (x y : PartPlace) (o : ℕ) → is_some x.order && is_some y.order ≡ false → o ≡ highest_unused (length (unit t).parts) (orders (unit t).parts)
     → FallsAbove t x y o
 one_falls t x y o e f b p a c q d s u r =
     ap (λ (n : ℕ). lower_above n r) f ∙ one_by t x y (unit t).parts r p.target q.target s.target u.target e

@@ -17,6 +17,7 @@ pub fn is_order(t: &[u8], q: u16) -> bool
     ensures { result ≡ among q (orders (unit t.now).parts) }
 {
     let mut at = 0;
+    // The lent table is read record by record through the walker.
     while at < t.len() {
         let g = walker::glance_at(t, at);
         if g.head.sets(q) {
@@ -32,12 +33,12 @@ fn highest_unused(t: &[u8], n: u16) -> u16
     requires { Passes t.now }
     ensures { result ≡ highest_unused n (orders (unit t.now).parts) }
 {
-    let mut k = n;
-    while 0 < k {
+    // Downwards: a range turned round has the items that it gave in place of the count of those passed.
+    for passed in 0..n {
+        let k = n - passed;
         if !is_order(t, k) {
             return k;
         }
-        k -= 1;
     }
     0
 }
@@ -47,9 +48,11 @@ pub fn falls_above(t: &[u8], x: PartPlace, y: PartPlace) -> u16
     requires { Passes t.now }
     ensures { FallsAbove t.now x y result }
 {
-    if x.has_target & y.has_target {
-        return x.order;
+    match (x.order, y.order) {
+        (Some(first), Some(_)) => first,
+        _ => {
+            let n = orders::count_parts(t);
+            highest_unused(t, n as u16)
+        }
     }
-    let n = orders::count_parts(t);
-    highest_unused(t, n as u16)
 }

@@ -29,9 +29,9 @@ module _ (f : ℕ → ℕ) (t : List ℕ) (x y : PartPlace) where
   target_same : (g h : Target) → TargetStands t x g → TargetStands t y h → order_target f (join_targets g h) ≡ order_target (λ r. f (order_of_two x y)) (join_targets g h)
   unfolding order_target join_targets
   target_same no_target no_target a b = refl
-  target_same no_target (target r ys) a b = rw (a.0, b.1)
-  target_same (target q xs) no_target a b = rw (a.0, a.1)
-  target_same (target q xs) (target r ys) a b = rw (a.0, a.1)
+  target_same no_target (target r ys) a b = rw (a.0, b.0)
+  target_same (target q xs) no_target a b = rw a.0
+  target_same (target q xs) (target r ys) a b = rw a.0
 
   part_same : (p q : Part) → TargetStands t x p.target → TargetStands t y q.target → order_part f (join_parts p q) ≡ joined_part (f (order_of_two x y)) p q
   unfolding order_part join_parts joined_part

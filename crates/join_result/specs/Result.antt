@@ -1,5 +1,5 @@
 -- A table with two of its parts joined.
-use Rattle.std.specs.Prelude.{ℕ, ◌≤◌, ◌≡◌, false, cond, List, [], ◌∷◌, ◌++◌, length}
+use Rattle.std.specs.Prelude.{ℕ, ◌≤◌, ◌≡◌, false, unwrap_or, List, [], ◌∷◌, ◌++◌, length}
 use Rattle.std.proofs.Math.Option.{none}
 use Rattle.xliff.specs.Unit.{Part, XliffUnit}
 use Rattle.xliff.specs.Encode.{encode}
@@ -24,7 +24,7 @@ joined_unit u b p q a = with_parts u (join_focus u.parts (here b p (q ∷ a)))
 
 -- the order of the first of two parts that has a target
 abbrev pub order_of_two : PartPlace → PartPlace → ℕ
-order_of_two x y = cond x.has_target x.order y.order
+order_of_two x y = unwrap_or x.order (unwrap_or y.order 0)
 
 -- the bytes of the parts, orders above o one down, that of the joined part k
 abbrev pub joined_parts : ℕ → ℕ → List Part → Part → Part → List Part → List ℕ

@@ -20,7 +20,7 @@ fn lowered(n: u16, q: u16) -> u16
 fn order_of_two(x: PartPlace, y: PartPlace) -> u16
     ensures { result ≡ order_of_two x y }
 {
-    if x.has_target { x.order } else { y.order }
+    x.order.unwrap_or(y.order.unwrap_or(0))
 }
 
 // The parts of the table, those at `x` and `y` in one with this order, orders above `q` one down.

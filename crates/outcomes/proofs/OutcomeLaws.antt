@@ -14,6 +14,10 @@ use Rattle.xliff.proofs.lists.Tests.{or_left}
 use Rattle.xliff.specs.Unit.{XliffUnit}
 use Rattle.xliff.specs.Encode.{encode}
 use Rattle.xliff.specs.Check.{table_refusal, check, too_large, operation}
+use Rattle.answers.specs.Answers.{answer_meaning}
+use Rattle.answers.specs.declared.Answer.{Answer}
+use Rattle.answers.specs.declared.Answer.TheVariants.{Accepted, Refused}
+use Rattle.outcomes.specs.Outcomes.{Answers}
 
 clash : {A : Type 0} {n m k : ℕ} → spec.accepted n ≡ spec.refused m k → A
 clash e = absurd (let z : ◌≡◌ {A = ℕ} 0 1 = cc in omega arith)
@@ -81,3 +85,12 @@ answers_result o s m out last e l k = rw e (ap spec.accepted l, k)
 pub fits : (room : ℕ) (u : XliffUnit) → too_large room u ≡ false → length (encode u) ≤ room
 unfolding too_large
 fits room u h = ltb-false room (length (encode u)) (or_left (ltb room (length (encode u))) _ h)
+
+-- let Answer::Accepted(_) = checked else { return checked; }: what the check refuses stays refused
+pub checked_none : (t : List ℕ) (r : Answer) (n : ℕ) → answer_meaning r ≡ check t → r ≡ Accepted n → table_refusal t ≡ none
+checked_none t r n h e = accepted_none t n (rw e at h)
+
+pub answers_unchecked : (t : List ℕ) (r : Answer) (n at : ℕ) (own : Option Refusal) (u : XliffUnit) (out : List ℕ)
+    → answer_meaning r ≡ check t → r ≡ Refused n at → Answers (operation t own u) r out out
+answers_unchecked t r n at own u out h e =
+    rw e (answers_refused (operation t own u) n at out (on_refused t n at own u (refused_some t n at (rw e at h))))

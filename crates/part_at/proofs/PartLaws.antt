@@ -7,7 +7,7 @@ use native.Mathlib.Omega.{arith}
 use lib.ListN.{length, take, drop, length-append, length-drop}
 use lib.Seq.{take-append_seam, drop-append_seam, drop-drop, take_at}
 use Rattle.xliff.specs.Bytes.{gather, two}
-use Rattle.xliff.specs.Unit.{Target, no_target, target, Part, has_target}
+use Rattle.xliff.specs.Unit.{Target, no_target, target, Part}
 use Rattle.xliff.specs.Encode.{Record, opening, closing, part_head, target_head, record_bytes, head_bytes, content_records, target_records, part_records, unit_records, spell, content_bytes}
 use Rattle.xliff.specs.Parse.{read, is_part, unit}
 use Rattle.xliff.specs.Focus.{nowhere, behind, focus}
@@ -106,14 +106,13 @@ part_is p =
 target_stands : (t : List ℕ) (g : Target) (place : PartPlace) (rest : List ℕ) → TargetSpan place.target g place
     → place.target ≤ length t
     → drop place.target t ≡ spell (target_records g) ++ rest → TargetStands t place g
-unfolding target_records spell gather has_target record_bytes content_bytes two
-target_stands t no_target place rest s l d = (s.has, s.order, omega (arith, s.ends))
+unfolding target_records spell gather record_bytes content_bytes two
+target_stands t no_target place rest s l d = (s.order, omega (arith, s.ends))
 target_stands t (target q xs) place rest s l d =
     let e : drop place.target t ≡ record_bytes (target_head q) ++ (spell (content_records xs) ++ rest)
     = d ∙ append_assoc (record_bytes (target_head q)) (spell (content_records xs)) rest in
     let u = slice_at t place.target (place.target + 4) (record_bytes (target_head q))
     (spell (content_records xs) ++ rest) e l refl in (
-      s.has,
       s.order,
       u,
       slice_at t (place.target + 4) place.end (spell (content_records xs)) rest
@@ -274,44 +273,41 @@ module _ (t : List ℕ) (h : Passes t) (at : ℕ) (behind ahead : List Part) (s 
           (subst (λ (o : ℕ). At t o (part_records p ++ (gather part_records a ++ (closing ∷ [])))) z next_there)
           (subst (λ (o : ℕ). PartSpan o p place) z span)
 
--- on the way to part number n, with so many to pass
-pub record Reached (t : List ℕ) (n at left : ℕ) : Type 0 where
+-- on the way, before the part of this number
+pub record Reached (t : List ℕ) (number at : ℕ) : Type 0 where
   pub behind : List Part
   pub ahead : List Part
   pub walked : Walked t at behind ahead
-  pub count : n ≡ length behind + left
-  pub least : 1 ≤ left
+  pub count : number ≡ suc (length behind)
 
-pub reached_start : (t : List ℕ) → Passes t → (n : ℕ) → 1 ≤ n → Reached t n 3 n
-reached_start t h n l =
-    record { behind = []; ahead = (unit t).parts; walked = walked_start t h; count = omega arith; least = l }
+pub reached_start : (t : List ℕ) → Passes t → Reached t 1 3
+reached_start t h = record { behind = []; ahead = (unit t).parts; walked = walked_start t h; count = refl }
 
-module _ (t : List ℕ) (h : Passes t) (n at left : ℕ) (s : Reached t n at left) where
-  pub reached_missing : is_part (read (drop at t)) ≡ false → focus (unit t).parts n ≡ nowhere
-  reached_missing e =
+module _ (t : List ℕ) (h : Passes t) (number at : ℕ) (s : Reached t number at) where
+  pub reached_missing : is_part (read (drop at t)) ≡ false → (n : ℕ) → number ≤ n → focus (unit t).parts n ≡ nowhere
+  reached_missing e n l =
       let k = walked_all t h at s.behind s.ahead s.walked e in
-      focus_beyond (unit t).parts n (omega (arith, ap (λ (l : List Part). length l) k, s.count, s.least))
+      focus_beyond (unit t).parts n (omega (arith, ap (λ (l : List Part). length l) k, s.count))
 
   module _ (e : is_part (read (drop at t)) ≡ true) where
     pub reached_part : PartFrom t at
     reached_part = walked_part t h at s.behind s.ahead s.walked e
 
     module _ (place : PartPlace) (spans : PartSpans t at place) where
-      pub reached_on : 1 < left → Reached t n place.end (left - 1)
-      reached_on l =
+      pub reached_on : Reached t (number + 1) place.end
+      reached_on =
           let (p, a, q) = next_part t h at s.behind s.ahead s.walked e in
           record {
             behind = s.behind ++ (p ∷ []);
             ahead = a;
             walked = walked_on t h at s.behind s.ahead s.walked e place spans;
             count = omega (arith, s.count, length-append s.behind (p ∷ []));
-            least = omega arith;
           }
 
-      pub reached_found : left ≤ 1 → PartFound t (focus (unit t).parts n) (Some place)
-      reached_found l =
+      pub reached_found : (n : ℕ) → n ≡ number → PartFound t (focus (unit t).parts n) (Some place)
+      reached_found n is =
           let (p, a, q) = next_part t h at s.behind s.ahead s.walked e in
-          let k : n ≡ suc (length s.behind) = omega (arith, s.count, s.least) in (
+          let k : n ≡ suc (length s.behind) = omega (arith, s.count, is) in (
             s.behind,
             p,
             a,

@@ -42,12 +42,12 @@ module _ (t : List ℕ) (b : List Part) (p : Part) (a : List Part) (x : PartPlac
 -- its target, or nothing
 pub target_is : (t : List ℕ) (x : PartPlace) (g : Target) → TargetStands t x g → take (x.end - x.target) (drop x.target t) ≡ spell (target_records g)
 unfolding target_records spell gather content_bytes
-target_is t x no_target e = ap (λ (n : ℕ). take n (drop x.target t)) (let z : x.end - x.target ≡ 0 = omega (arith, e.2) in z)
+target_is t x no_target e = ap (λ (n : ℕ). take n (drop x.target t)) (let z : x.end - x.target ≡ 0 = omega (arith, e.1) in z)
 target_is t x (target q xs) e =
-    let z : x.end - x.target ≡ 4 + (x.end - (x.target + 4)) = omega (arith, e.3.ordered) in
+    let z : x.end - x.target ≡ 4 + (x.end - (x.target + 4)) = omega (arith, e.2.ordered) in
     let y : x.target + 4 - x.target ≡ 4 = omega arith in
     ap (λ (n : ℕ). take n (drop x.target t)) z
     ∙ take-add 4 (x.end - (x.target + 4)) (drop x.target t)
-    ∙ ap (λ (l : List ℕ). l ++ take (x.end - (x.target + 4)) (drop 4 (drop x.target t))) (ap (λ (n : ℕ). take n (drop x.target t)) (sym y) ∙ e.2.is)
+    ∙ ap (λ (l : List ℕ). l ++ take (x.end - (x.target + 4)) (drop 4 (drop x.target t))) (ap (λ (n : ℕ). take n (drop x.target t)) (sym y) ∙ e.1.is)
     ∙ ap (λ (l : List ℕ). record_bytes (target_head q) ++ take (x.end - (x.target + 4)) l) (drop-drop 4 x.target t)
-    ∙ ap (λ (l : List ℕ). record_bytes (target_head q) ++ l) e.3.is
+    ∙ ap (λ (l : List ℕ). record_bytes (target_head q) ++ l) e.2.is

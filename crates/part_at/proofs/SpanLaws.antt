@@ -6,7 +6,7 @@ use mathlib.Core.List.{List, ◌∷◌, ◌++◌, append_assoc}
 use native.Mathlib.Omega.{arith}
 use lib.ListN.{length, take, drop, length-append}
 use Rattle.xliff.specs.Bytes.{gather}
-use Rattle.xliff.specs.Unit.{Target, no_target, target, Part, has_target}
+use Rattle.xliff.specs.Unit.{Target, no_target, target, Part}
 use Rattle.xliff.specs.Encode as encode
 use Rattle.xliff.specs.Encode.{opening, closing, part_head, target_head, text_run, inline, ill_text, broken, record_bytes, head_bytes, content_records, target_records, part_records, spell, content_bytes}
 use Rattle.places.specs.Offsets.{At}
@@ -107,24 +107,23 @@ module _ (t : List ℕ) (at : ℕ) (r : Read) (m : Means t at r) (w : ℕ) (wide
       let i = target_is q e g rest a b in
       (content_records i.0, rest, content_there q i.0 rest (subst (λ (h : Target). At t at (target_records h ++ rest)) i.1 a), content_inner i.0, outer_begins rest b)
 
-  pub with_target : (place : PartPlace) → order_of r ≡ Some place.order → place.has_target ≡ true → ContentEnds t (at + w) place.end → TargetSpans t at place
-  unfolding target_records spell gather has_target
-  with_target place e h c g rest a b =
-      let i = target_is place.order e g rest a b in
+  pub with_target : (place : PartPlace) (q : ℕ) → order_of r ≡ Some q → place.order ≡ Some q → ContentEnds t (at + w) place.end → TargetSpans t at place
+  unfolding target_records spell gather
+  with_target place q e o c g rest a b =
+      let i = target_is q e g rest a b in
       let s = subst (λ (h : Target). At t at (target_records h ++ rest)) i.1 a in
-      let f = target_first place.order i.0 rest s in
-      let d = c (content_records i.0) rest (content_there place.order i.0 rest s) (content_inner i.0) (outer_begins rest b) in
+      let f = target_first q i.0 rest s in
+      let d = c (content_records i.0) rest (content_there q i.0 rest s) (content_inner i.0) (outer_begins rest b) in
       subst (λ (k : Target). TargetSpan at k place) (sym i.1)
       (record {
-        ends = omega (arith, d, wide, f.wide, length-append (record_bytes (target_head place.order)) (spell (content_records i.0)));
-        order = refl;
-        has = h;
+        ends = omega (arith, d, wide, f.wide, length-append (record_bytes (target_head q)) (spell (content_records i.0)));
+        order = o;
       })
 
-  pub without_target : (place : PartPlace) → order_of r ≡ None → place.order ≡ 0 → place.has_target ≡ false → place.end ≡ at → TargetSpans t at place
-  unfolding target_records spell gather has_target
-  without_target place e o h n g rest a b =
-      subst (λ (k : Target). TargetSpan at k place) (sym (none_is e g rest a b)) (record { ends = omega (arith, n); order = o; has = h })
+  pub without_target : (place : PartPlace) → order_of r ≡ None → place.order ≡ None → place.end ≡ at → TargetSpans t at place
+  unfolding target_records spell gather
+  without_target place e o n g rest a b =
+      subst (λ (k : Target). TargetSpan at k place) (sym (none_is e g rest a b)) (record { ends = omega (arith, n); order = o })
 
 -- at the head of a part
 module _ (t : List ℕ) (at next : ℕ) (after : After t at next) where

@@ -59,7 +59,7 @@ module _ (t : List ℕ) (h : Bytes t) (b : List Part) (p : Part) (a : List Part)
   target_by : (g : Target) → TargetStands t x g → AllGood (target_records g) → TargetIs (take (x.end - x.target) (drop x.target t)) g
   unfolding target_records spell gather content_bytes
   target_by no_target e k = target_is t x no_target e
-  target_by (target q xs) e k = (target_is t x (target q xs) e, (holds_slice t _ x.end xs h e.3 (good_rest k)).0)
+  target_by (target q xs) e k = (target_is t x (target q xs) e, (holds_slice t _ x.end xs h e.2 (good_rest k)).0)
 
   pub target_slice : TargetIs (take (x.end - x.target) (drop x.target t)) p.target
   target_slice = target_by p.target s.target (each_right (content_records p.source) (target_records p.target) (good_part t h b p a x s))

@@ -1,3 +1,4 @@
 pub mod Content
 pub mod Stands
 pub mod Targets
+pub mod Lent

@@ -3,7 +3,7 @@ use Rattle.places.specs.Offsets.{At}
 use Rattle.std.specs.Prelude.{ℕ, ◌+◌, ◌-◌, ◌≤◌, ◌≡◌, true, false, List, [], ◌∷◌, ◌++◌, length, take, drop, Option, Some, None}
 use Rattle.std.proofs.Math.Option.{none}
 use Rattle.xliff.specs.Bytes.{gather}
-use Rattle.xliff.specs.Unit.{Head, Target, no_target, target, Part, has_target}
+use Rattle.xliff.specs.Unit.{Head, Target, no_target, target, Part}
 use Rattle.xliff.specs.Encode.{Record, opening, closing, part_head, target_head, record_bytes, head_bytes, target_records, part_records, spell, content_bytes}
 use Rattle.xliff.specs.Parse.{UN, TG, size_of, unit}
 use Rattle.xliff.specs.Focus.{Focus, nowhere, here, focus}
@@ -16,10 +16,10 @@ pub data PartOrEnd : List Record → Type 0 where
   part_next : {h : Head} {rs : List Record} → PartOrEnd (part_head h ∷ rs)
   end_next : {rs : List Record} → PartOrEnd (closing ∷ rs)
 
--- the order of a target, 0 without one
-abbrev pub target_order : Target → ℕ
-target_order no_target = 0
-target_order (target q xs) = q
+-- the order of a target, if there is one
+abbrev pub target_order : Target → Option ℕ
+target_order no_target = None
+target_order (target q xs) = Some q
 
 -- at an offset stands a target, or none, then the next part or the end
 abbrev pub TargetAt : List ℕ → ℕ → Type 0
@@ -28,7 +28,6 @@ TargetAt t at = (g : Target) × (rest : List Record) × At t at (target_records 
 pub record TargetSpan (at : ℕ) (g : Target) (place : PartPlace) : Type 0 where
   pub ends : place.end ≡ at + length (spell (target_records g))
   pub order : place.order ≡ target_order g
-  pub has : place.has_target ≡ has_target g
 
 abbrev pub TargetSpans : List ℕ → ℕ → PartPlace → Type 0
 TargetSpans t at place = (g : Target) (rest : List Record) → At t at (target_records g ++ rest) → PartOrEnd rest → TargetSpan at g place
@@ -54,9 +53,9 @@ pub record Slice (t : List ℕ) (from to : ℕ) (bytes : List ℕ) : Type 0 wher
   pub is : take (to - from) (drop from t) ≡ bytes
 
 abbrev pub TargetStands : List ℕ → PartPlace → Target → Type 0
-TargetStands t place no_target = (place.has_target ≡ false) × (place.order ≡ 0) × (place.end ≡ place.target)
+TargetStands t place no_target = (place.order ≡ None) × (place.end ≡ place.target)
 TargetStands t place (target q xs) =
-    (place.has_target ≡ true) × (place.order ≡ q)
+    (place.order ≡ Some q)
     × Slice t place.target (place.target + size_of TG []) (record_bytes (target_head q))
     × Slice t (place.target + size_of TG []) place.end (content_bytes xs)
 

@@ -1,13 +1,14 @@
 // Where the parts of a table stand, and how many records it has.
 #![tactic(auto)]
 
-ghost use Rattle.std.specs.Prelude.{◌≡◌, true, false, ◌+◌, ◌-◌, ◌<◌, drop, length};
+ghost use Rattle.std.specs.Prelude.{◌≡◌, true, false, ◌+◌, ◌-◌, ◌<◌, drop, length, is_some};
 ghost use Rattle.xliff.specs.Parse.{read, is_part, unit};
 ghost use Rattle.xliff.specs.Focus.{focus};
 ghost use Rattle.places.specs.Passes.{Passes};
 ghost use Rattle.orders.specs.Heads.{order_of, order_in};
 ghost use Rattle.part_at.specs.Content.{is_in_content, is_content_read, ContentAt, ContentEnds};
-ghost use Rattle.part_at.specs.Stands.{TargetAt, TargetSpans, PartFrom, PartSpans, PartFound};
+ghost use Rattle.part_at.specs.Stands.{TargetAt, TargetSpans, PartFrom, PartSpans, PartFound, Standing};
+ghost use Rattle.part_at.specs.Lent.{SourceHeld, TargetHeld};
 ghost use Rattle.xliff.specs.Encode.{unit_records};
 
 use table::{Read, Record};
@@ -16,13 +17,8 @@ fn in_content(x: Record) -> bool
     ensures { result ≡ is_in_content x }
 {
     match x {
-        Record::Unit(_) => false,
-        Record::UnitEnd => false,
-        Record::Segment(_) => false,
-        Record::Ignorable(_) => false,
-        Record::Target(_) => false,
-        Record::Text => true,
-        Record::Inline(_) => true,
+        Record::Text | Record::Inline(_) => true,
+        _ => false,
     }
 }
 
@@ -31,8 +27,7 @@ fn is_content(r: Read) -> bool
 {
     match r {
         Read::Good(x, _) => in_content(x),
-        Read::Ill => false,
-        Read::Broken(_) => false,
+        _ => false,
     }
 }
 
@@ -42,6 +37,7 @@ fn content_end(t: &[u8], start: usize) -> usize
     ensures { ContentEnds t.now start result }
 {
     let mut at = start;
+    // The lent table is read record by record through the walker.
     while at < t.len() {
         let r = walker::known_at(t, at);
         if !is_content(r) {
@@ -56,13 +52,8 @@ fn order_in(x: Record) -> Option<u16>
     ensures { result ≡ order_in x }
 {
     match x {
-        Record::Unit(_) => None,
-        Record::UnitEnd => None,
-        Record::Segment(_) => None,
-        Record::Ignorable(_) => None,
         Record::Target(q) => Some(q),
-        Record::Text => None,
-        Record::Inline(_) => None,
+        _ => None,
     }
 }
 
@@ -72,23 +63,57 @@ fn order_of(r: Read) -> Option<u16>
 {
     match r {
         Read::Good(x, _) => order_in(x),
-        Read::Ill => None,
-        Read::Broken(_) => None,
+        _ => None,
     }
 }
 
-// The offsets of a part: its SG or IG, its source content, its TG and its end. Without a target the TG's is the end,
-// and the order 0.
-// And whether it is a segment, and whether it has a target.
+// The offsets of a part: its SG or IG, its source content, its TG and its end. Without a target the TG's is the end.
+// The order of its target, if it has one, and whether it is a segment.
 #[derive(Clone, Copy)]
 pub struct PartPlace {
     pub head: usize,
     pub source: usize,
     pub target: usize,
     pub end: usize,
-    pub order: u16,
+    pub order: Option<u16>,
     pub segment: bool,
-    pub has_target: bool,
+}
+
+impl PartPlace {
+    pub fn has_target(self) -> bool
+        ensures { result ≡ is_some self.order }
+    {
+        self.order.is_some()
+    }
+
+    // The content of its source.
+    pub fn source_of(self, t: &[u8]) -> &[u8]
+        requires { Standing t.now self }
+        ensures { SourceHeld t.now self result.now }
+    {
+        &t[self.source..self.target]
+    }
+
+    // The content of its target, empty without one.
+    pub fn target_of(self, t: &[u8]) -> &[u8]
+        requires { Standing t.now self }
+        ensures { TargetHeld t.now self result.now }
+    {
+        let start = if self.has_target() {
+            self.target + marks::TARGET_WIDTH
+        } else {
+            self.end
+        };
+        &t[start..self.end]
+    }
+}
+
+// Where a part is split, at an item of its source and one of its target, and the id of the second half.
+#[derive(Clone, Copy)]
+pub struct Cuts {
+    pub source: usize,
+    pub target: usize,
+    pub new_id: u16,
 }
 
 // The part with these offsets, its target or the next part at `target`.
@@ -98,29 +123,18 @@ fn target_place(t: &[u8], head: usize, source: usize, target: usize, segment: bo
         TargetSpans t.now target result }
 {
     let r = walker::known_at(t, target);
-    let w = syntax::width_of(r);
-    match order_of(r) {
-        Some(q) => {
-            let end = content_end(t, target + w);
-            PartPlace {
-                head: head,
-                source: source,
-                target: target,
-                end: end,
-                order: q,
-                segment: segment,
-                has_target: true,
-            }
-        }
-        None => PartPlace {
-            head: head,
-            source: source,
-            target: target,
-            end: target,
-            order: 0,
-            segment: segment,
-            has_target: false,
-        },
+    let order = order_of(r);
+    let end = match order {
+        Some(_) => content_end(t, target + syntax::width_of(r)),
+        None => target,
+    };
+    PartPlace {
+        head,
+        source,
+        target,
+        end,
+        order,
+        segment,
     }
 }
 
@@ -151,14 +165,11 @@ pub fn part_at(t: &[u8], n: usize) -> Option<PartPlace>
         return None;
     }
     let mut at = marks::UNIT_WIDTH;
-    let mut left = n;
-    while 1 < left {
+    for number in 1..n {
         if !starts_part(t, at) {
             return None;
         }
-        let p = part_from(t, at);
-        at = p.end;
-        left -= 1;
+        at = part_from(t, at).end;
     }
     if !starts_part(t, at) {
         return None;
@@ -173,6 +184,7 @@ pub fn count_records(t: &[u8]) -> usize
 {
     let mut at = 0;
     let mut n = 0;
+    // The lent table is read record by record through the walker.
     while at < t.len() {
         let g = walker::glance_at(t, at);
         at += g.width;

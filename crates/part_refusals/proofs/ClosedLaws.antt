@@ -1,9 +1,9 @@
 -- A part's canResegment, and the orders of two parts, from where the parts stand.
 use Prim.Native.Nat.{ℕ, suc, ◌+◌}
 use mathlib.Core.Path.{◌≡◌, refl, sym, ap, ◌∙◌}
-use mathlib.Core.Bool.{Bool, false, not, ◌&&◌}
+use mathlib.Core.Bool.{Bool, false, not}
+use Rattle.std.specs.Prelude.{Option, Some, None}
 use mathlib.Core.List.{List, [], ◌∷◌, ◌++◌, append_assoc}
-use native.Mathlib.Numerals.{add-one}
 use lib.ListN.{drop, take-append-drop}
 use lib.Dec.{eqb}
 use Rattle.xliff.specs.Bytes.{gather}
@@ -62,15 +62,18 @@ closed_is t place u r e m b p a s =
     ∙ ap (λ (c : ℕ). eqb (resolved c p.head) 78) (e (unit t).opening (spell (gather part_records b) ++ drop place.head t) (unit_opens t b p a place s))
 
 -- the orders, by the targets
+abbrev pub apart : Option ℕ → Option ℕ → Bool
+apart None y = false
+apart (Some q) None = false
+apart (Some q) (Some r) = not (eqb r (suc q))
+
 by_targets : (t s : List ℕ) (x y : PartPlace) (g h : Target) → TargetStands t x g → TargetStands s y h
-    → x.has_target && (y.has_target && not (eqb y.order (suc x.order))) ≡ bad_orders g h
+    → apart x.order y.order ≡ bad_orders g h
 unfolding bad_orders
 by_targets t s x y no_target no_target a b = rw a.0
 by_targets t s x y no_target (target r ys) a b = rw a.0
 by_targets t s x y (target q xs) no_target a b = rw (a.0, b.0)
-by_targets t s x y (target q xs) (target r ys) a b = rw (a.0, b.0, a.1, b.1)
+by_targets t s x y (target q xs) (target r ys) a b = rw (a.0, b.0)
 
-pub bad_orders_are : (x y : PartPlace) (first second : ℕ) → first ≡ x.order → second ≡ y.order
-    → BadOrdersAre x y (x.has_target && (y.has_target && not (eqb second (first + 1))))
-bad_orders_are x y first second e f t b p a c q d s u =
-    rw (e, f, add-one x.order) (by_targets t t x y p.target q.target s.target u.target)
+pub bad_orders_are : (x y : PartPlace) (r : Bool) → r ≡ apart x.order y.order → BadOrdersAre x y r
+bad_orders_are x y r e t b p a c q d s u = e ∙ by_targets t t x y p.target q.target s.target u.target

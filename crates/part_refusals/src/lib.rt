@@ -22,13 +22,9 @@ fn closed_in(unit: u8, x: Record) -> bool
     ensures { result ≡ closed_in unit x }
 {
     match x {
-        Record::Unit(_) => false,
-        Record::UnitEnd => false,
         Record::Segment(f) => letter_or(unit, f.can_resegment) == b'N',
         Record::Ignorable(_) => unit == b'N',
-        Record::Target(_) => false,
-        Record::Text => false,
-        Record::Inline(_) => false,
+        _ => false,
     }
 }
 
@@ -37,8 +33,7 @@ fn closed_by(unit: u8, r: Read) -> bool
 {
     match r {
         Read::Good(x, _) => closed_in(unit, x),
-        Read::Ill => false,
-        Read::Broken(_) => false,
+        _ => false,
     }
 }
 
@@ -72,6 +67,7 @@ pub fn is_taken(t: &[u8], id: u16) -> bool
         return false;
     }
     let mut at = 0;
+    // The lent table is read record by record through the walker.
     while at < t.len() {
         let g = walker::glance_at(t, at);
         if has_id(t, at, g.head.is_part() | g.marker, id) {
@@ -86,7 +82,11 @@ pub fn is_taken(t: &[u8], id: u16) -> bool
 pub fn bad_orders(x: PartPlace, y: PartPlace) -> bool
     ensures { BadOrdersAre x y result }
 {
-    let first = marks::wide_to_u32(x.order) + 1;
-    let second = marks::wide_to_u32(y.order);
-    x.has_target & (y.has_target & !(second == first))
+    let Some(first) = x.order else {
+        return false;
+    };
+    let Some(second) = y.order else {
+        return false;
+    };
+    u32::from(second) != u32::from(first) + 1
 }

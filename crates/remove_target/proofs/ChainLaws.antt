@@ -4,6 +4,7 @@ use mathlib.Core.Path.{◌≡◌, refl, sym, ap, ◌∙◌}
 use mathlib.Core.Bool.{true, false, not}
 use mathlib.Core.List.{List}
 use mathlib.Core.Option.{Option, none}
+use Rattle.std.specs.Prelude.{Option as RustOption, is_some}
 use Rattle.xliff.specs.Answer.{Refusal, applies, ◌then◌, of_result, refuse, unless}
 use Rattle.xliff.specs.Unit.{Target, no_target, target, Part, XliffUnit}
 use Rattle.xliff.specs.Encode.{encode}
@@ -21,10 +22,10 @@ use Rattle.removed_target.proofs.RemovedLaws.{remove_unit_is}
 use Rattle.remove_target.specs.Ending.{removal_ending}
 
 -- a part's place tells whether it has a target
-pub lacks_is : (t : List ℕ) (place : PartPlace) (g : Target) → TargetStands t place g → lacks_target g ≡ not place.has_target
+pub lacks_is : (t : List ℕ) (place : PartPlace) (g : Target) → TargetStands t place g → lacks_target g ≡ not (is_some place.order)
 unfolding lacks_target
-lacks_is t place no_target s = ap not (sym s.0)
-lacks_is t place (target q xs) s = ap not (sym s.0)
+lacks_is t place no_target s = ap (λ (o : RustOption ℕ). not (is_some o)) (sym s.0)
+lacks_is t place (target q xs) s = ap (λ (o : RustOption ℕ). not (is_some o)) (sym s.0)
 
 module _ (t : List ℕ) (n room : ℕ) (e : table_refusal t ≡ none) where
   abbrev v : XliffUnit

@@ -55,8 +55,8 @@ module _ (u : XliffUnit) (b : List Part) (p : Part) (a : List Part) where
       (bytes_of a) closed
 
 ends_behind : (t : List ℕ) (place : PartPlace) (g : Target) → TargetStands t place g → place.target ≤ place.end
-ends_behind t place no_target (h, o, e) = omega (arith, e)
-ends_behind t place (target q xs) (h, o, k, l) = omega (arith, l.ordered)
+ends_behind t place no_target (o, e) = omega (arith, e)
+ends_behind t place (target q xs) (o, k, l) = omega (arith, l.ordered)
 
 module _ (t : List ℕ) (b : List Part) (p : Part) (a : List Part) (place : PartPlace)
     (s : PartStands t b p a place) where

@@ -2,10 +2,7 @@
 #![tactic(auto)]
 
 ghost use Rattle.std.specs.Prelude.{◌≡◌, length};
-ghost use Rattle.std.proofs.Math.Option.{none};
-ghost use Rattle.xliff.specs.Check.{table_refusal, check};
 ghost use Rattle.xliff.specs.Rewrite.{rewrite};
-ghost use Rattle.answers.specs.Answers.{answer_meaning};
 ghost use Rattle.outcomes.specs.Outcomes.{Answers};
 ghost use Rattle.rewrite.specs.Paired.{Paired, already_in};
 
@@ -44,10 +41,15 @@ fn rewrite_pair(
     Answer::Accepted(rewrite_marks::put_rewritten(out, table, side, id, form))
 }
 
-fn rewrite_valid(table: &[u8], side: u8, id: u16, form: u8, out: &mut [u8]) -> Answer
-    requires { table_refusal table.now ≡ none }
+// Accepted: the output's first bytes are the rewritten table, the rest is unchanged. Refused: the whole output is
+// unchanged.
+pub fn rewrite(table: &[u8], side: u8, id: u16, form: u8, out: &mut [u8]) -> Answer
     ensures { Answers (rewrite table.now side id form (length out.old)) result out.old out.new }
 {
+    let checked = table_check::check(table);
+    let Answer::Accepted(_) = checked else {
+        return checked;
+    };
     if !((side == b'S') | (side == b'T')) | !((form == b'P') | (form == b'S')) {
         return Answer::Refused(2, 0);
     }
@@ -55,22 +57,4 @@ fn rewrite_valid(table: &[u8], side: u8, id: u16, form: u8, out: &mut [u8]) -> A
         return Answer::Refused(20, 0);
     };
     rewrite_pair(table, pair, side, id, form, out)
-}
-
-fn rewrite_checked(table: &[u8], a: Answer, side: u8, id: u16, form: u8, out: &mut [u8]) -> Answer
-    requires { answer_meaning a ≡ check table.now }
-    ensures { Answers (rewrite table.now side id form (length out.old)) result out.old out.new }
-{
-    match a {
-        Answer::Accepted(_) => rewrite_valid(table, side, id, form, out),
-        Answer::Refused(k, at) => Answer::Refused(k, at),
-    }
-}
-
-// Accepted: the output's first bytes are the rewritten table, the rest is unchanged. Refused: the whole output is
-// unchanged.
-pub fn rewrite(table: &[u8], side: u8, id: u16, form: u8, out: &mut [u8]) -> Answer
-    ensures { Answers (rewrite table.now side id form (length out.old)) result out.old out.new }
-{
-    rewrite_checked(table, table_check::check(table), side, id, form, out)
 }

@@ -90,6 +90,7 @@ fn put_forms(out: &mut [u8], t: &[u8], source: bool, id: u32, p: bool)
 {
     let mut at: usize = 0;
     let mut inside = false;
+    // The lent table is read record by record through the walker.
     while at < t.len() {
         let g = walker::glance_at(t, at);
         put_form(out, t, at, inside, id, p);

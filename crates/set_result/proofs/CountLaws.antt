@@ -18,6 +18,7 @@ use Rattle.xliff.proofs.unit.Valid.{heads_unit}
 use Rattle.places.specs.Passes.{Passes}
 use Rattle.walk.specs.Kept.{Of, Holds, Rest}
 use Rattle.walk.proofs.WalkLaws.{Next, rest_start, rest_end}
+use Rattle.std.specs.Prelude.{is_some}
 use Rattle.part_at.specs.declared.PartPlace.{PartPlace}
 use Rattle.part_at.specs.Stands.{PartStands, TargetStands}
 use Rattle.part_at.proofs.CountLaws.{count, count_append, count_cons, unit_count}
@@ -46,16 +47,16 @@ passed_all c rs at n h m = omega (arith, m.count, ap (λ (l : List Record). leng
 
 -- the records of the old target
 module _ (t : List ℕ) (place : PartPlace) where
-  pub old_there : (g : Target) → TargetStands t place g → place.has_target ≡ true → (n : ℕ)
+  pub old_there : (g : Target) → TargetStands t place g → is_some place.order ≡ true → (n : ℕ)
       → n ≡ length (content_records (target_items g)) → 1 + n ≡ length (target_records g)
   unfolding target_records target_items
-  old_there no_target s e n h = absurd (true≢false (sym e ∙ s.0))
+  old_there no_target s e n h = absurd (true≢false (sym e ∙ ap is_some s.0))
   old_there (target q xs) s e n h = omega (arith, h)
 
-  pub no_old : (g : Target) → TargetStands t place g → place.has_target ≡ false → 0 ≡ length (target_records g)
+  pub no_old : (g : Target) → TargetStands t place g → is_some place.order ≡ false → 0 ≡ length (target_records g)
   unfolding target_records
   no_old no_target s e = refl
-  no_old (target q xs) s e = absurd (true≢false (sym s.0 ∙ e))
+  no_old (target q xs) s e = absurd (true≢false (sym (ap is_some s.0) ∙ e))
 
 -- the records of parts
 count_at : (b : List Part) (p : Part) (a : List Part) → count (b ++ (p ∷ a)) ≡ count b + (length (part_records p) + count a)

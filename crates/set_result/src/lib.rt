@@ -37,6 +37,7 @@ fn count_records(c: &[u8]) -> usize
 {
     let mut at: usize = 0;
     let mut n: usize = 0;
+    // The lent content is read record by record through the walker.
     while at < c.len() {
         at += walker::width_at(c, at);
         n += 1;
@@ -49,10 +50,8 @@ fn old_records(t: &[u8], place: PartPlace) -> usize
     requires { Checked t.now place }
     ensures { OldRecordsAre t.now place result }
 {
-    if place.has_target {
-        let from = place.target + marks::TARGET_WIDTH;
-        let to = place.end;
-        return 1 + count_records(&t[from..to]);
+    if place.has_target() {
+        return 1 + count_records(place.target_of(t));
     }
     0
 }

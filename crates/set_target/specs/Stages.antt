@@ -1,20 +1,18 @@
 -- What is known on the way through the refusals of set target.
-use Rattle.std.specs.Prelude.{ℕ, ◌+◌, ◌≡◌, Bool, true, cond, List}
+use Rattle.std.specs.Prelude.{ℕ, ◌≡◌, Bool, true, List}
 use Rattle.std.proofs.Math.Option.{none}
 use Rattle.xliff.specs.Unit.{Part}
 use Rattle.xliff.specs.Parse.{unit}
 use Rattle.xliff.specs.Check.{table_refusal}
 use Rattle.xliff.specs.Focus.{here, focus}
-use Rattle.xliff.specs.SetTarget.{state_fits}
+use Rattle.xliff.specs.SetTarget.{state_fits, old_content}
+use Rattle.walk.specs.Kept.{Holds}
 use Rattle.part_at.specs.declared.PartPlace.{PartPlace}
 use Rattle.part_at.specs.Stands.{PartStands}
 
--- where "the old target, or .. the part's source if there was none" begins and ends
-abbrev pub old_from : PartPlace → ℕ
-old_from place = cond place.has_target (place.target + 4) place.source
-
-abbrev pub old_to : PartPlace → ℕ
-old_to place = cond place.has_target place.end place.target
+-- the bytes c hold "the old target, or .. the part's source if there was none"
+abbrev pub OldHeld : List ℕ → PartPlace → List ℕ → Type 0
+OldHeld t place c = (b : List Part) (p : Part) (a : List Part) → PartStands t b p a place → Holds c (old_content p.source p.target)
 
 abbrev pub StateFits : PartPlace → ℕ → Bool → Type 0
 StateFits place st r = (t : List ℕ) (b : List Part) (p : Part) (a : List Part) → PartStands t b p a place → r ≡ state_fits p.head st

@@ -1,18 +1,14 @@
 // Set target: document 01, "Set target (part, state, content)".
 #![tactic(auto)]
 
-ghost use Rattle.std.specs.Prelude.{◌≡◌, ◌≤◌, length};
+ghost use Rattle.std.specs.Prelude.{◌≡◌, length};
 ghost use Rattle.std.proofs.Math.Option.{none};
-ghost use Rattle.xliff.specs.Answer.{unless, answer};
-ghost use Rattle.xliff.specs.Parse.{unit, content_fault, most_bytes};
-ghost use Rattle.xliff.specs.Check.{table_refusal, check};
-ghost use Rattle.xliff.specs.Focus.{focus};
+ghost use Rattle.xliff.specs.Parse.{content_fault};
 ghost use Rattle.xliff.specs.SetTarget.{set_target};
-ghost use Rattle.answers.specs.Answers.{answer_meaning};
 ghost use Rattle.outcomes.specs.Outcomes.{Answers};
-ghost use Rattle.part_at.specs.Stands.{PartFound, CheckedPart};
+ghost use Rattle.part_at.specs.Stands.{Standing};
 ghost use Rattle.set_target.specs.Ending.{SetAt, Ended};
-ghost use Rattle.set_target.specs.Stages.{old_from, old_to, StateFits, Fitting};
+ghost use Rattle.set_target.specs.Stages.{OldHeld, StateFits, Fitting};
 
 use answers::Answer;
 use limits::MOST_BYTES;
@@ -41,27 +37,15 @@ fn set_ended(
     Answer::Accepted(writer::put(out, &work[..n]))
 }
 
-// Where the old content begins: the target's, without target the source's.
-fn old_from(place: PartPlace) -> usize
-    requires { place.target ≤ most_bytes }
-    ensures { result ≡ old_from place }
+// The old content: the target's, without target the source's.
+fn old_content(table: &[u8], place: PartPlace) -> &[u8]
+    requires { Standing table.now place }
+    ensures { OldHeld table.now place result.now }
 {
-    if place.has_target {
-        place.target + marks::TARGET_WIDTH
-    } else {
-        place.source
+    if place.has_target() {
+        return place.target_of(table);
     }
-}
-
-// And where it ends.
-fn old_to(place: PartPlace) -> usize
-    ensures { result ≡ old_to place }
-{
-    if place.has_target {
-        place.end
-    } else {
-        place.target
-    }
+    place.source_of(table)
 }
 
 // 18 and 19, then the rest.
@@ -76,35 +60,15 @@ fn set_content(
     requires { Fitting table.now n place state × (content_fault content.now ≡ none) }
     ensures { Answers (set_target table.now n state content.now (length out.old)) result out.old out.new }
 {
-    let from = old_from(place);
-    let to = old_to(place);
-    if codes::kept::is_lost(&table[from..to], content) {
+    let old = old_content(table, place);
+    if codes::kept::is_lost(old, content) {
         return Answer::Refused(18, 0);
     }
-    if codes::chains::differs(&table[from..to], content) {
+    if codes::chains::differs(old, content) {
         return Answer::Refused(19, 0);
     }
     let order = target_order::new_order(table, n, place);
     set_ended(table, place, order, state, content, out)
-}
-
-// The content's own numbers, with their place in it, then the rest.
-fn set_judged(
-    table: &[u8],
-    n: u16,
-    place: PartPlace,
-    state: u8,
-    content: &[u8],
-    a: Answer,
-    out: &mut [u8],
-) -> Answer
-    requires { Fitting table.now n place state × (answer_meaning a ≡ answer (unless (content_fault content.now) content.now)) }
-    ensures { Answers (set_target table.now n state content.now (length out.old)) result out.old out.new }
-{
-    match a {
-        Answer::Accepted(_) => set_content(table, n, place, state, content, out),
-        Answer::Refused(number, at) => Answer::Refused(number, at),
-    }
 }
 
 // Whether the state fits the part: a segment has one, an ignorable none.
@@ -117,65 +81,25 @@ fn state_fits(place: PartPlace, state: u8) -> bool
     state == b'-'
 }
 
-fn set_there(
-    table: &[u8],
-    n: u16,
-    place: PartPlace,
-    state: u8,
-    content: &[u8],
-    out: &mut [u8],
-) -> Answer
-    requires { CheckedPart table.now n place }
-    ensures { Answers (set_target table.now n state content.now (length out.old)) result out.old out.new }
-{
-    if !state_fits(place, state) {
-        return Answer::Refused(2, 0);
-    }
-    set_judged(
-        table,
-        n,
-        place,
-        state,
-        content,
-        syntax::content(content),
-        out,
-    )
-}
-
-fn set_found(
-    table: &[u8],
-    n: u16,
-    found: Option<PartPlace>,
-    state: u8,
-    content: &[u8],
-    out: &mut [u8],
-) -> Answer
-    requires { (table_refusal table.now ≡ none) × PartFound table.now (focus (unit table.now).parts n) found }
-    ensures { Answers (set_target table.now n state content.now (length out.old)) result out.old out.new }
-{
-    match found {
-        Some(place) => set_there(table, n, place, state, content, out),
-        None => Answer::Refused(11, 0),
-    }
-}
-
-fn set_checked(table: &[u8], a: Answer, n: u16, state: u8, content: &[u8], out: &mut [u8]) -> Answer
-    requires { answer_meaning a ≡ check table.now }
-    ensures { Answers (set_target table.now n state content.now (length out.old)) result out.old out.new }
-{
-    match a {
-        Answer::Accepted(_) => {
-            let found = part_at::part_at(table, marks::wide(n));
-            set_found(table, n, found, state, content, out)
-        }
-        Answer::Refused(k, at) => Answer::Refused(k, at),
-    }
-}
-
 // Accepted: the output's first bytes are the table with the target set, the rest is unchanged. Refused: the whole
 // output is unchanged.
 pub fn set_target(table: &[u8], part: u16, state: u8, content: &[u8], out: &mut [u8]) -> Answer
     ensures { Answers (set_target table.now part state content.now (length out.old)) result out.old out.new }
 {
-    set_checked(table, table_check::check(table), part, state, content, out)
+    let checked = table_check::check(table);
+    let Answer::Accepted(_) = checked else {
+        return checked;
+    };
+    let Some(place) = part_at::part_at(table, usize::from(part)) else {
+        return Answer::Refused(11, 0);
+    };
+    if !state_fits(place, state) {
+        return Answer::Refused(2, 0);
+    }
+    // The content's own numbers, with their place in it.
+    let judged = syntax::content(content);
+    let Answer::Accepted(_) = judged else {
+        return judged;
+    };
+    set_content(table, part, place, state, content, out)
 }

@@ -81,13 +81,7 @@ abbrev pub PutContents : List ℕ → List ℕ → Draft → Draft → Type 0
 PutContents source target draft draft' =
     (xs ys : Content) → Holds source xs → Holds target ys → Wrote (content_rows xs ys) draft draft'
 
--- a target takes at least its head; where its content begins
-abbrev pub TargetFits : PartPlace → Type 0
-TargetFits place = place.has_target ≡ true → place.target + 4 ≤ place.end
-
-abbrev pub TargetStart : PartPlace → ℕ → Type 0
-TargetStart place r = r ≡ cond place.has_target (place.target + 4) place.end
-
+-- all rows of a part
 abbrev pub PutPart : List ℕ → ℕ → PartPlace → Draft → Draft → Type 0
 PutPart t n place draft draft' =
     (b : List Part) (p : Part) (a : List Part) → PartStands t b p a place

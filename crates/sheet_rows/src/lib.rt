@@ -10,7 +10,7 @@ ghost use Rattle.part_at.specs.Stands.{Standing};
 ghost use Rattle.draft.specs.Drafts.{Wrote};
 ghost use Rattle.sheet.specs.Sheet.{id_cells, sheet_bytes};
 ghost use Rattle.sheet_columns.specs.Filled.{SomeAhead};
-ghost use Rattle.sheet_rows.specs.Rows.{margin, ReadMargin, goes_on, PutColumns, PutContents, TargetFits, TargetStart, PutPart};
+ghost use Rattle.sheet_rows.specs.Rows.{margin, ReadMargin, goes_on, PutColumns, PutContents, PutPart};
 
 use draft::Draft;
 use part_at::PartPlace;
@@ -84,29 +84,13 @@ fn put_contents(draft: &mut Draft, source: &[u8], target: &[u8])
     }
 }
 
-// Where the content of a part's target begins: at its end where it has none.
-fn target_start(place: PartPlace) -> usize
-    requires { TargetFits place }
-    ensures { TargetStart place result }
-{
-    if place.has_target {
-        place.target + marks::TARGET_WIDTH
-    } else {
-        place.end
-    }
-}
-
 // All rows of the part at `place`, which is number `n`.
 fn put_part(draft: &mut Draft, t: &[u8], n: usize, place: PartPlace)
     requires { Standing t.now place }
     ensures { PutPart t.now n place draft.old draft.new }
 {
-    let from = place.source;
-    let to = place.target;
-    let start = target_start(place);
-    let end = place.end;
     put_head(draft, n, walker::known_at(t, place.head));
-    put_contents(draft, &t[from..to], &t[start..end]);
+    put_contents(draft, place.source_of(t), place.target_of(t));
 }
 
 // The sheet of a table that passed the check.

@@ -1,7 +1,8 @@
 -- The records that a cut adds to a content, to a target and to a part.
 use Prim.Native.Nat.{ℕ, zero, suc, ◌+◌, ◌*◌, ◌≤◌}
 use mathlib.Core.Path.{◌≡◌, refl, sym, ap, ap₂, ◌∙◌, subst}
-use mathlib.Core.Bool.{true, false}
+use mathlib.Core.Bool.{true, false, true≢false}
+use Rattle.std.specs.Prelude.{is_some}
 use mathlib.Core.List.{List, [], ◌∷◌, ◌++◌, map, append-nil}
 use native.Mathlib.Omega.{arith}
 use lib.ListN.{length, take, drop, length-append, drop_of_length-le}
@@ -162,15 +163,15 @@ unfolding target_records first_target second_target spell gather
 nothing_added k = record { bytes = refl; records = refl; few = omega arith }
 
 module _ (t : List ℕ) (place : PartPlace) (k : ℕ) where
-  pub grown_there : (g : Target) (n : ℕ) → TargetStands t place g → place.has_target ≡ true → ContentAdded k (target_items g) n
+  pub grown_there : (g : Target) (n : ℕ) → TargetStands t place g → is_some place.order ≡ true → ContentAdded k (target_items g) n
       → TargetAdded k g (1 + n)
   unfolding target_items
-  grown_there no_target n (x, o, e) z h = absurd (let y : ◌≡◌ {A = ℕ} 0 1 = cc in let w : ⊥ = omega arith in w)
+  grown_there no_target n (o, e) z h = absurd (true≢false (sym z ∙ ap is_some o))
   grown_there (target q xs) n s z h = target_added k q xs n h
 
-  pub nothing_grown : (g : Target) → TargetStands t place g → place.has_target ≡ false → TargetAdded k g 0
+  pub nothing_grown : (g : Target) → TargetStands t place g → is_some place.order ≡ false → TargetAdded k g 0
   nothing_grown no_target s z = nothing_added k
-  nothing_grown (target q xs) (x, o, hs, ts) z = absurd (let y : ◌≡◌ {A = ℕ} 0 1 = cc in let w : ⊥ = omega arith in w)
+  nothing_grown (target q xs) (o, hs, ts) z = absurd (true≢false (sym (ap is_some o) ∙ z))
 
 -- a part
 part_long : (p : Part)

@@ -32,9 +32,6 @@ pub record PartAdded (k j : ℕ) (p : Part) (n : ℕ) : Type 0 where
 abbrev pub AddedIn : List ℕ → ℕ → ℕ → Type 0
 AddedIn c k n = (xs : Content) → Holds c xs → ContentAdded k xs n
 
-abbrev pub SourceAddedIs : List ℕ → PartPlace → ℕ → ℕ → Type 0
-SourceAddedIs t place k n = (b : List Part) (p : Part) (a : List Part) → PartStands t b p a place → ContentAdded k p.source n
-
 abbrev pub TargetAddedIs : List ℕ → PartPlace → ℕ → ℕ → Type 0
 TargetAddedIs t place k n = (b : List Part) (p : Part) (a : List Part) → PartStands t b p a place → TargetAdded k p.target n
 

@@ -1,7 +1,7 @@
 -- Whether a part of a table can be cut.
 use Rattle.std.specs.Prelude.{ℕ, ◌≡◌, Bool, List, length, leb, ltb}
 use Rattle.xliff.specs.Item.{Content}
-use Rattle.xliff.specs.Unit.{Part, target_items}
+use Rattle.xliff.specs.Unit.{Part}
 use Rattle.xliff.specs.Split.{bad_cut}
 use Rattle.walk.specs.Kept.{Holds}
 use Rattle.part_at.specs.declared.PartPlace.{PartPlace}
@@ -15,11 +15,5 @@ abbrev pub EnoughIs : List ℕ → ℕ → Bool → Type 0
 EnoughIs c k r = (xs : Content) → Holds c xs → r ≡ leb k (length xs)
 
 -- and for the part at a place
-abbrev pub SourceShort : List ℕ → PartPlace → ℕ → Bool → Type 0
-SourceShort t place k r = (b : List Part) (p : Part) (a : List Part) → PartStands t b p a place → r ≡ leb (length p.source) k
-
-abbrev pub TargetShort : List ℕ → PartPlace → ℕ → Bool → Type 0
-TargetShort t place k r = (b : List Part) (p : Part) (a : List Part) → PartStands t b p a place → r ≡ ltb (length (target_items p.target)) k
-
 abbrev pub BadCutIs : List ℕ → PartPlace → ℕ → ℕ → Bool → Type 0
 BadCutIs t place source_cut target_cut r = (b : List Part) (p : Part) (a : List Part) → PartStands t b p a place → r ≡ bad_cut p source_cut target_cut

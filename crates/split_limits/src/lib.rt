@@ -7,11 +7,11 @@ ghost use Rattle.xliff.specs.Check.{too_large};
 ghost use Rattle.xliff.specs.Split.{split_unit};
 ghost use Rattle.cut.specs.Halves.{Some};
 ghost use Rattle.part_at.specs.Stands.{Checked, CheckedPart};
-ghost use Rattle.split_limits.specs.Cuts.{MoreIs, EnoughIs, SourceShort, TargetShort, BadCutIs};
-ghost use Rattle.split_limits.specs.Added.{AddedIn, SourceAddedIs, TargetAddedIs, AddedIs};
+ghost use Rattle.split_limits.specs.Cuts.{MoreIs, EnoughIs, BadCutIs};
+ghost use Rattle.split_limits.specs.Added.{AddedIn, TargetAddedIs, AddedIs};
 
 use limits::{MOST_BYTES, MOST_PARTS, MOST_RECORDS};
-use part_at::PartPlace;
+use part_at::{Cuts, PartPlace};
 
 // Whether a content has more than `k` items.
 fn has_more(c: &[u8], k: usize) -> bool
@@ -32,37 +32,14 @@ fn has_enough(c: &[u8], k: usize) -> bool
     p.left == 0
 }
 
-// Whether a cut stands at or beyond the end of the source.
-fn source_short(t: &[u8], place: PartPlace, cut: usize) -> bool
+// 13: whether the source is not cut between two items, or the target, if there is one, beyond its end.
+pub fn is_bad_cut(t: &[u8], place: PartPlace, cuts: Cuts) -> bool
     requires { Checked t.now place }
-    ensures { SourceShort t.now place cut result }
+    ensures { BadCutIs t.now place cuts.source cuts.target result }
 {
-    let from = place.source;
-    let to = place.target;
-    !has_more(&t[from..to], cut)
-}
-
-// Whether a cut stands beyond the end of the target, or of none.
-fn target_short(t: &[u8], place: PartPlace, cut: usize) -> bool
-    requires { Checked t.now place }
-    ensures { TargetShort t.now place cut result }
-{
-    if place.has_target {
-        let from = place.target + marks::TARGET_WIDTH;
-        let to = place.end;
-        return !has_enough(&t[from..to], cut);
-    }
-    0 < cut
-}
-
-// 13: whether the source is not cut between two items, or the target beyond its end.
-pub fn is_bad_cut(t: &[u8], place: PartPlace, source_cut: usize, target_cut: usize) -> bool
-    requires { Checked t.now place }
-    ensures { BadCutIs t.now place source_cut target_cut result }
-{
-    let source = source_short(t, place, source_cut);
-    let target = target_short(t, place, target_cut);
-    (source_cut == 0) | (source | target)
+    let more = has_more(place.source_of(t), cuts.source);
+    let enough = has_enough(place.target_of(t), cuts.target);
+    (cuts.source == 0) | (!more | !enough)
 }
 
 // The records that a cut adds to a content: one inside a text.
@@ -77,52 +54,33 @@ fn added_in(c: &[u8], k: usize) -> usize
     1
 }
 
-fn source_added(t: &[u8], place: PartPlace, cut: usize) -> usize
-    requires { Checked t.now place }
-    ensures { SourceAddedIs t.now place cut result }
-{
-    let from = place.source;
-    let to = place.target;
-    added_in(&t[from..to], cut)
-}
-
 // A target gets a second TG.
 fn target_added(t: &[u8], place: PartPlace, cut: usize) -> usize
     requires { Checked t.now place }
     ensures { TargetAddedIs t.now place cut result }
 {
-    if place.has_target {
-        let from = place.target + marks::TARGET_WIDTH;
-        let to = place.end;
-        return 1 + added_in(&t[from..to], cut);
+    if place.has_target() {
+        return 1 + added_in(place.target_of(t), cut);
     }
     0
 }
 
 // The records that a split adds to a part, besides the second head.
-fn added(t: &[u8], place: PartPlace, source_cut: usize, target_cut: usize) -> usize
+fn added(t: &[u8], place: PartPlace, cuts: Cuts) -> usize
     requires { Checked t.now place }
-    ensures { AddedIs t.now place source_cut target_cut result }
+    ensures { AddedIs t.now place cuts.source cuts.target result }
 {
-    let source = source_added(t, place, source_cut);
-    let target = target_added(t, place, target_cut);
+    let source = added_in(place.source_of(t), cuts.source);
+    let target = target_added(t, place, cuts.target);
     source + target
 }
 
 // 15: whether the result of a split of part `n` is longer than the output or beyond a limit.
-pub fn is_too_large(
-    t: &[u8],
-    n: usize,
-    place: PartPlace,
-    source_cut: usize,
-    target_cut: usize,
-    id: u16,
-    room: usize,
-) -> bool
+pub fn is_too_large(t: &[u8], n: usize, place: PartPlace, cuts: Cuts, room: usize) -> bool
     requires { CheckedPart t.now n place }
-    ensures { result ≡ too_large room (split_unit (unit t.now) n source_cut target_cut id) }
+    ensures { result ≡ too_large room (split_unit (unit t.now) n cuts.source cuts.target cuts.new_id) }
 {
-    let more = added(t, place, source_cut, target_cut);
+    let more = added(t, place, cuts);
     let records = part_at::count_records(t) + 1 + more;
     let parts = orders::count_parts(t) + 1;
     let bytes = t.len() + (place.source - place.head) + marks::TEXT_WIDTH * more;

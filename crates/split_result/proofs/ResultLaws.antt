@@ -28,7 +28,7 @@ order_or (target q xs) = q
 
 pub rises_is : (t : List ℕ) (x : PartPlace) (g : Target) → TargetStands t x g → rises_above x ≡ order_or g
 rises_is t x no_target e = rw e.0
-rises_is t x (target q xs) e = rw (e.0, e.1)
+rises_is t x (target q xs) e = rw e.0
 
 -- without target no order is above 65535
 target_same : (g h : Target) → GoodTarget h → order_target (split_order g) h ≡ order_target (moved true (order_or g)) h

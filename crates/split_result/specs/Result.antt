@@ -1,5 +1,5 @@
 -- A table with one of its parts split.
-use Rattle.std.specs.Prelude.{ℕ, ◌≤◌, ◌≡◌, cond, List, ◌∷◌, ◌++◌, length}
+use Rattle.std.specs.Prelude.{ℕ, ◌≤◌, ◌≡◌, unwrap_or, List, ◌∷◌, ◌++◌, length}
 use Rattle.std.proofs.Math.Option.{none}
 use Rattle.xliff.specs.Bytes.{gather}
 use Rattle.xliff.specs.Unit.{Part}
@@ -15,7 +15,7 @@ use Rattle.part_at.specs.Stands.{PartStands, CheckedPart}
 
 -- the order of the part's target; without one 65535, above which no order is
 abbrev pub rises_above : PartPlace → ℕ
-rises_above place = cond place.has_target place.order 65535
+rises_above place = unwrap_or place.order 65535
 
 -- the parts b, p, a with p split, as `split_focus` has them
 abbrev pub split_parts : ℕ → ℕ → ℕ → List Part → Part → List Part → List ℕ

@@ -1,7 +1,9 @@
 -- The lowest order that is unused, and the order by the old target.
 use Prim.Native.Nat.{ℕ, zero, suc, ◌+◌, ◌-◌, ◌≤◌, ◌<◌}
 use mathlib.Core.Path.{◌≡◌, refl, sym, ap, ap₂, ◌∙◌}
-use mathlib.Core.Bool.{Bool, true, false, cond, true≢false}
+use mathlib.Core.Bool.{Bool, true, false, cond}
+use Rattle.std.specs.Prelude.{Some, None}
+use Rattle.orders.proofs.OrderLaws.{is_not, is_is}
 use mathlib.Core.List.{List}
 use native.Mathlib.Omega.{arith}
 use native.Mathlib.Numerals.{add-one}
@@ -33,19 +35,19 @@ module _ (used : List ℕ) (q : ℕ) where
 
 -- by the old target
 module _ (t : List ℕ) (place : PartPlace) (ps : List Part) (n : ℕ) where
-  pub order_kept : (g : Target) → TargetStands t place g → place.has_target ≡ true → place.order ≡ new_order ps n g
+  pub order_kept : (g : Target) → TargetStands t place g → (q : ℕ) → place.order ≡ Some q → q ≡ new_order ps n g
   unfolding new_order
-  order_kept no_target s e = absurd (true≢false (sym e ∙ s.0))
-  order_kept (target q xs) s e = s.1
+  order_kept no_target s q e = is_not (sym s.0 ∙ e)
+  order_kept (target k xs) s q e = is_is (sym e ∙ s.0)
 
-  module _ (e : place.has_target ≡ false) where
+  module _ (e : place.order ≡ None) where
     pub position_unused : (g : Target) → TargetStands t place g → among n (orders ps) ≡ false → n ≡ new_order ps n g
     unfolding new_order
     position_unused no_target s u = sym (ap (λ (b : Bool). cond b (lowest_unused 1 (length ps) (orders ps)) n) u)
-    position_unused (target q xs) s u = absurd (true≢false (sym s.0 ∙ e))
+    position_unused (target q xs) s u = is_not (sym e ∙ s.0)
 
     pub position_used : (g : Target) → TargetStands t place g → among n (orders ps) ≡ true → (r k : ℕ) → r ≡ lowest_unused 1 k (orders ps) → k ≡ length ps → r ≡ new_order ps n g
     unfolding new_order
     position_used no_target s u r k h l =
         h ∙ ap (λ (j : ℕ). lowest_unused 1 j (orders ps)) l ∙ sym (ap (λ (b : Bool). cond b (lowest_unused 1 (length ps) (orders ps)) n) u)
-    position_used (target q xs) s u r k h l = absurd (true≢false (sym s.0 ∙ e))
+    position_used (target q xs) s u r k h l = is_not (sym e ∙ s.0)

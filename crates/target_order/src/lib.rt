@@ -15,16 +15,12 @@ fn lowest_unused(t: &[u8], n: u16) -> u16
     requires { Passes t.now × (n ≤ most_parts) }
     ensures { result ≡ lowest_unused 1 n (orders (unit t.now).parts) }
 {
-    let mut q = 1;
-    let mut left = n;
-    while 0 < left {
+    for q in 1..n + 1 {
         if !join_orders::is_order(t, q) {
             return q;
         }
-        q += 1;
-        left -= 1;
     }
-    q
+    n + 1
 }
 
 // The order of the part's target; without one the part's position `n` if no target has it, else the lowest unused.
@@ -32,8 +28,8 @@ pub fn new_order(t: &[u8], n: u16, place: PartPlace) -> u16
     requires { Passes t.now }
     ensures { NewOrderIs t.now n place result }
 {
-    if place.has_target {
-        return place.order;
+    if let Some(order) = place.order {
+        return order;
     }
     if !join_orders::is_order(t, n) {
         return n;

@@ -16,7 +16,7 @@ returns-then-not-granted c =
     let table = args.table.now in
     let out = args.out.now in
     let s = args.s.now in
-    let grant = grant_of args.role args.positions.now in
+    let grant = grant_of args.grant.role args.grant.positions.now in
     let call : GrantedCall = record { grant = grant; call = call_with (length out) s args.r } in
     let ungranted = sym (c.granted.ensures (length out) s) ∙ not-true _ c.if-not-granted.true-raw in
     answers_refused _ 24 0 out (refused_24 table call c.requires.0 ungranted)
@@ -28,7 +28,7 @@ returns c =
     let table = args.table.now in
     let room = length args.out.now in
     let s = args.s.now in
-    let grant = grant_of args.role args.positions.now in
+    let grant = grant_of args.grant.role args.grant.positions.now in
     let call : GrantedCall = record { grant = grant; call = call_with room s args.r } in
     let allowed = sym (c.granted.ensures room s) ∙ not-false _ c.if-not-granted.false-raw in
     rw (granted_own table call allowed) c.perform.ensures

@@ -9,14 +9,14 @@ use Rattle.granted_halves.proofs.halves_within.Goals as goal
 pub loop-at-init : goal.loop-at-init
 loop-at-init c =
     let args = c.args in
-    going_start args.t.now (grant_of args.role args.positions.now) args.side args.id c.requires
+    going_start args.t.now (grant_of args.grant.role args.grant.positions.now) args.side args.id c.requires
 
 -- n = number_after(g.head.is_part(), n);
 pub number_after-n-requires : goal.number_after-n-requires
 number_after-n-requires c =
     let loop = c.loop-at in
     let args = c.args in
-    let grant = grant_of args.role args.positions.now in
+    let grant = grant_of args.grant.role args.grant.positions.now in
     going_few args.t.now grant args.side args.id loop.at loop.n loop.inside loop.invariant c.requires
 
 -- at += g.width;
@@ -40,19 +40,19 @@ pub returns : goal.returns
 returns c =
     let loop = c.loop-at in
     let args = c.args in
-    let grant = grant_of args.role args.positions.now in
+    let grant = grant_of args.grant.role args.grant.positions.now in
     sym
     (going_end args.t.now grant args.side args.id loop.at loop.n loop.inside loop.invariant
     c.loop-at-test.false)
 
--- if stands_outside(t, at, role, positions, n, inside, id) { return false; }
+-- if stands_outside(t, at, grant, n, inside, id) { return false; }
 pub returns-then-stands_outside : goal.returns-then-stands_outside
 returns-then-stands_outside c =
     let loop = c.loop-at in
     let seen = walked c.args.t.now loop.at loop.invariant.left c.glance_at-g.result loop.invariant.here c.loop-at-test.true
     c.glance_at-g.ensures in
     let args = c.args in
-    let grant = grant_of args.role args.positions.now in
+    let grant = grant_of args.grant.role args.grant.positions.now in
     let outside = sym c.stands_outside.ensures ∙ c.if-stands_outside.true in
     sym
     (going_found args.t.now grant args.side args.id loop.at loop.n loop.inside loop.invariant
@@ -65,7 +65,7 @@ loop-at-preserved c =
     let seen = walked c.args.t.now loop.at loop.invariant.left c.glance_at-g.result loop.invariant.here c.loop-at-test.true
     c.glance_at-g.ensures in
     let args = c.args in
-    let grant = grant_of args.role args.positions.now in
+    let grant = grant_of args.grant.role args.grant.positions.now in
     let none = sym c.stands_outside.ensures ∙ c.if-stands_outside.false in
     rw (c.number_after-n.ensures, c.is_part.ensures, c.inside_of-inside.ensures)
     (going_on args.t.now grant args.side args.id loop.at loop.n loop.inside loop.invariant

@@ -16,7 +16,7 @@ returns-then-not-inside-v c =
     ∙ not-true _ c.if-not-inside-v.true-raw in
     rw none
 
--- !granted_parts::within(role, positions, n)
+-- !grant.has_part(n)
 pub returns : goal.returns
 returns c =
     let args = c.args in
@@ -24,4 +24,4 @@ returns c =
     let half : args.inside && half_of_id args.id item ≡ true =
     sym (half_is args.inside args.id item c.view_at-v.result c.view_at-v.ensures)
     ∙ not-false _ c.if-not-inside-v.false-raw in
-    rw (half, c.within.ensures)
+    rw (half, c.has_part.ensures)

@@ -1,29 +1,29 @@
 use Rattle.grants.specs.Grant.{granted}
 use Rattle.granted_requests.proofs.granted.Goals as goal
 
--- Request::Split { .. } => is_engineer(role)
+-- Request::Split { .. } => is_engineer(grant.role)
 pub returns-in-Split : goal.returns-in-Split
 unfolding granted
 returns-in-Split c = λ room s. rw c.in-Split.is c.is_engineer.ensures
 
--- Request::Join { .. } => is_engineer(role)
+-- Request::Join { .. } => is_engineer(grant.role)
 pub returns-in-Join : goal.returns-in-Join
 unfolding granted
 returns-in-Join c = λ room s. rw c.in-Join.is c.is_engineer-in-Join.ensures
 
--- Request::SetTarget { part, .. } => granted_parts::within(role, positions, marks::wide(part))
+-- Request::SetTarget { part, .. } => grant.has_part(usize::from(part))
 pub returns-in-SetTarget : goal.returns-in-SetTarget
 unfolding granted
 returns-in-SetTarget c = λ room s.
-    rw c.in-SetTarget.is (rw c.wide.ensures.0 at c.within.ensures)
+    rw c.in-SetTarget.is (rw c.from.ensures at c.has_part.ensures)
 
--- Request::RemoveTarget { part } => granted_parts::within(role, positions, marks::wide(part))
+-- Request::RemoveTarget { part } => grant.has_part(usize::from(part))
 pub returns-in-RemoveTarget : goal.returns-in-RemoveTarget
 unfolding granted
 returns-in-RemoveTarget c = λ room s.
-    rw c.in-RemoveTarget.is (rw c.wide-in-RemoveTarget.ensures.0 at c.within-in-RemoveTarget.ensures)
+    rw c.in-RemoveTarget.is (rw c.from-in-RemoveTarget.ensures at c.has_part-in-RemoveTarget.ensures)
 
--- Request::Rewrite { side, id, .. } => rewrite_granted(role, positions, table, side, id)
+-- Request::Rewrite { side, id, .. } => rewrite_granted(grant, table, side, id)
 pub returns-in-Rewrite : goal.returns-in-Rewrite
 unfolding granted
 returns-in-Rewrite c = λ room s. rw c.in-Rewrite.is c.rewrite_granted.ensures

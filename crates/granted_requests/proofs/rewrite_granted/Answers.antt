@@ -9,7 +9,7 @@ pub returns-in-Translator : goal.returns-in-Translator
 unfolding rewrite_granted
 returns-in-Translator c = search rules
 
--- Role::Reviewer => whole_granted(role, positions, table, side, id)
+-- Role::Reviewer => whole_granted(grant, table, side, id)
 pub returns-in-Reviewer : goal.returns-in-Reviewer
 returns-in-Reviewer c =
     let told = c.in-Reviewer.is in

@@ -11,7 +11,7 @@ use Rattle.granted_requests.proofs.whole_granted.Goals as goal
 pub returns-then-not-side : goal.returns-then-not-side
 returns-then-not-side c =
     let args = c.args in
-    let grant = grant_of args.role args.positions.now in
+    let grant = grant_of args.grant.role args.grant.positions.now in
     let parts = (unit args.table.now).parts in
     sym (by_side grant parts args.side args.id (not-true _ c.if-not-side.true-raw))
 
@@ -19,7 +19,7 @@ returns-then-not-side c =
 pub find-requires : goal.find-requires
 find-requires c =
     let table = c.args.table.now in
-    (table_passes table c.shared_slice_known-2-1.given c.requires, small_table table c.requires)
+    (table_passes table c.type_inv.table c.requires, small_table table c.requires)
 
 -- if whole_pair::find(table, side, id).is_none() { return false; }
 pub returns-then-is_none : goal.returns-then-is_none
@@ -27,16 +27,16 @@ returns-then-is_none c =
     let find = c.find in
     let sided = not-false _ c.if-not-side.false-raw in
     let args = c.args in
-    let grant = grant_of args.role args.positions.now in
+    let grant = grant_of args.grant.role args.grant.positions.now in
     let parts = (unit args.table.now).parts in
     sym
     (by_missing grant parts args.side args.id sided find.result find.ensures
     c.if-is_none.ensures)
 
--- granted_halves::halves_within(table, role, positions, side, id)
+-- granted_halves::halves_within(table, grant, side, id)
 pub halves_within-requires : goal.halves_within-requires
 halves_within-requires c =
-    let known = c.shared_slice_known-2-1.given in
+    let known = c.type_inv.table in
     table_passes c.args.table.now known c.requires
 
 pub returns : goal.returns
@@ -44,7 +44,7 @@ returns c =
     let find = c.find in
     let sided = not-false _ c.if-not-side.false-raw in
     let args = c.args in
-    let grant = grant_of args.role args.positions.now in
+    let grant = grant_of args.grant.role args.grant.positions.now in
     let parts = (unit args.table.now).parts in
     c.halves_within.ensures
     ∙ sym

@@ -59,7 +59,7 @@ loop-role-smaller c =
 pub loop-role-preserved : goal.loop-role-preserved
 loop-role-preserved c =
     let put-part = c.put_part in
-    let within = c.within-inside in
+    let within = c.has_part-inside in
     let part_from = c.part_from-place in
     let if1 = c.loop-role-test.true in
     let starts-part = c.starts_part in

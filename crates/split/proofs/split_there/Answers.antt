@@ -14,9 +14,9 @@ returns-then-is_closed c =
     let args = c.args in
     let table = args.table.now in
     let n = args.n in
-    let source_cut = args.source_cut in
-    let target_cut = args.target_cut in
-    let id = args.id in
+    let source_cut = args.cuts.source in
+    let target_cut = args.cuts.target in
+    let id = args.cuts.new_id in
     let out = args.out.now in
     let (v, st) = c.requires in
     let (b, p, a, h, s) = st in
@@ -30,9 +30,9 @@ returns-then-is_bad_cut c =
     let args = c.args in
     let table = args.table.now in
     let n = args.n in
-    let source_cut = args.source_cut in
-    let target_cut = args.target_cut in
-    let id = args.id in
+    let source_cut = args.cuts.source in
+    let target_cut = args.cuts.target in
+    let id = args.cuts.new_id in
     let out = args.out.now in
     let (v, st) = c.requires in
     let (b, p, a, h, s) = st in
@@ -41,7 +41,7 @@ returns-then-is_bad_cut c =
     answers_refused _ 13 0 out
     (refused_13 table n source_cut target_cut id (length out) v b p a h not_closed bad)
 
--- part_refusals::is_taken(table, id)
+-- part_refusals::is_taken(table, cuts.new_id)
 pub is_taken-taken-requires : goal.is_taken-taken-requires
 is_taken-taken-requires c =
     let known = c.shared_slice_known-1.given in
@@ -54,9 +54,9 @@ returns-then-parted c =
     let args = c.args in
     let table = args.table.now in
     let n = args.n in
-    let source_cut = args.source_cut in
-    let target_cut = args.target_cut in
-    let id = args.id in
+    let source_cut = args.cuts.source in
+    let target_cut = args.cuts.target in
+    let id = args.cuts.new_id in
     let out = args.out.now in
     let (v, st) = c.requires in
     let (b, p, a, h, s) = st in
@@ -72,9 +72,9 @@ returns-then-taken c =
     let args = c.args in
     let table = args.table.now in
     let n = args.n in
-    let source_cut = args.source_cut in
-    let target_cut = args.target_cut in
-    let id = args.id in
+    let source_cut = args.cuts.source in
+    let target_cut = args.cuts.target in
+    let id = args.cuts.new_id in
     let out = args.out.now in
     let (v, st) = c.requires in
     let (b, p, a, h, s) = st in
@@ -91,9 +91,9 @@ returns-then-is_too_large c =
     let args = c.args in
     let table = args.table.now in
     let n = args.n in
-    let source_cut = args.source_cut in
-    let target_cut = args.target_cut in
-    let id = args.id in
+    let source_cut = args.cuts.source in
+    let target_cut = args.cuts.target in
+    let id = args.cuts.new_id in
     let out = args.out.now in
     let (v, st) = c.requires in
     let (b, p, a, h, s) = st in
@@ -105,7 +105,7 @@ returns-then-is_too_large c =
     answers_refused _ 15 0 out
     (refused_15 table n source_cut target_cut id (length out) v b p a h not_closed cuts whole free large)
 
--- split_result::put_split(out, table, place, source_cut, target_cut, id)
+-- split_result::put_split(out, table, place, cuts)
 pub put_split-requires : goal.put_split-requires
 put_split-requires c =
     let args = c.args in
@@ -113,19 +113,19 @@ put_split-requires c =
       n,
       c.requires,
       fits (length args.out.now)
-          (split_unit (unit args.table.now) n args.source_cut args.target_cut args.id)
+          (split_unit (unit args.table.now) n args.cuts.source args.cuts.target args.cuts.new_id)
           (sym c.is_too_large.ensures ∙ c.if-is_too_large.false),
     )
 
--- Answer::Accepted(split_result::put_split(out, table, place, source_cut, target_cut, id))
+-- Answer::Accepted(split_result::put_split(out, table, place, cuts))
 pub returns : goal.returns
 returns c =
     let args = c.args in
     let table = args.table.now in
     let n = args.n in
-    let source_cut = args.source_cut in
-    let target_cut = args.target_cut in
-    let id = args.id in
+    let source_cut = args.cuts.source in
+    let target_cut = args.cuts.target in
+    let id = args.cuts.new_id in
     let out = args.out.now in
     let put-split = c.put_split in
     let (v, st) = c.requires in

@@ -2,21 +2,24 @@ use native.Mathlib.Omega.{arith}
 use Rattle.split_limits.proofs.AddedLaws.{part_added}
 use Rattle.split_limits.proofs.added.Goals as goal
 
+-- added_in(place.source_of(t), cuts.source)
+pub added_in-source-requires : goal.added_in-source-requires
+added_in-source-requires c =
+    let (b, p, a, s) = c.requires.1 in
+    (p.source, c.source_of.ensures b p a s)
+
 -- source + target
 pub overflow_add-result : goal.overflow_add-result
 overflow_add-result c =
-    let pre = c.requires in
-    let (v, st) = pre in
-    let (b, p, a, s) = st in
-    let x = c.source_added-source.ensures b p a s in
+    let (b, p, a, s) = c.requires.1 in
+    let x = c.added_in-source.ensures p.source (c.source_of.ensures b p a s) in
     let y = c.target_added-target.ensures b p a s in
     omega (arith, x.few, y.few)
 
 -- source + target
 pub returns : goal.returns
 returns c =
-    let args = c.args in
-    let source-added = c.source_added-source in
+    let cuts = c.args.cuts in
     λ b p a s.
-    part_added args.source_cut args.target_cut p source-added.result c.target_added-target.result
-    (source-added.ensures b p a s) (c.target_added-target.ensures b p a s)
+    part_added cuts.source cuts.target p c.added_in-source.result c.target_added-target.result
+    (c.added_in-source.ensures p.source (c.source_of.ensures b p a s)) (c.target_added-target.ensures b p a s)

@@ -5,7 +5,7 @@ use Rattle.part_at.proofs.CheckedLaws.{table_passes, placed_checked}
 use Rattle.split_limits.proofs.SizeLaws.{few_added, too_large_at}
 use Rattle.split_limits.proofs.is_too_large.Goals as goal
 
--- added(t, place, cut, target_cut)
+-- added(t, place, cuts)
 pub added-more-requires : goal.added-more-requires
 added-more-requires c =
     let args = c.args in
@@ -36,7 +36,7 @@ overflow_add-records-2 c =
       arith,
       c.count_records.ensures,
       q.few,
-      few_added t known args.n args.place pre args.source_cut args.target_cut added.result added.ensures,
+      few_added t known args.n args.place pre args.cuts.source args.cuts.target added.result added.ensures,
     )
 
 -- orders::count_parts(t)
@@ -60,7 +60,7 @@ overflow_mul-bytes c =
     let added = c.added-more in
     omega (
       arith,
-      few_added args.t.now known args.n args.place c.requires args.source_cut args.target_cut added.result
+      few_added args.t.now known args.n args.place c.requires args.cuts.source args.cuts.target added.result
           added.ensures,
     )
 
@@ -76,7 +76,7 @@ overflow_add-bytes-2 c =
     let (b, p, a, e, s) = st in
     omega (
       arith,
-      few_added t known args.n args.place pre args.source_cut args.target_cut added.result added.ensures,
+      few_added t known args.n args.place pre args.cuts.source args.cuts.target added.result added.ensures,
       small_table t pre.0,
       s.head.ordered,
       s.head.within,
@@ -90,6 +90,6 @@ returns c =
     let added = c.added-more in
     let count-records = c.count_records in
     let count-parts = c.count_parts-parts in
-    too_large_at args.t.now known args.n args.place c.requires args.source_cut args.target_cut added.result
-    added.ensures args.id args.room count-records.result count-parts.result count-records.ensures
+    too_large_at args.t.now known args.n args.place c.requires args.cuts.source args.cuts.target added.result
+    added.ensures args.cuts.new_id args.room count-records.result count-parts.result count-records.ensures
     count-parts.ensures

@@ -23,7 +23,7 @@ put-i-requires c =
     let (n, pl, room) = c.requires in
     let (v, st) = pl in
     let (b, p, a, e, s) = st in
-    first_room (unit_pieces (unit t) n args.k args.j args.id b p a e t
+    first_room (unit_pieces (unit t) n args.cuts.source args.cuts.target args.cuts.new_id b p a e t
     (table_of t (bytes_known t c.shared_slice_known-1.given) v)) args.out.now room
 
 -- &mut out[i..]
@@ -36,7 +36,7 @@ slice_bounds-put_split_parts-count c =
     let (v, st) = pl in
     let (b, p, a, e, s) = st in
     second_start
-    (unit_pieces (unit t) n args.k args.j args.id b p a e t (table_of t (bytes_known t known) v))
+    (unit_pieces (unit t) n args.cuts.source args.cuts.target args.cuts.new_id b p a e t (table_of t (bytes_known t known) v))
     args.out.now room c.put-i.ensures
 
 -- &mut out[i..]
@@ -49,10 +49,10 @@ slice_bounds-put_split_parts-start c =
     let (v, st) = pl in
     let (b, p, a, e, s) = st in
     second_start
-    (unit_pieces (unit t) n args.k args.j args.id b p a e t (table_of t (bytes_known t known) v))
+    (unit_pieces (unit t) n args.cuts.source args.cuts.target args.cuts.new_id b p a e t (table_of t (bytes_known t known) v))
     args.out.now room c.put-i.ensures
 
--- put_split_parts(&mut out[i..], t, place, k, j, id)
+-- put_split_parts(&mut out[i..], t, place, cuts)
 pub put_split_parts-m-requires : goal.put_split_parts-m-requires
 put_split_parts-m-requires c =
     let args = c.args in
@@ -68,7 +68,7 @@ put_split_parts-m-requires c =
       a,
       s,
       second_room
-          (unit_pieces (unit t) n args.k args.j args.id b p a e t (table_of t (bytes_known t known) v))
+          (unit_pieces (unit t) n args.cuts.source args.cuts.target args.cuts.new_id b p a e t (table_of t (bytes_known t known) v))
           args.out.now room put.ensures,
     )
 
@@ -84,7 +84,7 @@ overflow_add-l c =
     let (b, p, a, e, s) = st in
     omega (
       arith,
-      two_fit (unit_pieces (unit t) n args.k args.j args.id b p a e t (table_of t (bytes_known t known) v))
+      two_fit (unit_pieces (unit t) n args.cuts.source args.cuts.target args.cuts.new_id b p a e t (table_of t (bytes_known t known) v))
           args.out.now room put.ensures (c.put_split_parts-m.ensures b p a s),
     )
 
@@ -99,7 +99,7 @@ slice_bounds-put-count c =
     let (v, st) = pl in
     let (b, p, a, e, s) = st in
     third_start
-    (unit_pieces (unit t) n args.k args.j args.id b p a e t (table_of t (bytes_known t known) v))
+    (unit_pieces (unit t) n args.cuts.source args.cuts.target args.cuts.new_id b p a e t (table_of t (bytes_known t known) v))
     args.out.now room put.ensures (c.put_split_parts-m.ensures b p a s)
 
 -- &mut out[l..]
@@ -113,7 +113,7 @@ slice_bounds-put-start c =
     let (v, st) = pl in
     let (b, p, a, e, s) = st in
     third_start
-    (unit_pieces (unit t) n args.k args.j args.id b p a e t (table_of t (bytes_known t known) v))
+    (unit_pieces (unit t) n args.cuts.source args.cuts.target args.cuts.new_id b p a e t (table_of t (bytes_known t known) v))
     args.out.now room put.ensures (c.put_split_parts-m.ensures b p a s)
 
 -- writer::put(&mut out[l..], &t[e..])
@@ -128,7 +128,7 @@ put-r-requires c =
     let (v, st) = pl in
     let (b, p, a, e, s) = st in
     third_room
-    (unit_pieces (unit t) n args.k args.j args.id b p a e t (table_of t (bytes_known t known) v))
+    (unit_pieces (unit t) n args.cuts.source args.cuts.target args.cuts.new_id b p a e t (table_of t (bytes_known t known) v))
     args.out.now room put.ensures (put-split-parts.ensures b p a s)
 
 -- l + r
@@ -145,7 +145,7 @@ overflow_add-result c =
     omega (
       arith,
       three_fit
-          (unit_pieces (unit t) n args.k args.j args.id b p a e t (table_of t (bytes_known t known) v))
+          (unit_pieces (unit t) n args.cuts.source args.cuts.target args.cuts.new_id b p a e t (table_of t (bytes_known t known) v))
           args.out.now room put.ensures (put-split-parts.ensures b p a s)
           c.put-r.ensures.0,
     )
@@ -161,5 +161,5 @@ returns c =
     λ n pl.
     let (v, st) = pl in
     let (b, p, a, e, s) = st in
-    all_wrote (unit_pieces (unit t) n args.k args.j args.id b p a e t (table_of t (bytes_known t known) v))
+    all_wrote (unit_pieces (unit t) n args.cuts.source args.cuts.target args.cuts.new_id b p a e t (table_of t (bytes_known t known) v))
     args.out.now put.ensures (put-split-parts.ensures b p a s) c.put-r.ensures

@@ -23,7 +23,7 @@ slice_bounds-put_halves-start-3 c =
     let e = target_ends t (bytes_known t known) b p a args.place s in
     omega (arith, e.0, e.1)
 
--- halves_of_part::put_halves(out, &t[h..s], &t[s..g], &t[g..e], k, j, id)
+-- halves_of_part::put_halves(out, &t[h..s], &t[s..g], &t[g..e], cuts.source, cuts.target, cuts.new_id)
 pub put_halves-requires : goal.put_halves-requires
 put_halves-requires c =
     let args = c.args in
@@ -33,7 +33,7 @@ put_halves-requires c =
     let (v, b, p, a, s, room) = c.requires in
     (p, part_is t known v b p a place s, part_rises t known v b p a place s, room)
 
--- halves_of_part::put_halves(out, &t[h..s], &t[s..g], &t[g..e], k, j, id)
+-- halves_of_part::put_halves(out, &t[h..s], &t[s..g], &t[g..e], cuts.source, cuts.target, cuts.new_id)
 pub returns : goal.returns
 returns c =
     let known = c.shared_slice_known-1.given in

@@ -24,7 +24,7 @@ put_parts-n-requires c =
     let (v, b, p, a, s, room) = c.requires in
     let the-before-in = before_in t known v b p a place s in
     parts_room (moved true rises_above.result) (take (place.head - 3) (drop 3 t)) b the-before-in out
-    (first_room (split_pieces args.k args.j args.id b p a the-before-in.1
+    (first_room (split_pieces args.cuts.source args.cuts.target args.cuts.new_id b p a the-before-in.1
     (behind_in t known v b p a place s).1 rises_above.result
     (rises_above.ensures ∙ rises_is t place p.target s.target)) out room)
 
@@ -38,7 +38,7 @@ slice_bounds-put_split_part-count c =
     let rises_above = c.rises_above-q in
     let (v, b, p, a, s, room) = c.requires in
     let the-before-in = before_in t known v b p a place s in
-    second_start (split_pieces args.k args.j args.id b p a the-before-in.1
+    second_start (split_pieces args.cuts.source args.cuts.target args.cuts.new_id b p a the-before-in.1
     (behind_in t known v b p a place s).1 rises_above.result
     (rises_above.ensures ∙ rises_is t place p.target s.target)) args.out.now room
     (c.put_parts-n.ensures b the-before-in)
@@ -53,12 +53,12 @@ slice_bounds-put_split_part-start c =
     let rises_above = c.rises_above-q in
     let (v, b, p, a, s, room) = c.requires in
     let the-before-in = before_in t known v b p a place s in
-    second_start (split_pieces args.k args.j args.id b p a the-before-in.1
+    second_start (split_pieces args.cuts.source args.cuts.target args.cuts.new_id b p a the-before-in.1
     (behind_in t known v b p a place s).1 rises_above.result
     (rises_above.ensures ∙ rises_is t place p.target s.target)) args.out.now room
     (c.put_parts-n.ensures b the-before-in)
 
--- put_split_part(&mut out[n..], t, place, k, j, id)
+-- put_split_part(&mut out[n..], t, place, cuts)
 pub put_split_part-m-requires : goal.put_split_part-m-requires
 put_split_part-m-requires c =
     let args = c.args in
@@ -74,7 +74,7 @@ put_split_part-m-requires c =
       p,
       a,
       s,
-      second_room (split_pieces args.k args.j args.id b p a the-before-in.1
+      second_room (split_pieces args.cuts.source args.cuts.target args.cuts.new_id b p a the-before-in.1
           (behind_in t known v b p a place s).1 rises_above.result
           (rises_above.ensures ∙ rises_is t place p.target s.target)) args.out.now room
           (put-parts.ensures b the-before-in),
@@ -93,7 +93,7 @@ overflow_add-l c =
     let the-before-in = before_in t known v b p a place s in
     omega (
       arith,
-      two_fit (split_pieces args.k args.j args.id b p a the-before-in.1
+      two_fit (split_pieces args.cuts.source args.cuts.target args.cuts.new_id b p a the-before-in.1
           (behind_in t known v b p a place s).1 rises_above.result
           (rises_above.ensures ∙ rises_is t place p.target s.target)) args.out.now room
           (put-parts.ensures b the-before-in) (c.put_split_part-m.ensures b p a s),
@@ -110,7 +110,7 @@ slice_bounds-put_parts-count-2 c =
     let put-parts = c.put_parts-n in
     let (v, b, p, a, s, room) = c.requires in
     let the-before-in = before_in t known v b p a place s in
-    third_start (split_pieces args.k args.j args.id b p a the-before-in.1
+    third_start (split_pieces args.cuts.source args.cuts.target args.cuts.new_id b p a the-before-in.1
     (behind_in t known v b p a place s).1 rises_above.result
     (rises_above.ensures ∙ rises_is t place p.target s.target)) args.out.now room
     (put-parts.ensures b the-before-in) (c.put_split_part-m.ensures b p a s)
@@ -126,7 +126,7 @@ slice_bounds-put_parts-start-2 c =
     let put-parts = c.put_parts-n in
     let (v, b, p, a, s, room) = c.requires in
     let the-before-in = before_in t known v b p a place s in
-    third_start (split_pieces args.k args.j args.id b p a the-before-in.1
+    third_start (split_pieces args.cuts.source args.cuts.target args.cuts.new_id b p a the-before-in.1
     (behind_in t known v b p a place s).1 rises_above.result
     (rises_above.ensures ∙ rises_is t place p.target s.target)) args.out.now room
     (put-parts.ensures b the-before-in) (c.put_split_part-m.ensures b p a s)
@@ -158,7 +158,7 @@ put_parts-i-requires c =
     (drop c.args.place.end c.args.t.now)) a the-behind-in
     (rest (put-parts.result + put-split-part.result)
     (back put-parts.result put-parts.new.out put-split-part.new.out))
-    (third_room (split_pieces c.args.k c.args.j c.args.id b p a the-before-in.1
+    (third_room (split_pieces c.args.cuts.source c.args.cuts.target c.args.cuts.new_id b p a the-before-in.1
     the-behind-in.1 rises_above.result
     (rises_above.ensures ∙ rises_is c.args.t.now c.args.place p.target s.target))
     c.args.out.now room (put-parts.ensures b the-before-in) (put-split-part.ensures b p a s))
@@ -178,7 +178,7 @@ overflow_add-result c =
     let the-before-in = before_in t known v b p a place s in
     omega (
       arith,
-      three_fit (split_pieces args.k args.j args.id b p a the-before-in.1 the-behind-in.1
+      three_fit (split_pieces args.cuts.source args.cuts.target args.cuts.new_id b p a the-before-in.1 the-behind-in.1
           rises_above.result (rises_above.ensures ∙ rises_is t place p.target s.target)) args.out.now
           room (put-parts.ensures b the-before-in) (put-split-part.ensures b p a s)
           (c.put_parts-i.ensures a the-behind-in).0,
@@ -198,7 +198,7 @@ returns c =
     let v = c.requires.0 in
     let the-behind-in = behind_in t known v b p a place s in
     let the-before-in = before_in t known v b p a place s in
-    all_wrote (split_pieces args.k args.j args.id b p a the-before-in.1 the-behind-in.1
+    all_wrote (split_pieces args.cuts.source args.cuts.target args.cuts.new_id b p a the-before-in.1 the-behind-in.1
     rises_above.result (rises_above.ensures ∙ rises_is t place p.target s.target)) args.out.now
     (put-parts.ensures b the-before-in) (put-split-part.ensures b p a s)
     (c.put_parts-i.ensures a the-behind-in)

@@ -6,12 +6,12 @@ use Rattle.xliff.specs.Parse.{unit}
 use Rattle.target_order.proofs.OrderLaws.{order_kept, position_unused, position_used}
 use Rattle.target_order.proofs.new_order.Goals as goal
 
--- return place.order
-pub returns-then-place : goal.returns-then-place
-returns-then-place c =
+-- return order
+pub returns-in-Some : goal.returns-in-Some
+returns-in-Some c =
     let args = c.args in
     let t = args.t.now in
-    λ b p a s. order_kept t args.place (unit t).parts args.n p.target s.target c.if-place.true
+    λ b p a s. order_kept t args.place (unit t).parts args.n p.target s.target c.in-Some.order c.in-Some.is
 
 -- return n
 pub returns-then-not-is_order : goal.returns-then-not-is_order
@@ -19,7 +19,7 @@ returns-then-not-is_order c =
     let args = c.args in
     let t = args.t.now in
     λ b p a s.
-    position_unused t args.place (unit t).parts args.n c.if-place.false p.target s.target
+    position_unused t args.place (unit t).parts args.n c.in_default.is p.target s.target
     (sym c.is_order.ensures ∙ not-true _ c.if-not-is_order.true-raw)
 
 -- k as u16
@@ -38,9 +38,8 @@ pub returns : goal.returns
 returns c =
     let args = c.args in
     let t = args.t.now in
-    let if1 = c.if-place in
     let is-order = c.is_order in
     λ b p a s.
-    position_used t args.place (unit t).parts args.n if1.false p.target s.target
+    position_used t args.place (unit t).parts args.n c.in_default.is p.target s.target
     (sym is-order.ensures ∙ not-false _ c.if-not-is_order.false-raw) c.lowest_unused.result _
     c.lowest_unused.ensures c.count_parts-k.ensures
