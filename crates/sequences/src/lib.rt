@@ -172,7 +172,10 @@ pub struct MarkerRoom {
 }
 
 impl MarkerRoom {
-    pub fn new() -> MarkerRoom {
+    // Room that holds no marker yet.
+    pub fn new() -> MarkerRoom
+        ensures { result.count ≡ 0 }
+    {
         MarkerRoom {
             markers: [0; MOST_RECORDS],
             keys: [0; MOST_RECORDS],
