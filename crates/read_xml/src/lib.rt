@@ -4,28 +4,26 @@
 ghost use Rattle.std.specs.Prelude.{length};
 ghost use Rattle.xml.specs.Xml.{read_xml};
 ghost use Rattle.outcomes.specs.Outcomes.{Answers};
-ghost use Rattle.read_xml.specs.Judging.{SomeTable, Judges};
+ghost use Rattle.read_xml.specs.Judging.{Judges};
 
 use answers::Answer;
 use limits::MOST_BYTES;
-use table_builder::Built;
+use table_builder::TableBuilder;
 use table_check::check;
-use xml_unit::{ReadText, read_unit};
+use xml_unit::read_unit;
 
 // The table that was read: 15, then its check; only then it goes to the output.
-fn judged(table: &[u8], built: Built, out: &mut [u8]) -> Answer
-    requires { SomeTable table.now built }
-    ensures { Judges table.now built out.old out.new result }
+fn judged(builder: &TableBuilder, out: &mut [u8]) -> Answer
+    ensures { Judges builder.now out.old out.new result }
 {
-    let used = built.used;
-    if built.over | (out.len() < used) {
+    let Some(table) = builder.table() else {
+        return Answer::Refused(15, 0);
+    };
+    if out.len() < table.len() {
         return Answer::Refused(15, 0);
     }
-    match check(&table[..used]) {
-        Answer::Accepted(_) => {
-            let wrote = writer::put(out, &table[..used]);
-            Answer::Accepted(wrote)
-        }
+    match check(table) {
+        Answer::Accepted(_) => Answer::Accepted(writer::put(out, table)),
         Answer::Refused(n, at) => Answer::Refused(n, at),
     }
 }
@@ -36,8 +34,9 @@ pub fn read_xml(xml: &[u8], out: &mut [u8]) -> Answer
     ensures { Answers (read_xml xml.now (length out.old)) result out.old out.new }
 {
     let mut table = [0u8; MOST_BYTES];
-    match read_unit(xml, &mut table) {
-        ReadText::Good(built) => judged(&table, built, out),
-        ReadText::Bad(place) => Answer::Refused(22, place),
+    let mut builder = TableBuilder::new(&mut table);
+    if let Err(blamed) = read_unit(xml, &mut builder) {
+        return Answer::Refused(22, blamed.place);
     }
+    judged(&builder, out)
 }

@@ -1,144 +1,94 @@
 // A whole unit in XML.
 #![tactic(auto)]
 
-ghost use Rattle.std.specs.Prelude.{◌≡◌, ◌≤◌, length};
-ghost use Rattle.xliff.specs.Parse.{most_bytes};
+ghost use Rattle.std.specs.Prelude.{[], ◌≤◌, length};
 ghost use Rattle.xml.specs.Elements.{unit_due, part_due};
-ghost use Rattle.xml_names.specs.Names.{bytes_between, NameIn};
-ghost use Rattle.xml_piece.specs.Pieces.{rest_at, tag_at};
-ghost use Rattle.xml_records.specs.Collecting.{Collecting};
-ghost use Rattle.xml_element.specs.Opens.{end_tokens, EndTagIn};
+ghost use Rattle.table_builder.specs.Building.{Holds};
+ghost use Rattle.xml_piece.specs.Pieces.{rest_at};
+ghost use Rattle.xml_element.specs.Opens.{TagIn, start_tokens, EndNameIn, end_tokens};
 ghost use Rattle.xml_part.specs.Parts.{CollectingAt};
-ghost use Rattle.xml_unit.specs.Units.{Finishes, UnitEnds, BehindUnit, Whole, TextRead};
+ghost use Rattle.xml_unit.specs.Units.{Finishes, UnitEnds, BehindUnit, TextRead};
 
-use table_builder::{Built, nothing};
-use xml_attributes::{Tagged, read_attributes};
-use xml_content::Went;
-use xml_element::EndTag;
-use xml_heads::{UnitRead, unit_opening};
-use xml_part::{Outer, outer_at, part};
+use table_builder::TableBuilder;
+use xml_element::{Blamed, EndTag, StartTag, attributes_at};
+use xml_heads::unit_opening;
+use xml_part::{AnyTag, Outer, outer_at, part, tag_behind};
 use xml_records::{put_closing, put_opening};
 use xml_slots::{ABSENT, SLOTS, is_word};
 
-// A text read, or a place at fault.
-#[derive(Clone, Copy)]
-pub enum ReadText {
-    Good(Built),
-    Bad(usize),
-}
-
-// Behind the unit.
-fn behind_unit(text: &[u8], start: usize, built: Built) -> ReadText
+// Behind the unit nothing stands but blanks and comments.
+fn behind_unit(text: &[u8], start: usize) -> Result<(), Blamed>
     requires { start ≤ length text.now }
-    ensures { BehindUnit text.now start built result }
+    ensures { BehindUnit text.now start result }
 {
-    match outer_at(text, start) {
-        Outer::Start(place, from, upto) => ReadText::Bad(place),
-        Outer::Close(end) => ReadText::Bad(end.place),
-        Outer::Cut(place) => ReadText::Bad(place),
-        Outer::Bad(place) => ReadText::Bad(place),
-        Outer::End(place) => ReadText::Good(built),
+    match outer_at(text, start)? {
+        Outer::Start(tag) => Err(Blamed { place: tag.place }),
+        Outer::Close(end) => Err(Blamed { place: end.place }),
+        Outer::Cut(place) => Err(Blamed { place }),
+        Outer::End(_) => Ok(()),
     }
 }
 
 // The end of a unit: its end tag.
-fn unit_end(text: &[u8], at: usize, end: EndTag, table: &mut [u8], built: Built) -> ReadText
-    requires { EndTagIn text.now at end × Collecting table.old built }
-    ensures { UnitEnds (end_tokens text.now end) table.old built table.new result }
+fn unit_end(text: &[u8], end: EndTag, builder: &mut TableBuilder) -> Result<(), Blamed>
+    requires { EndNameIn text.now end × (end.next ≤ length text.now) }
+    ensures { UnitEnds (end_tokens text.now end) builder.old builder.new result }
 {
-    let from = end.from;
-    let upto = end.upto;
-    if is_word(&text[from..upto], b"unit") {
-        let closed = put_closing(table, built);
-        return behind_unit(text, end.next, closed);
+    if !is_word(end.name.of(text), b"unit") {
+        return Err(Blamed { place: end.place });
     }
-    ReadText::Bad(end.place)
+    put_closing(builder);
+    behind_unit(text, end.next)
 }
 
 // The parts of a unit from `start` on, and its end.
-fn parts(text: &[u8], start: usize, table: &mut [u8], built: Built) -> ReadText
-    requires { (start ≤ length text.now) × CollectingAt 0 table.old built }
-    ensures { Finishes (part_due 0) (rest_at text.now start) table.old built table.new result }
+fn parts(text: &[u8], start: usize, builder: &mut TableBuilder) -> Result<(), Blamed>
+    requires { (start ≤ length text.now) × CollectingAt 0 builder.old }
+    ensures { Finishes (part_due 0) (rest_at text.now start) builder.old builder.new result }
 {
     let mut at = start;
-    let mut so_far = built;
     let mut count: usize = 0;
     loop {
-        match outer_at(text, at) {
-            Outer::Start(place, from, upto) => {
-                match part(text, place, from, upto, table, so_far, count) {
-                    Went::On(next, more) => {
-                        at = next;
-                        so_far = more;
-                        count += 1;
-                    }
-                    Went::Bad(blamed) => {
-                        return ReadText::Bad(blamed);
-                    }
-                }
+        match tag_behind(text, at)? {
+            AnyTag::Start(tag) => {
+                at = part(text, tag, builder, count)?;
+                count += 1;
             }
-            Outer::Close(end) => {
-                return unit_end(text, at, end, table, so_far);
-            }
-            Outer::Cut(place) => {
-                return ReadText::Bad(text.len());
-            }
-            Outer::Bad(place) => {
-                return ReadText::Bad(place);
-            }
-            Outer::End(place) => {
-                return ReadText::Bad(place);
+            AnyTag::Close(end) => {
+                return unit_end(text, end, builder);
             }
         }
     }
 }
 
-// The unit whose start tag stands at `place`.
-fn unit(
-    text: &[u8],
-    place: usize,
-    from: usize,
-    upto: usize,
-    table: &mut [u8],
-    built: Built,
-) -> ReadText
-    requires { NameIn text.now from upto × CollectingAt 0 table.old built }
-    ensures { Finishes unit_due (tag_at text.now place (bytes_between text.now from upto)
-        upto) table.old built table.new result }
+// The unit whose start tag this is.
+fn unit(text: &[u8], tag: StartTag, builder: &mut TableBuilder) -> Result<(), Blamed>
+    requires { TagIn text.now tag × CollectingAt 0 builder.old }
+    ensures { Finishes unit_due (start_tokens text.now tag) builder.old builder.new result }
 {
     let mut slots = [ABSENT; SLOTS];
-    match read_attributes(text, upto, &mut slots) {
-        Tagged::Whole(next, short, count) => {
-            if !is_word(&text[from..upto], b"unit") {
-                return ReadText::Bad(place);
-            }
-            match unit_opening(&slots, count) {
-                UnitRead::Good(letter) => {
-                    let opened = put_opening(table, built, letter);
-                    if short {
-                        let closed = put_closing(table, opened);
-                        return behind_unit(text, next, closed);
-                    }
-                    parts(text, next, table, opened)
-                }
-                UnitRead::Bad => ReadText::Bad(place),
-            }
-        }
-        Tagged::Cut => ReadText::Bad(text.len()),
-        Tagged::Fault => ReadText::Bad(place),
+    let tagged = attributes_at(text, tag, &mut slots)?;
+    if !is_word(tag.name.of(text), b"unit") {
+        return Err(Blamed { place: tag.place });
     }
+    let Some(letter) = unit_opening(&slots, tagged.count) else {
+        return Err(Blamed { place: tag.place });
+    };
+    put_opening(builder, letter);
+    if tagged.short {
+        put_closing(builder);
+        return behind_unit(text, tagged.next);
+    }
+    parts(text, tagged.next, builder)
 }
 
-// A whole text, into an array as long as the longest table.
-pub fn read_unit(text: &[u8], table: &mut [u8]) -> ReadText
-    requires { length table.old ≡ most_bytes }
-    ensures { TextRead text.now table.new result }
+// A whole text, into a table that holds nothing as yet.
+pub fn read_unit(text: &[u8], builder: &mut TableBuilder) -> Result<(), Blamed>
+    requires { Holds builder.old [] [] }
+    ensures { TextRead text.now builder.new result }
 {
-    match outer_at(text, 0) {
-        Outer::Start(place, from, upto) => unit(text, place, from, upto, table, nothing()),
-        Outer::Close(end) => ReadText::Bad(end.place),
-        Outer::Cut(place) => ReadText::Bad(text.len()),
-        Outer::Bad(place) => ReadText::Bad(place),
-        Outer::End(place) => ReadText::Bad(place),
+    match tag_behind(text, 0)? {
+        AnyTag::Start(tag) => unit(text, tag, builder),
+        AnyTag::Close(end) => Err(Blamed { place: end.place }),
     }
 }

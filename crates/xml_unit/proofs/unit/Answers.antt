@@ -1,139 +1,53 @@
-use mathlib.Core.Path.{refl, sym, ◌∙◌}
+use Rattle.std.proofs.lemmas.Result.{err_from_is_err_and}
+use mathlib.Core.Path.{sym, ◌∙◌}
 use borrow.Author.Tests.{not-true, not-false}
 use Rattle.xml.specs.Words.{codes, 'unit'}
-use Rattle.xml.specs.Elements.{unit_due, cut_short}
-use Rattle.xml_names.specs.Names.{bytes_between}
+use Rattle.xml.specs.Elements.{unit_due}
 use Rattle.xml_attributes.proofs.SlotLaws.{all_absent}
-use Rattle.xml_records.proofs.CollectLaws.{collecting_on}
-use Rattle.xml_part.proofs.StepLaws.{some_collected}
-use Rattle.xml_part.proofs.TagSteps.{tag_cut, tag_fault, tag_goes, some_slots}
+use Rattle.xml_part.proofs.TagSteps.{unit_tag, tag_bad}
 use Rattle.xml_unit.proofs.UnitLaws.{another_name, bad_opening, short_unit, long_unit, opening_collected}
 use Rattle.xml_unit.proofs.unit.Goals as goal
 
--- read_attributes(text, upto, &mut slots)
-pub read_attributes-requires : goal.read_attributes-requires
-read_attributes-requires c = (c.requires.0.inside, all_absent)
+-- attributes_at(text, tag, &mut slots)
+pub attributes_at-requires : goal.attributes_at-requires
+attributes_at-requires c = (c.requires.0, all_absent)
 
--- if !is_word(..): return ReadText::Bad(place)
+-- attributes_at(..)?: the tag is at fault
+pub returns-in_err-tagged : goal.returns-in_err-tagged
+returns-in_err-tagged c =
+    let p = err_from_is_err_and c.from_residual.result c.from_residual.ensures.1 in
+    rw (p.1, p.2) (tag_bad c.args.text.now c.args.tag c.in_err-tagged.ensures unit_due unit_tag)
+
+-- return Err(Blamed { place: tag.place }): of another name
 pub returns-then-not-is_word : goal.returns-then-not-is_word
 unfolding codes 'unit'
 returns-then-not-is_word c =
-    let args = c.args in
-    let text = args.text.now in
-    let name = bytes_between text args.from args.upto in
-    let tag = c.read_attributes in
-    another_name text args.place name args.upto tag.new.slots tag.result tag.ensures
-    c.in-Whole.is
-    (sym c.is_word.ensures ∙ not-true _ c.if-not-is_word.true-raw)
+    another_name c.args.text.now c.args.tag c.attributes_at.new.slots c.in_ok-tagged.tagged c.in_ok-tagged.ensures
+    (rw c.of.ensures at (sym c.is_word.ensures ∙ not-true _ c.if-not-is_word.true-raw))
 
--- unit_opening(&slots, count)
-pub unit_opening-requires : goal.unit_opening-requires
-unit_opening-requires c =
-    let args = c.args in
-    let text = args.text.now in
-    let name = bytes_between text args.from args.upto in
-    let tag = c.read_attributes in
-    some_slots text args.place name args.upto tag.new.slots tag.result tag.ensures c.in-Whole.is
+-- no opening: Err(Blamed { place: tag.place })
+pub returns-in_default : goal.returns-in_default
+unfolding codes 'unit'
+returns-in_default c =
+    bad_opening c.args.text.now c.args.tag c.attributes_at.new.slots c.in_ok-tagged.tagged c.in_ok-tagged.ensures
+    (rw c.of.ensures at (sym c.is_word.ensures ∙ not-false _ c.if-not-is_word.false-raw)) c.in_default.ensures
 
--- put_opening(table, built, letter)
-pub put_opening-opened-requires : goal.put_opening-opened-requires
-put_opening-opened-requires c =
-    some_collected c.requires.1
-
--- put_closing(table, opened)
-pub put_closing-closed-requires : goal.put_closing-closed-requires
-put_closing-closed-requires c =
-    collecting_on c.put_opening-opened.ensures (some_collected c.requires.1)
-
--- behind_unit(text, next, closed)
-pub behind_unit-requires : goal.behind_unit-requires
-behind_unit-requires c =
-    let args = c.args in
-    let text = args.text.now in
-    let name = bytes_between text args.from args.upto in
-    let tag = c.read_attributes in
-    (tag_goes text args.place name args.upto tag.new.slots tag.result tag.ensures
-    c.in-Whole.is).inside
-
--- parts(text, next, table, opened)
+-- parts(text, tagged.next, builder)
 pub parts-requires : goal.parts-requires
 parts-requires c =
-    let args = c.args in
-    let text = args.text.now in
-    let name = bytes_between text args.from args.upto in
-    let tag = c.read_attributes in (
-      (tag_goes text args.place name args.upto tag.new.slots tag.result tag.ensures
-          c.in-Whole.is).inside,
-      opening_collected c.in-Good.letter c.requires.1 c.put_opening-opened.ensures,
-    )
+    (c.in_ok-tagged.ensures.inside, opening_collected c.in-Some.letter c.requires.1 c.put_opening.ensures)
 
--- if short: return behind_unit(text, next, closed)
-pub returns-then-short : goal.returns-then-short
+-- return behind_unit(text, tagged.next), in the short form
+pub returns-then-tagged : goal.returns-then-tagged
 unfolding codes 'unit'
-returns-then-short c =
-    let args = c.args in
-    let text = args.text.now in
-    let name = bytes_between text args.from args.upto in
-    let tag = c.read_attributes in
-    let head = c.unit_opening in
-    let put = c.put_opening-opened in
-    let close = c.put_closing-closed in
-    let behind = c.behind_unit in
-    short_unit text args.place name args.upto tag.new.slots tag.result tag.ensures c.in-Whole.is
-    (sym c.is_word.ensures ∙ not-false _ c.if-not-is_word.false-raw) head.result head.ensures
-    c.in-Good.is args.table.now
-    put.new.table close.new.table args.built put.result close.result put.ensures behind.result
-    c.if-short.true
-    close.ensures behind.ensures
+returns-then-tagged c =
+    short_unit c.args.text.now c.args.tag c.attributes_at.new.slots c.in_ok-tagged.tagged c.in_ok-tagged.ensures
+    (rw c.of.ensures at (sym c.is_word.ensures ∙ not-false _ c.if-not-is_word.false-raw)) c.in-Some.letter c.in-Some.ensures c.put_opening.ensures c.behind_unit.result c.if-tagged.true
+    c.put_closing.ensures c.behind_unit.ensures
 
--- parts(text, next, table, opened)
-pub returns-else-short : goal.returns-else-short
+pub returns : goal.returns
 unfolding codes 'unit'
-returns-else-short c =
-    let args = c.args in
-    let text = args.text.now in
-    let name = bytes_between text args.from args.upto in
-    let tag = c.read_attributes in
-    let head = c.unit_opening in
-    let put = c.put_opening-opened in
-    let parts = c.parts in
-    long_unit text args.place name args.upto tag.new.slots tag.result tag.ensures c.in-Whole.is
-    (sym c.is_word.ensures ∙ not-false _ c.if-not-is_word.false-raw) head.result head.ensures
-    c.in-Good.is args.table.now
-    put.new.table parts.new.table args.built put.result put.result put.ensures parts.result
-    c.if-short.false
-    parts.ensures
-
--- UnitRead::Bad => ReadText::Bad(place)
-pub returns-in-Bad : goal.returns-in-Bad
-unfolding codes 'unit'
-returns-in-Bad c =
-    let args = c.args in
-    let text = args.text.now in
-    let name = bytes_between text args.from args.upto in
-    let tag = c.read_attributes in
-    let head = c.unit_opening in
-    bad_opening text args.place name args.upto tag.new.slots tag.result tag.ensures c.in-Whole.is
-    (sym c.is_word.ensures ∙ not-false _ c.if-not-is_word.false-raw) head.result head.ensures
-    c.in-Bad.is
-
--- Tagged::Cut => ReadText::Bad(text.len())
-pub returns-in-Cut : goal.returns-in-Cut
-unfolding cut_short
-returns-in-Cut c =
-    let args = c.args in
-    let text = args.text.now in
-    let name = bytes_between text args.from args.upto in
-    let tag = c.read_attributes in
-    tag_cut text args.place name args.upto tag.new.slots tag.result tag.ensures c.in-Cut.is
-    unit_due refl
-
--- Tagged::Fault => ReadText::Bad(place)
-pub returns-in-Fault : goal.returns-in-Fault
-returns-in-Fault c =
-    let args = c.args in
-    let text = args.text.now in
-    let name = bytes_between text args.from args.upto in
-    let tag = c.read_attributes in
-    tag_fault text args.place name args.upto tag.new.slots tag.result tag.ensures c.in-Fault.is
-    unit_due
+returns c =
+    long_unit c.args.text.now c.args.tag c.attributes_at.new.slots c.in_ok-tagged.tagged c.in_ok-tagged.ensures
+    (rw c.of.ensures at (sym c.is_word.ensures ∙ not-false _ c.if-not-is_word.false-raw)) c.in-Some.letter c.in-Some.ensures c.put_opening.ensures c.parts.new.builder c.parts.result c.if-tagged.false
+    c.parts.ensures

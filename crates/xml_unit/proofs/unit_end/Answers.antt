@@ -1,21 +1,20 @@
 use mathlib.Core.Path.{sym, ◌∙◌}
+use borrow.Author.Tests.{not-true, not-false}
 use Rattle.xml.specs.Words.{codes, 'unit'}
 use Rattle.xml_unit.proofs.UnitLaws.{unit_ends, other_end}
 use Rattle.xml_unit.proofs.unit_end.Goals as goal
 
--- return behind_unit(text, end.next, closed)
-pub returns-then-is_word : goal.returns-then-is_word
+-- return Err(Blamed { place: end.place })
+pub returns-then-not-is_word : goal.returns-then-not-is_word
 unfolding codes 'unit'
-returns-then-is_word c =
-    let args = c.args in
-    let put = c.put_closing-closed in
-    let behind = c.behind_unit in
-    unit_ends args.text.now args.end args.table.now put.new.table args.built put.result
-    (sym c.is_word.ensures ∙ c.if-is_word.true) put.ensures behind.result behind.ensures
+returns-then-not-is_word c =
+    other_end c.args.text.now c.args.end c.args.builder.now _
+    (rw c.of.ensures at (sym c.is_word.ensures ∙ not-true _ c.if-not-is_word.true-raw))
 
--- ReadText::Bad(end.place)
+-- behind_unit(text, end.next)
 pub returns : goal.returns
 unfolding codes 'unit'
 returns c =
-    let args = c.args in
-    other_end args.text.now args.end args.table.now args.built (sym c.is_word.ensures ∙ c.if-is_word.false)
+    unit_ends c.args.text.now c.args.end
+    (rw c.of.ensures at (sym c.is_word.ensures ∙ not-false _ c.if-not-is_word.false-raw)) c.put_closing.ensures
+    c.behind_unit.result c.behind_unit.ensures
