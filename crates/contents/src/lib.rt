@@ -64,7 +64,8 @@ fn bar_key(t: &[u8], at: usize) -> u32
     keys::key_at(t, at)
 }
 
-// The keys of the heads and markers at some offsets, at the front of `out`.
+// The keys of the heads and markers at some offsets, at the front of `out`. As `keys::keys_at` with another key: one
+// function of both would take the key as a closure with a contract, and be no plainer.
 fn bar_keys(t: &[u8], markers: &[u16], out: &mut [u32])
     requires { length markers.now ≤ length out.old }
     ensures { (take (length markers.now) out.new ≡ bar_keys t.now markers.now) × (length out.new ≡ length out.old) }

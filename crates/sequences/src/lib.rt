@@ -15,7 +15,8 @@ use glance::Head;
 use keys::Sequence;
 use limits::{MOST_PARTS, MOST_RECORDS};
 
-// `at` behind the first `m` of `out`, if asked for; how many there are then.
+// `at` behind the first `m` of `out`, if asked for; how many there are then. The array and its count are no struct here:
+// it would hold the caller's `&mut`, and be no plainer.
 pub fn put_if(b: bool, out: &mut [u16], m: usize, at: u16) -> usize
     requires { (length (cond b (at ∷ []) []) + m ≤ length out.old) × (length out.old ≤ most_records) }
     ensures { Appended (cond b (at ∷ []) []) out.old m out.new result }
