@@ -17,11 +17,6 @@ abbrev pub refusal_at : ℕ → RustOption ℕ → Option Refusal
 refusal_at n None = none
 refusal_at n (Some at) = refusal n at
 
--- a rule's refusal at the place, if there is one, else the rest
-abbrev pub refused_by : ℕ → RustOption ℕ → Answer → Answer
-refused_by n None rest = rest
-refused_by n (Some at) rest = Refused n at
-
 -- the lower of two places
 abbrev pub lower : RustOption ℕ → ℕ → RustOption ℕ
 lower None at = Some at

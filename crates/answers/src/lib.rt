@@ -2,7 +2,7 @@
 #![tactic(auto)]
 
 ghost use Rattle.std.specs.Prelude.{◌≡◌, cond, None, Some};
-ghost use Rattle.answers.specs.Answers.{refused_by, lower};
+ghost use Rattle.answers.specs.Answers.{lower};
 
 // Document 01: "An operation answers either accepted with a length, or refused with a number and a place."
 #[derive(Clone, Copy)]
@@ -19,15 +19,5 @@ pub fn lower_if(bad: bool, best: Option<usize>, at: usize) -> Option<usize>
     match best {
         None => bad.then_some(at),
         Some(a) => Some(if bad { at.min(a) } else { a }),
-    }
-}
-
-// A rule's refusal at the place, if there is one, else the rest.
-pub fn refused_by(n: u8, p: Option<usize>, rest: Answer) -> Answer
-    ensures { result ≡ refused_by n p rest }
-{
-    match p {
-        None => rest,
-        Some(at) => Answer::Refused(n, at),
     }
 }
