@@ -200,7 +200,7 @@ fn ten_target(t: &[u8], source: LinkedItems, s: Sequence, start: Option<usize>) 
     requires { s.keys.now ≡ keys_at t.now s.markers.now }
     ensures { refusal_at 10 result ≡ toward 10 start
         (blamed (bad_10_target (items_of_markers source.entry.t.now source.entry.sequence.markers.now)) []
-            (placed_at t.now s.entry.markers.now)) }
+        (placed_at t.now s.entry.markers.now)) }
 {
     let mut best = start;
     for i in 0..s.markers.len() {

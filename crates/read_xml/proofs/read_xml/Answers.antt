@@ -1,2 +1,1 @@
 use Rattle.read_xml.proofs.read_xml.Goals as goal
-
