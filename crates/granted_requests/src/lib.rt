@@ -15,7 +15,12 @@ use requests::Request;
 fn is_engineer(role: Role) -> bool
     ensures { result ≡ is_engineer (role_meaning role) }
 {
-    matches!(role, Role::Engineer)
+    match role {
+        Role::Translator => false,
+        Role::Reviewer => false,
+        Role::Engineer => true,
+        Role::Other => false,
+    }
 }
 
 // Whether the side has a complete pair or annotation of the id, both halves in granted parts.
