@@ -59,15 +59,3 @@ returns c =
       put.ensures.1 ∙ ap (λ (l : List ℕ). lead l args.out.now) w,
       omega (arith, put.ensures.0, length-take (20 - (k - 1)) (drop (k - 1) (set digits (k - 1) digit2.result))),
     )
-
-pub digit-requires : goal.digit-requires
-unfolding decimal
-digit-requires c = search rules
-
-pub digit-requires-2 : goal.digit-requires-2
-unfolding decimal
-digit-requires-2 c = search rules
-
-pub put-requires : goal.put-requires
-unfolding decimal
-put-requires c = search rules

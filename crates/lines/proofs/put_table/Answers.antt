@@ -21,11 +21,3 @@ returns c =
           ∙ over_lead args.out.now (hex t) (10 ∷ []) put-hex.new.out put-hex.result put-hex.ensures.1
           put-hex.ensures.0,
     )
-
-pub put_hex-n-requires : goal.put_hex-n-requires
-unfolding table_line hex
-put_hex-n-requires c = search rules
-
-pub put_byte-requires : goal.put_byte-requires
-unfolding table_line hex
-put_byte-requires c = search rules
