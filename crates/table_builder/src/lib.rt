@@ -1,5 +1,5 @@
-// A table built in a lent array of the greatest length that a table has: record by record and, within a text, code point
-// by code point. Beyond a limit of a table nothing more is written, and that is told.
+// A table built in a lent array of the greatest length that a table has: record by record and, within a text, code
+// point by code point. Beyond a limit of a table nothing more is written, and that is told.
 #![tactic(auto)]
 
 ghost use Rattle.std.specs.Prelude.{[], ◌≡◌, false, ◌+◌, ◌≤◌, length};
@@ -7,8 +7,8 @@ ghost use Rattle.xliff.specs.Parse.{most_bytes, most_records, most_parts};
 
 use limits::{MOST_BYTES, MOST_PARTS, MOST_RECORDS};
 
-// The array, how many bytes, records and parts the table has so far, how many bytes of text stand last, and whether a
-// limit is passed. A text that stands last has its mark and its length before it.
+// The array, how many bytes, records and parts the table has so far, how many bytes of text stand last (none behind any
+// other record), and whether a limit is passed. A text that stands last has its mark and its length before it.
 #[derive(Drop)]
 pub struct TableBuilder<'a> {
     table: &'a mut [u8],

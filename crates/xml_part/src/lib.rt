@@ -24,7 +24,8 @@ use xml_values::is_blank_point;
 // "to depth 32 of pc and mrk"
 const MOST_DEPTH: usize = 32;
 
-// Behind blanks and comments: a start tag, an end tag, the place of a tag that the text's end cuts, or of the text's end.
+// Behind blanks and comments: a start tag, an end tag, the place of a tag that the text's end cuts, or of the text's
+// end. (The last two are no errors here: behind the unit the text ends, and a cut tag is blamed at another place.)
 #[derive(Clone, Copy)]
 pub enum Outer {
     Start(StartTag),
@@ -232,7 +233,8 @@ fn put_head(builder: &mut TableBuilder, head: Head)
 // The head of a part, by its start tag. In the short form it has no source.
 fn head(text: &[u8], tag: StartTag, builder: &mut TableBuilder) -> Result<usize, Blamed>
     requires { TagIn text.now tag }
-    ensures { HeadSteps text.now tag.name.upto (spelled text.now tag.name) (start_tokens text.now tag) builder.old builder.new result }
+    ensures { HeadSteps text.now tag.name.upto (spelled text.now tag.name) (start_tokens text.now tag)
+        builder.old builder.new result }
 {
     let mut slots = [ABSENT; SLOTS];
     let tagged = attributes_at(text, tag, &mut slots)?;

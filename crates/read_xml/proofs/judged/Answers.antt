@@ -33,4 +33,5 @@ unfolding Judges
 returns-in-Refused c =
     let (free, told) = c.in-Some.ensures in
     let refused = sym (ap answer_meaning c.in-Refused.is) ∙ c.check.ensures in
-    λ u k. refused_table u c.args.builder.now k c.args.out.now free c.in-Some.table.now told c.if-out-table.false _ _ refused
+    λ u k. refused_table u c.args.builder.now k c.args.out.now free c.in-Some.table.now told c.if-out-table.false _ _
+    refused

@@ -57,7 +57,8 @@ content-loop-next-preserved t c =
     let next = c.in_ok-at-in-Tag.at in
     let step = rw c.in-Tag.is at c.in_ok-next.ensures in
     let more = c.element.new.builder in
-    element_on args.text.now args.start args.depth args.builder.now loop.at loop.builder loop.invariant tag next more step.1
+    element_on args.text.now args.start args.depth args.builder.now loop.at loop.builder loop.invariant tag next more
+    step.1
     step.3
     (subst (λ (b : TableBuilder). ElementOn args.text.now tag args.depth b next more) step.0 c.in_ok-at-in-Tag.ensures)
 
@@ -98,6 +99,7 @@ element-returns-in_ok-end-in-Nested t c =
     let first = c.put_item.new.builder in
     let read = rw c.in-Nested.is at c.in_ok-next.ensures in
     let close = c.close_element in
-    ended args.text.now args.tag args.depth opened read.1 c.if-depth-eq0.false c.if-opened.false c.in_ok-end-in-Nested.end
+    ended args.text.now args.tag args.depth opened read.1 c.if-depth-eq0.false c.if-opened.false
+    c.in_ok-end-in-Nested.end
     (subst (λ (b : TableBuilder). Collects (inline (item opened.start) ∷ []) b first) read.0 c.put_item.ensures)
     c.in_ok-end-in-Nested.ensures close.new.builder close.result close.ensures

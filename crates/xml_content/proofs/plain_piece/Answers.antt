@@ -3,7 +3,8 @@ use Rattle.xml_content.proofs.plain_piece.Goals as goal
 
 -- put_code_point(builder, c)
 pub put_code_point-requires : goal.put_code_point-requires
-put_code_point-requires c = character_bound c.args.text.now c.args.at c.piece_at.result c.piece_at.ensures c.in-Character.is
+put_code_point-requires c =
+    character_bound c.args.text.now c.args.at c.piece_at.result c.piece_at.ensures c.in-Character.is
 
 -- Piece::Start(name) => Ok(Stepped::Tag(..))
 pub returns-in-Start : goal.returns-in-Start
@@ -19,7 +20,9 @@ returns-in-Comment c = comment_step c.args.text.now c.args.at c.piece_at.result 
 
 -- Piece::Character(c, next) | Piece::Reference(c, next): Ok(Stepped::On(next))
 pub returns-in-Character : goal.returns-in-Character
-returns-in-Character c = character_step c.args.text.now c.args.at c.piece_at.result c.piece_at.ensures c.in-Character.is c.put_code_point.ensures
+returns-in-Character c =
+    character_step c.args.text.now c.args.at c.piece_at.result c.piece_at.ensures c.in-Character.is
+    c.put_code_point.ensures
 
 -- Piece::CutTag => Err(Blamed { place: text.len() })
 pub returns-in-CutTag : goal.returns-in-CutTag

@@ -58,4 +58,5 @@ returns-in-Character c =
     let text = args.text.now in
     let loop = c.loop-inner in
     let piece = c.piece_at in
-    text_blamed text (spelled text args.name) args.start loop.at loop.invariant piece.result piece.ensures c.in-Character.is
+    text_blamed text (spelled text args.name) args.start loop.at loop.invariant piece.result piece.ensures
+    c.in-Character.is

@@ -17,4 +17,5 @@ returns c =
     let args = c.args in
     let (some, number) = c.requires in
     λ ats told.
-    ap value_meaning c.ok.ensures.value ∙ optional_read args.slots.now args.slot ats told number c.or_default.result c.or_default.ensures _ c.try_from.ensures
+    ap value_meaning c.ok.ensures.value ∙ optional_read args.slots.now args.slot ats told number c.or_default.result
+    c.or_default.ensures _ c.try_from.ensures

@@ -22,7 +22,12 @@ pub returns-in_err-id : goal.returns-in_err-id
 unfolding ByAttributes BySlots words_of with read_em
 returns-in_err-id c =
     λ ats s.
-    rw (c.from_residual.ensures, ← c.has_only.ensures ats s, not-false _ c.if-not-has_only.false-raw, ← c.in_err-id.ensures ats s.told) refl
+    rw (
+      c.from_residual.ensures,
+      ← c.has_only.ensures ats s,
+      not-false _ c.if-not-has_only.false-raw,
+      ← c.in_err-id.ensures ats s.told,
+    ) refl
 
 -- Some(Inline::Single(Item::AnnotationEnd(Form::S, id)))
 pub returns : goal.returns

@@ -22,18 +22,38 @@ pub returns-in_err-f : goal.returns-in_err-f
 unfolding ByAttributes BySlots words_of with read_pc
 returns-in_err-f c =
     λ ats s.
-    rw (c.from_residual.ensures, ← c.has_only.ensures ats s, not-false _ c.if-not-has_only.false-raw, ← c.letter-overlap.ensures ats s.told, ← c.in_err-f.ensures ats s.told) refl
+    rw (
+      c.from_residual.ensures,
+      ← c.has_only.ensures ats s,
+      not-false _ c.if-not-has_only.false-raw,
+      ← c.letter-overlap.ensures ats s.told,
+      ← c.in_err-f.ensures ats s.told,
+    ) refl
 
 -- no dataRefEnd: None
 pub returns-in_err-end_data : goal.returns-in_err-end_data
 unfolding ByAttributes BySlots words_of with read_pc
 returns-in_err-end_data c =
     λ ats s.
-    rw (c.from_residual-in_err-end_data.ensures, ← c.has_only.ensures ats s, not-false _ c.if-not-has_only.false-raw, ← c.letter-overlap.ensures ats s.told, ← c.in_ok-f.ensures ats s.told, ← c.in_err-end_data.ensures ats s.told) refl
+    rw (
+      c.from_residual-in_err-end_data.ensures,
+      ← c.has_only.ensures ats s,
+      not-false _ c.if-not-has_only.false-raw,
+      ← c.letter-overlap.ensures ats s.told,
+      ← c.in_ok-f.ensures ats s.told,
+      ← c.in_err-end_data.ensures ats s.told,
+    ) refl
 
 -- Some(Inline::Nested(..))
 pub returns : goal.returns
 unfolding ByAttributes BySlots words_of with read_pc
 returns c =
     λ ats s.
-    rw (← c.has_only.ensures ats s, not-false _ c.if-not-has_only.false-raw, c.end_of_pc.ensures, ← c.letter-overlap.ensures ats s.told, ← c.in_ok-f.ensures ats s.told, ← c.in_ok-end_data.ensures ats s.told) refl
+    rw (
+      ← c.has_only.ensures ats s,
+      not-false _ c.if-not-has_only.false-raw,
+      c.end_of_pc.ensures,
+      ← c.letter-overlap.ensures ats s.told,
+      ← c.in_ok-f.ensures ats s.told,
+      ← c.in_ok-end_data.ensures ats s.told,
+    ) refl

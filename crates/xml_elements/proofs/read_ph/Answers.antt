@@ -22,7 +22,12 @@ pub returns-in_err-f : goal.returns-in_err-f
 unfolding ByAttributes BySlots words_of with read_ph
 returns-in_err-f c =
     λ ats s.
-    rw (c.from_residual.ensures, ← c.has_only.ensures ats s, not-false _ c.if-not-has_only.false-raw, ← c.in_err-f.ensures ats s.told) refl
+    rw (
+      c.from_residual.ensures,
+      ← c.has_only.ensures ats s,
+      not-false _ c.if-not-has_only.false-raw,
+      ← c.in_err-f.ensures ats s.told,
+    ) refl
 
 -- Some(Inline::Single(Item::Standalone(f)))
 pub returns : goal.returns

@@ -22,18 +22,34 @@ pub returns-in_err-id : goal.returns-in_err-id
 unfolding ByAttributes BySlots words_of with read_sm
 returns-in_err-id c =
     λ ats s.
-    rw (c.from_residual.ensures, ← c.has_only.ensures ats s, not-false _ c.if-not-has_only.false-raw, ← c.in_err-id.ensures ats s.told) refl
+    rw (
+      c.from_residual.ensures,
+      ← c.has_only.ensures ats s,
+      not-false _ c.if-not-has_only.false-raw,
+      ← c.in_err-id.ensures ats s.told,
+    ) refl
 
 -- no letter: None
 pub returns-in_err-translate : goal.returns-in_err-translate
 unfolding ByAttributes BySlots words_of with read_sm
 returns-in_err-translate c =
     λ ats s.
-    rw (c.from_residual-in_err-translate.ensures, ← c.has_only.ensures ats s, not-false _ c.if-not-has_only.false-raw, ← c.in_ok-id.ensures ats s.told, ← c.in_err-translate.ensures ats s.told) refl
+    rw (
+      c.from_residual-in_err-translate.ensures,
+      ← c.has_only.ensures ats s,
+      not-false _ c.if-not-has_only.false-raw,
+      ← c.in_ok-id.ensures ats s.told,
+      ← c.in_err-translate.ensures ats s.told,
+    ) refl
 
 -- Some(Inline::Single(Item::AnnotationStart(Form::S, id, translate)))
 pub returns : goal.returns
 unfolding ByAttributes BySlots words_of with read_sm
 returns c =
     λ ats s.
-    rw (← c.has_only.ensures ats s, not-false _ c.if-not-has_only.false-raw, ← c.in_ok-id.ensures ats s.told, ← c.in_ok-translate.ensures ats s.told) refl
+    rw (
+      ← c.has_only.ensures ats s,
+      not-false _ c.if-not-has_only.false-raw,
+      ← c.in_ok-id.ensures ats s.told,
+      ← c.in_ok-translate.ensures ats s.told,
+    ) refl

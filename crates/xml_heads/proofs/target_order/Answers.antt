@@ -22,7 +22,8 @@ pub returns-then-not-has_only : goal.returns-then-not-has_only
 returns-then-not-has_only c =
     let has-only = c.has_only in
     let args = c.args in
-    λ position. order_other args.slots.now args.count has-only.result has-only.ensures position c.if-not-has_only.true-raw
+    λ position. order_other args.slots.now args.count has-only.result has-only.ensures position
+    c.if-not-has_only.true-raw
 
 -- return Some(None): no order is there
 pub returns-then-slots-eq-ABSENT : goal.returns-then-slots-eq-ABSENT

@@ -22,9 +22,11 @@ loop-name-preserved c =
 -- Piece::Reference(_, _) | Piece::TextFault(_)
 pub returns-in-Reference : goal.returns-in-Reference
 returns-in-Reference c =
-    text_bad c.args.text.now c.args.start c.loop-name.at c.loop-name.invariant c.piece_at.result c.piece_at.ensures c.in-Reference.is
+    text_bad c.args.text.now c.args.start c.loop-name.at c.loop-name.invariant c.piece_at.result c.piece_at.ensures
+    c.in-Reference.is
 
 -- Piece::Fault(place)
 pub returns-in-Fault : goal.returns-in-Fault
 returns-in-Fault c =
-    fault_found c.args.text.now c.args.start c.loop-name.at c.loop-name.invariant c.piece_at.result c.piece_at.ensures c.in-Fault.is
+    fault_found c.args.text.now c.args.start c.loop-name.at c.loop-name.invariant c.piece_at.result c.piece_at.ensures
+    c.in-Fault.is

@@ -20,7 +20,8 @@ returns-in-Start c k p =
     let args = c.args in
     let found = rw c.in-Start.is at c.in_ok-tag.ensures in
     let source = c.source_at in
-    steps_from args.text.now args.start c.in-Start.tag.name.upto 0 (source_due k p) (target_due k p) _ _ args.builder.now
+    steps_from args.text.now args.start c.in-Start.tag.name.upto 0 (source_due k p) (target_due k p) _ _
+    args.builder.now
     source.new.builder found.0 found.2 source.result (source.ensures k p)
 
 -- an end tag: Err(Blamed { place: end.place })

@@ -36,7 +36,8 @@ pub returns-in-Cut : goal.returns-in-Cut
 returns-in-Cut c =
     let text = c.args.text.now in
     let place = c.in-Cut.place in
-    late_behind (rest_at text c.args.start) _ place (rw c.in-Cut.is at c.in_ok-tag.ensures) (late_cut place (length text))
+    late_behind (rest_at text c.args.start) _ place (rw c.in-Cut.is at c.in_ok-tag.ensures)
+    (late_cut place (length text))
 
 -- Outer::End(_) => Ok(())
 pub returns-in-End : goal.returns-in-End

@@ -42,12 +42,14 @@ pub returns-then-tagged : goal.returns-then-tagged
 unfolding codes 'unit'
 returns-then-tagged c =
     short_unit c.args.text.now c.args.tag c.attributes_at.new.slots c.in_ok-tagged.tagged c.in_ok-tagged.ensures
-    (rw c.of.ensures at (sym c.is_word.ensures ∙ not-false _ c.if-not-is_word.false-raw)) c.in-Some.letter c.in-Some.ensures c.put_opening.ensures c.behind_unit.result c.if-tagged.true
+    (rw c.of.ensures at (sym c.is_word.ensures ∙ not-false _ c.if-not-is_word.false-raw)) c.in-Some.letter
+    c.in-Some.ensures c.put_opening.ensures c.behind_unit.result c.if-tagged.true
     c.put_closing.ensures c.behind_unit.ensures
 
 pub returns : goal.returns
 unfolding codes 'unit'
 returns c =
     long_unit c.args.text.now c.args.tag c.attributes_at.new.slots c.in_ok-tagged.tagged c.in_ok-tagged.ensures
-    (rw c.of.ensures at (sym c.is_word.ensures ∙ not-false _ c.if-not-is_word.false-raw)) c.in-Some.letter c.in-Some.ensures c.put_opening.ensures c.parts.new.builder c.parts.result c.if-tagged.false
+    (rw c.of.ensures at (sym c.is_word.ensures ∙ not-false _ c.if-not-is_word.false-raw)) c.in-Some.letter
+    c.in-Some.ensures c.put_opening.ensures c.parts.new.builder c.parts.result c.if-tagged.false
     c.parts.ensures

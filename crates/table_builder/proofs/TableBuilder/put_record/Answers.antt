@@ -32,5 +32,6 @@ returns-clause-put c =
     let behind = tail_back self.table.now c.args.bytes.now wrote.new.out self.used wrote.ensures.1 in
     λ done run r held spelled heads.
     record_behind held r c.if-self.false spelled heads c.if-self-bytes.false c.if-self.false
-    (ap (λ (k : ℕ). self.used + k) wrote.ensures.0) refl (ap (λ (k : ℕ). self.parts + k) (c.from.ensures ∙ one_if c.args.heads_part)) refl
+    (ap (λ (k : ℕ). self.used + k) wrote.ensures.0) refl
+    (ap (λ (k : ℕ). self.parts + k) (c.from.ensures ∙ one_if c.args.heads_part)) refl
     behind
