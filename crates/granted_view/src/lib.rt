@@ -49,13 +49,14 @@ fn put_part(draft: &mut Draft, t: &[u8], place: PartPlace, inside: bool)
     }
 }
 
-// The parts of a table, one after the other.
+// The parts of a table, one after the other. A role and its positions stay two parameters, as the operation has them.
 fn put_parts(draft: &mut Draft, t: &[u8], role: Role, positions: &[u8])
     requires { Passes t.now }
     ensures { Wrote (bytes_of (view_parts (grant_of role positions.now) 1 (unit t.now).parts)) draft.old draft.new }
 {
     let mut at = marks::UNIT_WIDTH;
     let mut n: usize = 1;
+    // A loop over an offset: the lent table is read record by record through the walker.
     while part_at::starts_part(t, at) {
         let place = part_at::part_from(t, at);
         let inside = Grant { role, positions }.has_part(n);

@@ -49,7 +49,8 @@ impl Filling {
         self.room = points.left;
     }
 
-    // An inline record other than text, which takes `w` bytes: shown if it fits whole.
+    // An inline record other than text, which takes `w` bytes: shown if it fits whole. Its form stands in an array
+    // first, since its cells are counted before a byte of it is written.
     fn put_marker(&mut self, draft: &mut Draft, c: &[u8], i: Item, w: usize)
         requires { Going c.now self.old × (self.old.next.left ≡ 0) × ItemNext c.now self.old.next.at i w }
         ensures { Filled c.now self.old draft.old self.new draft.new }
@@ -107,6 +108,7 @@ pub fn put_row(draft: &mut Draft, c: &[u8], from: Cursor) -> Cursor
         room: sheet_forms::COLUMN_CELLS,
         full: false,
     };
+    // A loop over an offset: the lent content is read record by record through the walker.
     while row.goes_on(c.len()) {
         row.put_next(draft, c);
     }

@@ -100,6 +100,7 @@ pub fn put_sheet(draft: &mut Draft, t: &[u8])
 {
     let mut at = marks::UNIT_WIDTH;
     let mut n: usize = 1;
+    // A loop over an offset: the lent table is read record by record through the walker.
     while part_at::starts_part(t, at) {
         let place = part_at::part_from(t, at);
         put_part(draft, t, n, place);

@@ -75,6 +75,7 @@ pub fn too_deep(t: &[u8]) -> bool
 {
     let mut at: usize = 0;
     let mut depth: usize = 0;
+    // A loop over an offset: the lent table is read record by record through the walker.
     while at < t.len() {
         depth = depth_behind(depth, step_at(t, at));
         if 32 < depth {
@@ -92,6 +93,7 @@ pub fn end_data(t: &[u8], start: usize) -> u16
 {
     let mut at = start;
     let mut unclosed: usize = 0;
+    // A loop over an offset: the lent table is read record by record through the walker.
     while at < t.len() {
         match step_at(t, at) {
             Step::Opens => unclosed += 1,
