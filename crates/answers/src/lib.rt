@@ -5,6 +5,7 @@ ghost use Rattle.std.specs.Prelude.{◌≡◌, cond, None, Some};
 ghost use Rattle.answers.specs.Answers.{lower};
 
 // Document 01: "An operation answers either accepted with a length, or refused with a number and a place."
+// That enum is ordered there, so it is no Result.
 #[derive(Clone, Copy)]
 pub enum Answer {
     Accepted(usize),

@@ -24,6 +24,7 @@ fn next_chain(c: &[u8], from: usize) -> usize
     ensures { NextChain c.now from result }
 {
     let mut at = next_fixed(c, from);
+    // From one fixed code to the next, some records at a time.
     while goes_on(c, at, false) {
         at = next_fixed(c, at + marks::CODE_WIDTH);
     }
@@ -37,6 +38,7 @@ fn same_codes(c: &[u8], at: usize, d: &[u8], to: usize, whole: bool) -> bool
 {
     let mut i = next_fixed(c, at);
     let mut j = next_fixed(d, to);
+    // From one fixed code to the next in both contents.
     while goes_on(c, i, whole) {
         if !goes_on(d, j, whole) {
             return false;
@@ -68,6 +70,7 @@ fn often(c: &[u8], at: usize, d: &[u8]) -> usize
 {
     let mut count: usize = 0;
     let mut to = next_chain(d, 0);
+    // From chain to chain, some records at a time.
     while to < d.len() {
         if same_chain(c, at, d, to) {
             count += 1;
@@ -84,6 +87,7 @@ fn chain_count(c: &[u8]) -> usize
 {
     let mut count: usize = 0;
     let mut at = next_chain(c, 0);
+    // From chain to chain, some records at a time.
     while at < c.len() {
         count += 1;
         at = next_chain(c, at + marks::CODE_WIDTH);
@@ -98,6 +102,7 @@ fn uneven(c: &[u8], d: &[u8]) -> bool
 {
     let mut found = false;
     let mut at = next_chain(c, 0);
+    // From chain to chain, some records at a time.
     while at < c.len() {
         found = found | !(often(c, at, c) == often(c, at, d));
         at = next_chain(c, at + marks::CODE_WIDTH);

@@ -27,6 +27,7 @@ pub fn next_fixed(c: &[u8], from: usize) -> usize
     ensures { NextFixed c.now from result }
 {
     let mut at = from;
+    // The content is read record by record through the walker.
     while at < c.len() {
         let next = at + walker::width_at(c, at);
         if is_fixed(c, at) {

@@ -47,6 +47,7 @@ fn has_code(old: &[u8], at: usize, new: &[u8]) -> bool
     ensures { HasCode new.now (drop at old.now) result }
 {
     let mut to: usize = 0;
+    // The content is read record by record through the walker.
     while to < new.len() {
         let next = to + walker::width_at(new, to);
         if same_code(old, at, new, to) {
@@ -75,6 +76,7 @@ pub fn is_lost(old: &[u8], new: &[u8]) -> bool
     ensures { AnyLost old.now new.now result }
 {
     let mut at: usize = 0;
+    // The content is read record by record through the walker.
     while at < old.len() {
         let next = at + walker::width_at(old, at);
         if is_lost_code(old, at, new) {

@@ -73,6 +73,7 @@ fn put_cut(out: &mut [u8], a: &[u8], beyond: &[u8]) -> usize
     ensures { (result ≡ length a.now) × CutAll a.now beyond.now out.old out.new }
 {
     let mut at: usize = 0;
+    // The content is read record by record through the walker.
     while at < a.len() {
         let next = at + walker::width_at(a, at);
         put_cut_one(&mut out[at..], walker::mark_at(a, at), &a[at..next], beyond);

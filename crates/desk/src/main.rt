@@ -10,6 +10,7 @@ fn read_full<R: Read>(reader: &mut R, buf: &mut [u8]) -> io::Result<usize>
     ensures { IfOk result (λ n. n ≤ length buf.new) }
 {
     let mut done = 0;
+    // No index counted by hand: each read gives as many bytes as it has.
     while done < buf.len() {
         let n = reader.read(&mut buf[done..])?;
         if n == 0 {

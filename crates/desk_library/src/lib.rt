@@ -22,7 +22,7 @@ ghost use Rattle.desk_library.specs.Told.{told, Tells};
 
 use answers::Answer;
 
-// An answer as C takes it: a flag, and two places for the numbers.
+// An answer as C takes it: a flag, and two places for the numbers. The functions below are alike since C has no generics.
 fn tell(a: Answer, number: &mut u8, value: &mut usize) -> bool
     ensures { told (answer_meaning a) result number.new value.new }
 {

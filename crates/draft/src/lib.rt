@@ -4,6 +4,7 @@
 ghost use Rattle.std.specs.Prelude.{◌≡◌, ◌≤◌, length};
 
 // The output, how many bytes of it are used, whether the text is longer than it, and whether it is only measured.
+// Two flags: a text that is only measured can be too long as well.
 #[derive(Drop)]
 pub struct Draft<'a> {
     out: &'a mut [u8],

@@ -103,7 +103,8 @@ fn target_glance(t: &[u8]) -> Glance
     }
 }
 
-// A glance at what is no head and no text. All that is left is taken for a code: there is no other good record.
+// A glance at what is no head and no text. All that is left is taken for a code: there is no other good record. Marks are
+// compared as fixed two-byte strings, as document 01 orders.
 fn rest_glance(t: &[u8]) -> Glance
     requires { 2 ≤ length t.now }
     ensures { result ≡ rest_glance (mark_at t.now) }

@@ -76,7 +76,8 @@ fn put_view(draft: &mut Draft, t: &[u8], role: Role, positions: &[u8])
     draft.put(b"UE");
 }
 
-// 15, then the view. It is measured before a byte of it is written.
+// 15, then the view. It is measured before a byte of it is written. The three texts (XML, sheet, view) do so each by
+// itself: the must-fail edit `not_written` of each changes its own second walk.
 fn view_passed(role: Role, positions: &[u8], table: &[u8], out: &mut [u8]) -> Answer
     requires { table_refusal table.now ≡ none }
     ensures { Answers (view table.now (grant_of role positions.now) (length out.old)) result out.old out.new }

@@ -1,5 +1,5 @@
 // The nearest other half of a marker, before and after it in its sequence: by a scan of the keys, or along the links of
-// its group.
+// its group. Before and after are two functions each: one counts down and one up, over links of their own.
 #![tactic(auto)]
 
 ghost use Rattle.std.specs.Prelude.{◌≡◌, ◌<◌, ◌≤◌, length};
@@ -64,6 +64,7 @@ fn follow_before(keys: &[u32], links: &[u16], i: usize) -> Option<usize>
 {
     let key = keys[i];
     let mut j = marks::wide(links[i]);
+    // Along the links, which count nothing.
     while 0 < j {
         if keys::is_other(key, keys[j - 1]) {
             return Some(j - 1);
@@ -80,6 +81,7 @@ fn follow_after(keys: &[u32], links: &[u16], i: usize) -> Option<usize>
 {
     let key = keys[i];
     let mut j = keys.len() - marks::wide(links[i]);
+    // Along the links, which count nothing.
     while j < keys.len() {
         if keys::is_other(key, keys[j]) {
             return Some(j);

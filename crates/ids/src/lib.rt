@@ -149,6 +149,7 @@ impl MetIds {
     {
         let keys = &self.keys[..self.count];
         let mut j = marks::wide(self.heads[id_links::group_of(k)]);
+        // Along the links, which count nothing.
         while 0 < j {
             if clash_with(k, keys[j - 1]) {
                 return true;

@@ -69,6 +69,7 @@ fn put_requests(job: &[u8], n: usize, table: &mut [u8], out: &mut [u8]) -> usize
     let mut at = n;
     let mut m = n;
     let mut k: usize = 0;
+    // From request to request: each takes a number of bytes of its own.
     while at < job.len() {
         let Some(r) = requests::request_of(&job[at..]) else {
             return k + put_unreadable(&mut out[k..], at, &table[..m]);

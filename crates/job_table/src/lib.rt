@@ -43,6 +43,7 @@ pub fn table_length(job: &[u8]) -> usize
     ensures { (result ≡ table_length job.now) × (result ≤ length job.now) }
 {
     let mut at: usize = 0;
+    // From record to record, each of a width of its own.
     while at < job.len() {
         if is_end(&job[at..]) {
             return at + 2;

@@ -28,7 +28,7 @@ pub fn is_order(t: &[u8], q: u16) -> bool
     false
 }
 
-// The highest value in 1 to `n` that no target has for its order, else 0.
+// The highest value in 1 to `n` that no target has for its order, else 0: no order is lower, so all fall.
 fn highest_unused(t: &[u8], n: u16) -> u16
     requires { Passes t.now }
     ensures { result ≡ highest_unused n (orders (unit t.now).parts) }

@@ -13,6 +13,7 @@ fn last_of(c: &[u8]) -> usize
 {
     let mut at: usize = 0;
     let mut next = walker::width_at(c, 0);
+    // The content is read record by record through the walker.
     while next < c.len() {
         at = next;
         next = at + walker::width_at(c, at);

@@ -19,7 +19,8 @@ pub struct Sequence<'a> {
 }
 
 // What the mark of `t` says of the key: 8 times the class, twice the half, 1 for PO PC MO MC; 0 where it is no
-// marker's. First of annotations alone, then of all markers.
+// marker's. First of annotations alone, then of all markers. Marks are compared as fixed two-byte strings, as document 01
+// orders.
 fn annotation_low(t: &[u8]) -> u32
     requires { 2 ≤ length t.now }
     ensures { (result ≡ annotation_low (mark_at t.now)) × (result ≤ 45) }

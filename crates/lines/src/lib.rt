@@ -25,6 +25,7 @@ pub fn put_decimal(out: &mut [u8], n: usize) -> usize
     let mut digits = [0u8; 20];
     let mut k: usize = 20;
     let mut m = n;
+    // As many digits as there are, the last one first.
     while 10 <= m {
         k -= 1;
         digits[k] = digit(m);

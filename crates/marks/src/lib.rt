@@ -125,7 +125,8 @@ fn later_mark(t: &[u8]) -> Mark
     rest_mark(t)
 }
 
-// The mark at the head of `t`. The tests stand by how often a mark comes.
+// The mark at the head of `t`. The tests stand by how often a mark comes, and are no table of marks: each compares with a
+// fixed two-byte string, as document 01 orders.
 pub fn mark_of(t: &[u8]) -> Mark
     ensures { meaning result ≡ mark_at t.now }
 {

@@ -14,6 +14,7 @@ pub fn count_parts(t: &[u8]) -> usize
 {
     let mut at = 0;
     let mut n = 0;
+    // The lent table is read record by record through the walker.
     while at < t.len() {
         let g = walker::glance_at(t, at);
         n += usize::from(g.head.is_part());
@@ -39,6 +40,7 @@ pub fn rule_5(t: &[u8], n: usize) -> Option<usize>
 {
     let mut used = [0u8; 65];
     let mut at = 0;
+    // The lent table is read record by record through the walker.
     while at < t.len() {
         let g = walker::glance_at(t, at);
         let w = g.width;

@@ -35,7 +35,7 @@ fn partner_after(keys: &[u32], k: u32) -> bool
     }
 }
 
-// The same, of the last of `keys`.
+// The same, of the last of `keys`. Two functions, since `rev` makes another iterator.
 fn partner_before(keys: &[u32], k: u32) -> bool
     ensures { result ≡ partner_s_Key k (reverse keys.now) }
 {

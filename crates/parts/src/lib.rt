@@ -36,6 +36,7 @@ pub fn put_parts(out: &mut [u8], t: &[u8], q: u16, up: bool) -> usize
     ensures { WroteParts (moved up q) t.now out.old result out.new }
 {
     let mut at: usize = 0;
+    // The lent table is read record by record through the walker.
     while at < t.len() {
         let next = at + walker::width_at(t, at);
         put_record(&mut out[at..], &t[at..next], q, up);

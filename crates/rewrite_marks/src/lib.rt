@@ -24,7 +24,8 @@ pub fn inside_of(source: bool, inside: bool, head: Head) -> bool
     }
 }
 
-// The mark of a start, of a pair or of an annotation.
+// The mark of a start, of a pair or of an annotation; below, that of an end. Marks are written as fixed two-byte strings,
+// as document 01 orders, so each is named where it is written.
 fn put_start(out: &mut [u8], at: usize, pair: bool, p: bool) -> usize
     requires { at + 2 ≤ length out.old }
     ensures { (result ≡ at + 2) × (out.new ≡ overlay out.old at (start_mark pair p)) }

@@ -8,7 +8,7 @@ use draft::Draft;
 use table::{Item, Read, Record};
 
 // Where a column goes on: the offset of the next item in its content, and the bytes left of the text that it stands
-// in, 0 where a record begins.
+// in; 0 where a record begins, so no flag is needed beside it.
 #[derive(Clone, Copy)]
 pub struct Cursor {
     pub at: usize,

@@ -78,6 +78,7 @@ fn put_contents(draft: &mut Draft, source: &[u8], target: &[u8])
         target: start,
     };
     columns.put_row(draft, source, target);
+    // From row to row: each takes of both contents what fits.
     while columns.goes_on(source.len(), target.len()) {
         sheet_forms::put_blanks(draft, 12);
         columns.put_row(draft, source, target);

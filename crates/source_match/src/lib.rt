@@ -140,6 +140,7 @@ impl LinkedItems<'_> {
     {
         let mut found = Matches::none();
         let mut j = marks::wide(self.heads[marks::wide(id) % 256]);
+        // Along the links, which count nothing.
         while 0 < j {
             let i = j - 1;
             found = self.one_more(i, id, x, found);

@@ -6,7 +6,7 @@ ghost use Rattle.split_result.specs.Result.{rises_above, RoomSplitPart, WroteSpl
 
 use part_at::{Cuts, PartPlace};
 
-// Orders above this one rise: that of the part's target. Without a target none does.
+// Orders above this one rise: that of the part's target. Without a target none does: the highest number is above all.
 fn rises_above(place: PartPlace) -> u16
     ensures { result ≡ rises_above place }
 {

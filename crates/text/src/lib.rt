@@ -182,6 +182,7 @@ fn pass_each(t: &[u8], from: usize, until: usize) -> Option<usize>
     ensures { PassedText t.now from result }
 {
     let mut at = from;
+    // From character to character, of one to four bytes each.
     while at < until {
         let b = t[at];
         if (32 <= b) & (b <= 127) {
@@ -242,6 +243,7 @@ pub fn text_ok(t: &[u8]) -> bool
     ensures { result ≡ text_ok t.now }
 {
     let mut at = 0;
+    // From block to block, of sixteen bytes or some more.
     while at < t.len() {
         let Some(behind) = pass_some(t, at) else {
             return false;

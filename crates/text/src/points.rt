@@ -36,6 +36,7 @@ fn pass_blocks(t: &[u8], k: usize) -> Points
 {
     let mut at: usize = 0;
     let mut left = k;
+    // From block to block of 64 bytes: what is left of the text is no block.
     while 64 <= t.len() - at {
         let n = leads_in(t, at);
         if left < n {
@@ -61,6 +62,7 @@ fn pass_characters(t: &[u8], from: usize, k: usize) -> Points
 {
     let mut at = from;
     let mut left = k;
+    // From character to character, of one to four bytes each.
     while at < t.len() {
         match char_of(&t[at..]) {
             Some(found) => {

@@ -69,6 +69,7 @@ pub fn has_other(c: &[u8], kind: HalfKind, id: u16) -> bool
 {
     // The lent table is read record by record through the walker.
     let mut at: usize = 0;
+    // The content is read record by record through the walker.
     while at < c.len() {
         let next = at + walker::width_at(c, at);
         if other_at(c, at, kind, id) {
@@ -118,6 +119,7 @@ pub fn place_of(c: &[u8], k: usize) -> Place
 {
     let mut at: usize = 0;
     let mut left = k;
+    // The content is read record by record through the walker.
     while at < c.len() {
         let next = at + walker::width_at(c, at);
         match pass_one(&c[at..next], left) {

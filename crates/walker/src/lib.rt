@@ -38,7 +38,8 @@ fn mark_there(t: &[u8], at: usize) -> Mark
     marks::mark_of(&t[at..])
 }
 
-// How many bytes the record at `at` takes, by its mark; 0 where fewer than four are left.
+// How many bytes the record at `at` takes, by its mark; 0 where fewer than four are left, as
+// `size_of` has for no mark.
 fn width_there(t: &[u8], at: usize) -> usize
     ensures { WidthAt t.now at result }
 {

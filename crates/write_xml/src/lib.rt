@@ -10,7 +10,8 @@ ghost use Rattle.xml.specs.Xml.{write_xml};
 use answers::Answer;
 use draft::Draft;
 
-// 22, 15, then the text. It is measured before a byte of it is written.
+// 22, 15, then the text. It is measured before a byte of it is written. The three texts (XML, sheet, view) do so each by
+// itself: the must-fail edit `not_written` of each changes its own second walk.
 fn write_passed(table: &[u8], out: &mut [u8]) -> Answer
     requires { table_refusal table.now ≡ none }
     ensures { Answers (write_xml table.now (length out.old)) result out.old out.new }

@@ -79,6 +79,7 @@ pub fn read_attributes(text: &[u8], start: usize, slots: &mut [u32]) -> Result<T
     let mut at = start;
     let mut count: usize = 0;
     let mut fine = true;
+    // From attribute to attribute, of some bytes each.
     loop {
         match next_attribute(text, at)? {
             Next::One(a) => {

@@ -103,6 +103,7 @@ pub fn content(
     ensures { ContentRead text.now start depth builder.old builder.new result }
 {
     let mut at = start;
+    // From piece to piece, of some bytes each.
     loop {
         match plain_piece(text, at, builder)? {
             Stepped::On(next) => {

@@ -94,6 +94,7 @@ fn empty_end(text: &[u8], name: Span, start: usize) -> Result<usize, Blamed>
     ensures { EmptyRead text.now (spelled text.now name) start (rest_at text.now start) result }
 {
     let mut at = start;
+    // From piece to piece, of some bytes each.
     loop {
         match piece_at(text, at) {
             Piece::Start(inner) => {

@@ -43,7 +43,7 @@ pub fn required_number(slots: &[u32], slot: usize) -> Option<u16>
     u16::try_from(slots[slot]).ok()
 }
 
-// A number, which is 0 where it is absent.
+// A number, which is 0 where it is absent: the table's 0 for none.
 pub fn optional_number(slots: &[u32], slot: usize) -> Option<u16>
     requires { Told slots.now × NumberSlot slot }
     ensures { BySlots slots.now (optional (name_of slot)) (value_meaning result) }

@@ -47,6 +47,7 @@ pub fn outer_at(text: &[u8], start: usize) -> Result<Outer, Blamed>
     ensures { OuterRead text.now start result }
 {
     let mut at = start;
+    // From piece to piece, of some bytes each.
     loop {
         match piece_at(text, at) {
             Piece::Start(name) => {

@@ -82,6 +82,7 @@ fn comment_at(text: &[u8], from: usize) -> Markup
     ensures { InComment text.now from result }
 {
     let mut at = from;
+    // From character to character, of some bytes each.
     while at < text.len() {
         if begins(b"--", &text[at..]) {
             return hyphens_at(text, at);

@@ -48,6 +48,7 @@ fn parts(text: &[u8], start: usize, builder: &mut TableBuilder) -> Result<(), Bl
 {
     let mut at = start;
     let mut count: usize = 0;
+    // From part to part, of some bytes each.
     loop {
         match tag_behind(text, at)? {
             AnyTag::Start(tag) => {

@@ -53,6 +53,7 @@ pub fn value_end(text: &[u8], from: usize, quote: u8) -> Result<usize, Flaw>
     ensures { ValueRead text.now from quote result }
 {
     let mut at = from;
+    // From character to character, of some bytes each.
     while at < text.len() {
         if text[at] == quote {
             return Ok(at);
