@@ -185,6 +185,7 @@ pub fn put_unit(draft: &mut Draft, t: &[u8])
 {
     let mut at: usize = 0;
     let mut within = Open::Between;
+    // A loop over an offset: the lent table is read record by record through the walker.
     while at < t.len() {
         let r = walker::known_at(t, at);
         put_read(draft, t, at, within, r);
