@@ -29,12 +29,6 @@ returns-in_err-close c =
     (value_at_fault args.text.now args.at blanks-end.result blanks-end.ensures c.if-text-quoted.false
     (not-false _ c.if-not-mark.false-raw) _ (rw c.in_err-close.was at c.value_end.ensures) _)
 
--- close + 1
-pub overflow_add-result : goal.overflow_add-result
-overflow_add-result c =
-    let h = (rw c.in_ok-close.was at c.value_end.ensures).inside in
-    search rules
-
 -- Ok(Next::One(AttributeAt { .. }))
 pub returns : goal.returns
 returns c =
