@@ -8,6 +8,7 @@ ghost use Rattle.codes.specs.Chains.{goes_on, NextChain, SameCodes, SameChain, O
 use super::fixed::{next_fixed, same_fixed};
 
 // Whether the list goes on at `at`, where a fixed code or the end is: the whole list, or the N up to the next F.
+// `From` is asked of another offset each time (0, at, at + 12): a struct with an offset would not hold it.
 fn goes_on(c: &[u8], at: usize, whole: bool) -> bool
     requires { CodeOrEnd c.now at }
     ensures { result ≡ goes_on c.now at whole }
@@ -19,6 +20,7 @@ fn goes_on(c: &[u8], at: usize, whole: bool) -> bool
 }
 
 // Where the next chain that an F begins stands, from the record at `from` on; the end where there is none.
+// The end and no Option, as `next_fixed` has it.
 fn next_chain(c: &[u8], from: usize) -> usize
     requires { From c.now from }
     ensures { NextChain c.now from result }

@@ -22,6 +22,7 @@ fn is_fixed(c: &[u8], at: usize) -> bool
 }
 
 // Where the first fixed code stands, from the record at `from` on; the end where there is none.
+// The end and no Option: each walk goes on while its offset is inside the content.
 pub fn next_fixed(c: &[u8], from: usize) -> usize
     requires { From c.now from }
     ensures { NextFixed c.now from result }

@@ -12,6 +12,7 @@ use glance::Head;
 use sequences::MarkerRoom;
 
 // Whether what follows a record is of a content that is asked for.
+// As `sequences::inside_source`, whose crate stands below and asks for no targets.
 fn inside_after(targets: bool, head: Head, inside: bool) -> bool
     ensures { result ≡ inside_after_head targets (kind_of head) inside }
 {
@@ -27,6 +28,7 @@ fn is_found(head: Head, inside: bool, marker: bool) -> bool
 
 // The offsets of the heads (SG, IG, TG) and of the markers of source contents and, where `targets`, of target contents,
 // in table order.
+// As `sequences::sources` with other tests: one walk of both would take two closures with contracts.
 fn contents(t: &[u8], targets: bool, out: &mut [u16]) -> usize
     requires { Passes t.now × (length t.now ≤ most_bytes) × (length out.old ≡ most_records) }
     ensures { (take result out.new ≡ barred targets t.now) × (result ≤ most_records) × (length out.new ≡ most_records) }
@@ -52,6 +54,7 @@ fn is_target(s: &[u8]) -> bool
 }
 
 // The key of the record at an offset: 1 for TG, 0 for all but TG and markers, also where no record is.
+// A number, since it stands in one array with the keys of markers, which are numbers (`MarkerRoom`).
 fn bar_key(t: &[u8], at: usize) -> u32
     ensures { result ≡ bar_key (read (drop at t.now)) }
 {

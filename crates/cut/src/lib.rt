@@ -38,6 +38,7 @@ fn put_turned_mark(out: &mut [u8], m: Mark)
 }
 
 // The bytes of a record of the mark `m` at the head of `out`, with the marks of start and end if asked.
+// The mark goes beside its record, read once by `put_cut`: a struct of both would be no plainer.
 fn put_turned(out: &mut [u8], m: Mark, t: &[u8], turn: bool)
     requires { (meaning m ≡ mark_at t.now) × (4 ≤ length t.now) × (length t.now ≤ length out.old) }
     ensures { out.new ≡ lead (turn_if turn t.now) out.old }

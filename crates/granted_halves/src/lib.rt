@@ -20,6 +20,7 @@ fn number_after(head: bool, n: usize) -> usize
 }
 
 // Whether the item at an offset is a half of the id, in a content of the side, and its part `n` is outside the grant.
+// The half of a view is the specification's number (crate views): 0 for none.
 fn stands_outside(t: &[u8], at: usize, grant: Grant, n: usize, inside: bool, id: u16) -> bool
     ensures { result ≡ (inside && half_of_id id (item_at t.now at))
         && not (within (grant_of grant.entry.role grant.entry.positions.now) n) }

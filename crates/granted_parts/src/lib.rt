@@ -7,6 +7,7 @@ ghost use Rattle.grants.specs.Grant.{role_of, within};
 ghost use Rattle.granted_parts.specs.Roles.{role_meaning, grant_of};
 
 // A translator's, a reviewer's or an engineer's; any other grants nothing.
+// Other is a case and no None: a role that grants nothing is no failure, and the definition has it so.
 #[derive(Clone, Copy, PartialEq, Eq)]
 pub enum Role {
     Translator,

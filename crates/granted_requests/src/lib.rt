@@ -24,6 +24,7 @@ fn is_engineer(role: Role) -> bool
 }
 
 // Whether the side has a complete pair or annotation of the id, both halves in granted parts.
+// That the check passed is asked by all three: the table is a lent slice, in which no type keeps that.
 fn whole_granted(grant: Grant, table: &[u8], side: u8, id: u16) -> bool
     requires { table_refusal table.now ≡ none }
     ensures { result ≡ whole_granted (grant_of grant.entry.role grant.entry.positions.now) (unit table.now).parts side

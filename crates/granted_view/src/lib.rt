@@ -23,6 +23,7 @@ use marks::SEGMENT_WIDTH;
 use part_at::PartPlace;
 
 // The head of a part outside the grant: a segment's state is shown as I.
+// The head's array and how much of it is used: fixed memory.
 fn put_head(draft: &mut Draft, head: &[u8])
     requires { SomeHead head.now }
     ensures { PutHead head.now draft.old draft.new }

@@ -58,6 +58,7 @@ pub fn half_after(keys: &[u32], i: usize) -> Option<usize>
 
 // Linear in the markers before `i` of its group: the links lead to them. A link is an index plus one, or 0: an array of
 // numbers of two bytes.
+// No struct of keys and links: there would be two, as links lead to what is before or to what is after.
 fn follow_before(keys: &[u32], links: &[u16], i: usize) -> Option<usize>
     requires { Linked keys.now links.now × (length keys.now ≤ most_records) × (length links.now ≡ most_records) × (i < length keys.now) }
     ensures { ToldBefore keys.now i result }

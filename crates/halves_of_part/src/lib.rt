@@ -7,6 +7,7 @@ ghost use Rattle.halves_of_part.specs.Parts.{RoomTarget, WroteTarget, RoomHalf, 
 
 // The target of the first half. The halves have two functions each: cut, order and id all differ, so one function with
 // a side would switch at each step, and promise both halves.
+// An empty slice of the table is no target: one has at least its TG, so no Option is needed.
 fn put_target_first(out: &mut [u8], t: &[u8], k: usize) -> usize
     requires { RoomTarget (first_target k) t.now out.old }
     ensures { WroteTarget (first_target k) t.now out.old result out.new }
@@ -20,6 +21,7 @@ fn put_target_first(out: &mut [u8], t: &[u8], k: usize) -> usize
 }
 
 // The first half of a part: its head `h`, its source content `s`, its target `t`.
+// Head, source and target stay three slices: a struct of them would be made for one call (`put_halves`).
 fn put_first_half(out: &mut [u8], h: &[u8], s: &[u8], t: &[u8], k: usize, j: usize) -> usize
     requires { RoomHalf (first_half k j) h.now s.now t.now out.old }
     ensures { WroteHalf (first_half k j) h.now s.now t.now out.old result out.new }

@@ -34,6 +34,7 @@ pub fn is_segment(head: &[u8]) -> bool
 }
 
 // The fields of a segment's head.
+// No Option beside `is_segment`: who reads the fields has asked that, and `part_at` asks nothing else.
 pub fn segment_of(head: &[u8]) -> Segment
     requires { SomeSegment head.now }
     ensures { FieldsAre head.now result }

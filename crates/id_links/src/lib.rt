@@ -15,6 +15,7 @@ pub fn group_of(k: u32) -> usize
 }
 
 // The `n`th key linked to the last before it of its group, and now itself the last of it.
+// The arrays are the callers' own: a struct of them here would hold their `&mut`, and be no plainer.
 pub fn link(links: &mut [u16], heads: &mut [u16], n: usize, k: u32)
     requires { (n < length links.old) × (n < most_records) × (length heads.old ≡ 256) }
     ensures { (links.new ≡ set links.old n (get_or heads.old (group k) 0)) × (heads.new ≡ set heads.old (group k) (n + 1)) }

@@ -6,6 +6,7 @@ ghost use Rattle.xliff.specs.Desk.{whole_size, is_UE, table_length};
 ghost use Rattle.job_table.specs.Sizes.{whole_of, SizeIs};
 
 // The size `n`, if there are so many bytes. No record has no bytes.
+// `n` is 0 where the mark is unknown: the widths of crate marks come so, and the definition's sizes.
 fn whole(t: &[u8], n: usize) -> Option<usize>
     ensures { SizeIs result (whole_of n t.now) }
 {

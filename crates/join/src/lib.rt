@@ -15,6 +15,7 @@ fn join_ended(table: &[u8], x: PartPlace, y: PartPlace, out: &mut [u8]) -> Answe
     requires { PairAt table.now x y }
     ensures { Ended table.now x y result out.old out.new }
 {
+    // Fixed memory: array and length live in this function alone, and are one slice for all that reads them.
     let mut work = [0u8; MOST_BYTES];
     let n = join_result::put_join(&mut work, table, x, y);
     if result_rules::breaks_7(&work[..n]) {

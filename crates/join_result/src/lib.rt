@@ -7,6 +7,7 @@ ghost use Rattle.join_result.specs.Result.{order_of_two, RoomJoinedParts, WroteJ
 
 use part_at::PartPlace;
 
+// As `parts::moved_order` down, which is for orders below 65535; this one asks nothing.
 fn lowered(n: u16, q: u16) -> u16
     ensures { result ≡ lower_above q n }
 {
@@ -17,6 +18,7 @@ fn lowered(n: u16, q: u16) -> u16
 }
 
 // The order of the first of two parts that has a target.
+// 0 where neither has a target: then none is written, and the number is used for nothing.
 fn order_of_two(x: PartPlace, y: PartPlace) -> u16
     ensures { result ≡ order_of_two x y }
 {

@@ -61,6 +61,7 @@ fn put_joined_head(out: &mut [u8], h: &[u8], i: &[u8]) -> usize
 }
 
 // The target of both, with this order; none if neither has one.
+// An empty slice of the table is no target: one has at least its TG, so no Option is needed.
 fn put_joined_target(out: &mut [u8], g: &[u8], k: &[u8], order: u16) -> usize
     requires { RoomTargets order g.now k.now out.old }
     ensures { WroteTargets order g.now k.now out.old result out.new }

@@ -11,6 +11,7 @@ ghost use Rattle.keys.specs.Keys.{key, keys_at, alike_keys, is_other_key, id_key
 use views::View;
 
 // Markers of a table in sequence: their offsets, and their keys.
+// That the keys are those of the markers is no ghost field: the bars of crate contents have others.
 #[derive(Clone, Copy)]
 pub struct Sequence<'a> {
     pub markers: &'a [u16],
@@ -109,6 +110,7 @@ fn marker_good(s: &[u8], low: u32) -> bool
 }
 
 // The key of the item at the head of `s`; where none is, as a text's.
+// 0 is the specification's key of a text, no mark of failure: keys stand in arrays of numbers.
 fn marker_key(s: &[u8]) -> u32
     ensures { result ≡ marker_key s.now }
 {

@@ -25,6 +25,7 @@ fn end_letter(c: u8) -> u8
 }
 
 // Whether an end does not match its start.
+// Field by field: the rule compares not all fields of two views.
 fn ill_matched(start: View, end: View) -> bool
     ensures { result ≡ ill_matched_views start end }
 {

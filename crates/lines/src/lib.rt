@@ -36,6 +36,7 @@ pub fn put_decimal(out: &mut [u8], n: usize) -> usize
     writer::put(out, &digits[k..])
 }
 
+// The three writers of lines ask for 48 bytes each: `out` is the rest of an output, so no array type says it.
 // OK length
 fn put_accepted(out: &mut [u8], n: usize) -> usize
     requires { 48 ≤ length out.old }
@@ -69,6 +70,7 @@ pub fn put_line(out: &mut [u8], a: Answer) -> usize
     }
 }
 
+// By hand: the library's `char::from_digit` gives lower case, and upper case is needed.
 pub fn hex_digit(d: u8) -> u8
     requires { d < 16 }
     ensures { result ≡ hex_digit d }

@@ -28,6 +28,7 @@ pub const ANNOTATION_START_WIDTH: usize = 5;
 
 pub const ANNOTATION_END_WIDTH: usize = 4;
 
+// `Unknown` is a mark, and there is no Option: the specification has a mark for none too (`meaning`).
 #[derive(Clone, Copy)]
 pub enum Mark {
     UN,
@@ -168,6 +169,7 @@ pub fn fixed_width(m: Mark) -> usize
 }
 
 // A number of two bytes as one that counts or places bytes.
+// A function, since its contract says the bound too, which proofs of callers may cite.
 pub fn wide(x: u16) -> usize
     ensures { (result ≡ x) × (result < 65536) }
 {
@@ -183,6 +185,7 @@ pub fn narrow(x: usize) -> u16
 }
 
 // A number of two bytes as a part of a larger one.
+// A function for its bound, as `wide`.
 pub fn wide_to_u32(x: u16) -> u32
     ensures { (result ≡ x) × (result < 65536) }
 {

@@ -59,6 +59,7 @@ fn depth_after(x: u32, k: u32, depth: usize) -> usize
 
 // Whether the half at `i` has its partner before it, or after it. The stack holds the open halves.
 // Ends at the partner, at a half that rules one out, or at the end of the content.
+// Stack and depth live in this function alone; the array is lent as room.
 fn is_met(keys: &[u32], back: bool, i: usize, stack: &mut [u32]) -> bool
     requires { (i < length keys.now) × (length keys.now ≤ most_records) × (length stack.old ≡ most_records) }
     ensures { (result ≡ all_met_keys (meet_keys (some (get_or keys.now i 0 ∷ [])) (run (away back i 0 keys.now)))) × (length stack.new ≡ most_records) }

@@ -155,6 +155,7 @@ fn encloses_stray(t: &[u8], h: Halved, i: usize) -> bool
 
 // Rule 9 over the markers of a sequence, below `start`.
 // Quadratic in the markers: each start looks at those that it encloses.
+// A loop as other rules have: one for all would take the test as a closure with a contract.
 fn overlapping(t: &[u8], h: Halved, start: Option<usize>) -> Option<usize>
     requires { h.sequence.keys.now ≡ keys_at t.now h.sequence.markers.now }
     ensures { refusal_at 9 result ≡ toward 9 start (blamed bad_9 [] (placed_at t.now h.entry.sequence.markers.now)) }

@@ -69,6 +69,7 @@ fn order_of(r: Read) -> Option<u16>
 
 // The offsets of a part: its SG or IG, its source content, its TG and its end. Without a target the TG's is the end.
 // The order of its target, if it has one, and whether it is a segment.
+// `target` is no Option: without a target it still says where the source content ends.
 #[derive(Clone, Copy)]
 pub struct PartPlace {
     pub head: usize,
@@ -79,6 +80,7 @@ pub struct PartPlace {
     pub segment: bool,
 }
 
+// The table is no field, though it goes with a place: a join has two places of one table.
 impl PartPlace {
     pub fn has_target(self) -> bool
         ensures { result ≡ is_some self.order }

@@ -148,6 +148,7 @@ fn stays_lone(keys: &[u32], i: usize, bars: &[u32], stack: &mut [u32]) -> bool
 // The halves at fault in the target sequence. Quadratic: each looks at the others and at the source keys; it looks
 // closer, once more linear, only at source keys of its id, and the ids of those that get so far differ, so that no
 // source key is looked at closer twice.
+// Beside `lone_in_source`: its test writes the stack, and as a closure would be no plainer.
 fn lone_in_target(target: Sequence, bars: &[u32], start: Option<usize>) -> Option<usize>
     requires { length bars.now ≤ most_records }
     ensures { refusal_at 7 result

@@ -19,6 +19,7 @@ fn moved_order(n: u16, q: u16, up: bool) -> u16
 }
 
 // The record `t` of a part, a target's order moved.
+// Order and direction are two parameters, as `moved` takes them: a struct would be made for three calls.
 fn put_record(out: &mut [u8], t: &[u8], q: u16, up: bool)
     requires { One t.now × (length t.now ≤ length out.old) }
     ensures { WroteOne (moved up q) t.now out.old out.new }

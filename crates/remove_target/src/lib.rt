@@ -16,6 +16,7 @@ fn remove_ended(table: &[u8], place: PartPlace, out: &mut [u8]) -> Answer
     requires { Checked table.now place }
     ensures { Ended table.now place result out.old out.new }
 {
+    // Fixed memory: array and length live in this function alone, and are one slice for all that reads them.
     let mut work = [0u8; MOST_BYTES];
     let n = removed_target::put_removed(&mut work, table, place);
     if out.len() < n {

@@ -20,6 +20,7 @@ const REMOVE_SIZE: usize = 4;
 const REWRITE_SIZE: usize = 6;
 
 // The numbers and letters of a request. Set target has the length of its content.
+// It holds no slice of the content, which stays in the job: `request_size r ≤ length s` is asked beside it.
 #[derive(Clone, Copy)]
 pub enum Request {
     Split {
@@ -110,6 +111,7 @@ fn set_of(s: &[u8]) -> Option<Request>
 }
 
 // RT part
+// Like join_of but for the variant: one function for both would take the variant and be no plainer.
 fn remove_of(s: &[u8]) -> Option<Request>
     ensures { Asks s.now result (asked s.now 4 (RT (two_at s.now 2) lent)) }
 {

@@ -23,6 +23,7 @@ pub fn breaks_7(t: &[u8]) -> bool
 }
 
 // The first of the rules 7 and 9 that a table which passes 1 to 4 breaks.
+// The rule is document 01's number, as `Answer::Refused` holds it: an enum would be turned into it.
 pub fn rules_7_and_9(t: &[u8]) -> Option<u8>
     requires { Passes t.now × (length t.now ≤ most_bytes) }
     ensures { broken result ≡ of_result (fault_7 (unit t.now).parts then fault_9 (unit t.now).parts) }
@@ -40,6 +41,7 @@ pub fn rules_7_and_9(t: &[u8]) -> Option<u8>
 }
 
 // The first of the rules 6 to 10 that a table which passes 1 to 4 breaks.
+// A number too: it is the one that the check refuses with.
 pub fn rules_6_to_10(t: &[u8]) -> Option<u8>
     requires { Passes t.now × (length t.now ≤ most_bytes) }
     ensures { broken result ≡ of_result (fault_6_to_10 (unit t.now).parts) }

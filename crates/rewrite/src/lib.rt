@@ -18,6 +18,7 @@ fn is_already(form: u8, is_p: bool) -> bool
 
 // 20, 21, 15, then the bytes: every refusal is decided before the first store. Each record keeps its length, so 15 is
 // only a matter of the room.
+// Side and form stay the letters that the definition takes; each step tells them by one test.
 fn rewrite_pair(
     table: &[u8],
     pair: WholePair,

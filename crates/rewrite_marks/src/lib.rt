@@ -14,6 +14,7 @@ ghost use Rattle.rewrite_marks.specs.Rewritten.{inside_of, start_mark, end_mark,
 use glance::Head;
 
 // Whether what follows a record is of a content of the side.
+// Not `contents::inside_after`: where the targets are the side, a source content is not inside.
 pub fn inside_of(source: bool, inside: bool, head: Head) -> bool
     ensures { result ≡ inside_of source inside (kind_of head) }
 {
@@ -59,6 +60,7 @@ fn put_end(out: &mut [u8], at: usize, pair: bool, p: bool) -> usize
     writer::put_mark(out, at, b"EM")
 }
 
+// Class and half are the specification's numbers, as the key packs them (crate views).
 fn put_half(out: &mut [u8], at: usize, class: u32, half: u32, p: bool) -> usize
     requires { at + 2 ≤ length out.old }
     ensures { (result ≡ at + 2) × (out.new ≡ overlay out.old at (half_mark class half p)) }

@@ -14,6 +14,7 @@ fn is_apart(t: &[u8], side: u8, id: u16) -> bool
     requires { Fitting t.now side id }
     ensures { result ≡ apart (unit t.now) side id }
 {
+    // Fixed memory: array and length live in this function alone, and are one slice for all that reads them.
     let mut work = [0u8; MOST_BYTES];
     let n = rewrite_marks::put_rewritten(&mut work, t, side, id, b'P');
     result_rules::breaks_7(&work[..n])

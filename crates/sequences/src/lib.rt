@@ -36,6 +36,7 @@ fn inside_source(head: Head, inside: bool) -> bool
 }
 
 // The markers of the source sequence.
+// `Passes` is one clause of each function: a struct of the slice alone would be taken apart at each read.
 pub fn sources(t: &[u8], out: &mut [u16]) -> usize
     requires { Passes t.now × (length t.now ≤ most_bytes) × (length out.old ≡ most_records) }
     ensures { (take result out.new ≡ offsets true 0 t.now) × (result ≤ most_records) × (length out.new ≡ most_records) }

@@ -31,6 +31,7 @@ pub fn put_set(
 }
 
 // The number of records of a content.
+// Beside that of `part_at`: a content is walked by its records' widths, a table by glances.
 fn count_records(c: &[u8]) -> usize
     requires { Some c.now }
     ensures { (result ≤ length c.now) × RecordsAre c.now result }

@@ -29,6 +29,7 @@ fn set_ended(
     if set_result::is_too_large(table, place, content, out.len()) {
         return Answer::Refused(15, 0);
     }
+    // Fixed memory: array and length live in this function alone, and are one slice for all that reads them.
     let mut work = [0u8; MOST_BYTES];
     let n = set_result::put_set(&mut work, table, place, order, state, content);
     if let Some(k) = result_rules::rules_6_to_10(&work[..n]) {
@@ -72,6 +73,7 @@ fn set_content(
 }
 
 // Whether the state fits the part: a segment has one, an ignorable none.
+// The letters of `table::state_letter`, which is private there: this is the operation's own definition.
 fn state_fits(place: PartPlace, state: u8) -> bool
     ensures { StateFits place state result }
 {

@@ -21,6 +21,7 @@ pub struct Cursor {
 struct Filling {
     next: Cursor,
     room: usize,
+    // No case of `room`: the cells left are written as blanks also where the next item does not fit.
     full: bool,
 }
 
@@ -33,6 +34,7 @@ impl Filling {
     }
 
     // Code points of the text that the row has come to: as many as there are cells.
+    // The row does not hold the content, which is lent to each step: so Going is asked by each.
     fn put_points(&mut self, draft: &mut Draft, c: &[u8])
         requires { Going c.now self.old × (0 < self.old.next.left) × (0 < self.old.room) }
         ensures { Filled c.now self.old draft.old self.new draft.new }

@@ -20,6 +20,7 @@ pub const COLUMN_CELLS: usize = 33;
 pub const FORM_BYTES: usize = 22;
 
 // {7
+// 21 or 22 bytes are asked by each writer: a piece may be the rest of an array, so no array type says it.
 fn put_start(piece: &mut [u8], id: u16) -> usize
     requires { 21 ≤ length piece.old }
     ensures { Written (start_form id) piece.old result piece.new }
@@ -110,6 +111,7 @@ fn put_between(draft: &mut Draft, before: usize, bytes: &[u8], behind: usize)
 }
 
 // A number in decimal, right-aligned.
+// The digits' array and their number: fixed memory.
 pub fn put_number(draft: &mut Draft, n: usize, cells: usize)
     ensures { Wrote (right_aligned cells (decimal n)) draft.old draft.new }
 {

@@ -46,6 +46,7 @@ fn is_of_other_class(x: View, y: View) -> bool
 }
 
 // Whether `y` is the like of `x` in the source.
+// Field by field: the rule compares neither `of` nor `pform`.
 fn agrees_with(x: View, y: View) -> bool
     ensures { result ≡ agrees_with x y }
 {
@@ -197,6 +198,7 @@ fn ten_source(t: &[u8], s: Sequence) -> Option<usize>
 // Rule 10 over the markers of the target sequence, below `start`.
 // Each looks at the source items of two groups: linear in the markers, at most quadratic, where all ids fall into one
 // group.
+// As `ten_source` with another test: one loop of both would take it as a closure with a contract.
 fn ten_target(t: &[u8], source: LinkedItems, s: Sequence, start: Option<usize>) -> Option<usize>
     requires { s.keys.now ≡ keys_at t.now s.markers.now }
     ensures { refusal_at 10 result ≡ toward 10 start

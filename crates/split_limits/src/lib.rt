@@ -43,6 +43,7 @@ pub fn is_bad_cut(t: &[u8], place: PartPlace, cuts: Cuts) -> bool
 }
 
 // The records that a cut adds to a content: one inside a text.
+// A count, 0 or 1, which the callers add: a conversion of a bool is no plainer.
 fn added_in(c: &[u8], k: usize) -> usize
     requires { Some c.now }
     ensures { AddedIn c.now k result }

@@ -15,7 +15,9 @@ pub struct TableBuilder<'a> {
     used: usize,
     records: usize,
     parts: usize,
+    // A count and no Option: a text that stands last has at least one code point.
     text: usize,
+    // A flag and no Result of each step: beyond a limit a step writes nothing, so who builds may go on.
     over: bool,
     pub ghost room: { length table.now ≡ most_bytes },
     pub ghost inside: { used ≤ most_bytes },

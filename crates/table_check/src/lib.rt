@@ -16,6 +16,7 @@ use keys::Sequence;
 use sequences::MarkerRoom;
 
 // Rules 7 to 10.
+// Two sequences and no struct of both with the table: each rule looks at them one by one.
 fn by_markers(t: &[u8], source: Sequence, target: Sequence) -> Answer
     requires { Sequences t.now source target }
     ensures { answer_meaning result ≡ answer (unless (fault_7 (unit t.now).parts then fault_8 (unit t.now).parts
@@ -37,6 +38,7 @@ fn by_markers(t: &[u8], source: Sequence, target: Sequence) -> Answer
 }
 
 // Rules 6 to 10 of a table with so many parts.
+// The number of parts goes beside the table: it is counted once, and two steps need it.
 fn from_6(t: &[u8], parts: usize) -> Answer
     requires { Passes t.now × (length t.now ≤ most_bytes) × (parts ≡ length (unit t.now).parts) }
     ensures { answer_meaning result ≡ answer (unless (fault_6_to_10 (unit t.now).parts) t.now) }

@@ -47,6 +47,7 @@ fn point_if(ok: bool, c: u32, w: usize) -> Option<Character>
     if ok { point_of(c, w) } else { None }
 }
 
+// One function for each width, as the definitions have it: bounds, factors and barred forms all differ.
 fn two_of(t: &[u8]) -> Option<Character>
     ensures { result ≡ two_of t.now }
 {
@@ -155,6 +156,7 @@ fn triple_fits(c: u8, d: u8, e: u8) -> bool
 }
 
 // Whether sixteen bytes from `at` on fit, each with the next two. No branch here either.
+// Beside `block_fits`: the room asked for and the bytes that a test takes differ.
 fn wide_block_fits(t: &[u8], at: usize) -> bool
     requires { at + 18 ≤ length t.now }
     ensures { result ≡ all_fit triple_at 16 (drop at t.now) }

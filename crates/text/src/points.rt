@@ -5,6 +5,7 @@ ghost use Rattle.text.specs.Points.{lead, leads, further, sought, Reached, TextB
 use super::char_of;
 
 // 1 for the first byte of a code point, 0 for the others.
+// A number and no bool: a block adds them up.
 fn lead(b: u8) -> u8
     ensures { (result ≡ lead b) × (result ≤ 1) }
 {

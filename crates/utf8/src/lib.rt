@@ -21,6 +21,7 @@ pub fn width(c: u32) -> usize
     4
 }
 
+// One function for each width, as the definitions have it: first byte, factors and count all differ.
 fn put_two(out: &mut [u8], at: usize, c: u32)
     requires { (c < 0x800) × (at + 2 ≤ length out.old) }
     ensures { out.new ≡ overlay out.old at (utf8_2 c) }

@@ -29,6 +29,7 @@ pub fn nothing() -> View
     View::default()
 }
 
+// The letters lie flat, field by field: the definitions of the rules name each (`view_of`).
 pub fn code_view(class: u8, half: u8, pform: bool, f: Fields) -> View
     ensures { result ≡ code_view class half pform f }
 {
@@ -59,6 +60,7 @@ pub fn annotation_view(half: u8, pform: bool, id: u16) -> View
     }
 }
 
+// No `From`: a half gives two numbers, this one and the class of an isolated code.
 fn half_number(h: Half) -> u8
     ensures { result ≡ half_number h }
 {

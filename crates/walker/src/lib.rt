@@ -19,6 +19,7 @@ pub struct Walker<'a> {
 }
 
 // The offset behind the record at `at`, which was read before; `at` where none is good.
+// No Option: `After` adds the specification's width, which is 0 where no record is good.
 fn after_at(t: &[u8], at: usize) -> usize
     ensures { After t.now at result }
 {

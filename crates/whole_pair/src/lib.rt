@@ -32,6 +32,7 @@ fn find_start(keys: &[u32], id: u32) -> Option<usize>
 }
 
 // "the end's canReorder is not the PC letter": N for F and else equal to the start's.
+// As `letters::end_letter`, which is private to rule 8: this crate needs nothing else of that one.
 fn is_unfit(start: u8, end: u8) -> bool
     ensures { result ≡ not (eqb end (end_letter start)) }
 {

@@ -28,6 +28,7 @@ pub enum Next {
 }
 
 // Behind the / of a short form.
+// A text and a place in it stay two parameters, as in xml_names.
 fn short_end(text: &[u8], at: usize) -> Result<Next, Flaw>
     requires { at ≤ length text.now }
     ensures { Reading text.now in_short at result }

@@ -24,6 +24,7 @@ pub enum Inline {
 }
 
 // Whether there are only attributes of these slots: they are as many as there are at all.
+// Slots and count go together in all readers here: the slots are a lent array, the count comes with the tag.
 pub fn has_only(slots: &[u32], count: usize, those: &[usize]) -> bool
     requires { SomeSlots slots.now count × (apart those.now ≡ true) }
     ensures { ByAttributes slots.now count (only (names_of those.now)) result }
@@ -216,6 +217,7 @@ fn half_id(isolated: u8) -> usize
 }
 
 // <ec>
+// Like read_sc but for the half and the slot of its id, which hangs on isolated here: as one no plainer.
 fn read_ec(slots: &[u32], count: usize) -> Option<Inline>
     requires { SomeSlots slots.now count }
     ensures { ByAttributes slots.now count read_ec (inline_meaning result) }
@@ -242,6 +244,7 @@ fn read_mrk(slots: &[u32], count: usize) -> Option<Inline>
 }
 
 // <sm>
+// It reads what read_mrk reads, but makes one item, not two: as one function no plainer.
 fn read_sm(slots: &[u32], count: usize) -> Option<Inline>
     requires { SomeSlots slots.now count }
     ensures { ByAttributes slots.now count read_sm (inline_meaning result) }

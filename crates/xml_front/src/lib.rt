@@ -38,6 +38,7 @@ fn byte_or(text: &[u8], at: usize, pad: u8) -> u8
 
 // Whether the bytes are the beginning of a character and not the whole of it: of the character that stands there once
 // they are filled up to four by a byte that goes on with one.
+// That a byte is there is asked by all three readers here: a type of texts that have one is no plainer.
 fn goes_on(text: &[u8], pad: u8) -> bool
     requires { (1 ≤ length text.now) × (0x80 ≤ pad) × (pad ≤ 0xBF) }
     ensures { result ≡ part_of text.now (spelled (text.now ++ (pad ∷ pad ∷ pad ∷ []))) }

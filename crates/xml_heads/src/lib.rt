@@ -17,6 +17,7 @@ pub enum Head {
 }
 
 // <unit>: canResegment is yes where it is absent; the id is read and not kept.
+// Slots and count stay two parameters, as in xml_elements.
 pub fn unit_opening(slots: &[u32], count: usize) -> Option<u8>
     requires { SomeSlots slots.now count }
     ensures { ByAttributes slots.now count unit_opening (unit_meaning result) }

@@ -6,6 +6,7 @@ ghost use Rattle.xml.specs.Characters.{starts_name, in_a_name};
 ghost use Rattle.xml_names.specs.Names.{bytes_between, NameIn, NameEnds};
 
 // Where a name stands in a text: from one place to another.
+// It does not hold the text: that the name stands in it (NameIn) is asked wherever both come.
 #[derive(Clone, Copy)]
 pub struct Span {
     pub from: usize,
@@ -37,6 +38,7 @@ pub fn name_goes_on(b: u8) -> bool
 }
 
 // Where the name ends that has begun before `from`.
+// A text and a place in it stay two parameters: readers go on from many places of the one lent text.
 pub fn name_end(text: &[u8], from: usize) -> usize
     requires { from ≤ length text.now }
     ensures { NameEnds text.now from result }

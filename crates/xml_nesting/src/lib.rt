@@ -87,6 +87,7 @@ pub fn too_deep(t: &[u8]) -> bool
 }
 
 // The dataRef of the end of a pc, whose start stands directly before an offset.
+// 0 is the table's number for no dataRef, and is handed on as such.
 pub fn end_data(t: &[u8], start: usize) -> u16
     requires { RecordsAt t.now start }
     ensures { EndsWith t.now start result }

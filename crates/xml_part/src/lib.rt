@@ -42,6 +42,7 @@ pub enum AnyTag {
 }
 
 // What stands behind blanks and comments from `start` on.
+// A text and a place in it stay two parameters, as in xml_names.
 pub fn outer_at(text: &[u8], start: usize) -> Result<Outer, Blamed>
     requires { start ≤ length text.now }
     ensures { OuterRead text.now start result }
@@ -132,6 +133,7 @@ fn source_at(text: &[u8], tag: StartTag, builder: &mut TableBuilder) -> Result<u
 }
 
 // TG with this order, or the part's position. Beyond a limit the position may be larger than an order can be.
+// The position stays beside the builder, which counts parts only within the limits of a table.
 fn put_order(builder: &mut TableBuilder, order: Option<u16>, position: usize)
     requires { CollectingAt position builder.old }
     ensures { Collects (target_head (order_or order position) ∷ []) builder.old builder.new }
@@ -169,6 +171,7 @@ fn target_at(
 }
 
 // The end tag of the part of this name.
+// Like behind_source but for a start tag, which is blamed here: as one function no plainer.
 fn part_end(text: &[u8], start: usize, name: Span) -> Result<usize, Blamed>
     requires { (start ≤ length text.now) × NameIn text.now name.from name.upto }
     ensures { PartEnds text.now start (spelled text.now name) result }

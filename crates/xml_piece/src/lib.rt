@@ -28,6 +28,7 @@ pub enum Piece {
 }
 
 // What begins with the < at this place.
+// Not From: the promise is about the text and the place, which a tag does not hold. Both stay parameters.
 fn markup_at(text: &[u8], at: usize) -> Piece
     requires { (at < length text.now) × (get_or text.now at 0 ≡ '<') }
     ensures { PieceRead text.now at result }
@@ -68,6 +69,7 @@ fn line_end_at(text: &[u8], at: usize) -> Piece
 }
 
 // The character at this place, where no tag, reference, ]]> or line end stands.
+// Like reference_at but for the reader, its slice and the case: as parameters these would be no plainer.
 fn character_at(text: &[u8], at: usize) -> Piece
     requires { Plain text.now at }
     ensures { PieceRead text.now at result }

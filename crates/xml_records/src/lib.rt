@@ -54,6 +54,7 @@ pub fn put_segment(builder: &mut TableBuilder, f: Segment)
 }
 
 // IG with this id.
+// IG by itself, not with TG: each mark is written as a fixed two-byte string where it is named.
 pub fn put_ignorable(builder: &mut TableBuilder, id: u16)
     ensures { Collects (part_head (ignorable id) ∷ []) builder.old builder.new }
 {

@@ -19,6 +19,7 @@ fn goes_to_end(text: &[u8]) -> bool
 }
 
 // Whether the bytes are a name, or the beginning of one.
+// That a byte is there is asked by three functions: a type of texts that have one is no plainer.
 fn is_only_name(text: &[u8]) -> bool
     requires { 1 ≤ length text.now }
     ensures { result ≡ only_name [] text.now }
@@ -60,6 +61,7 @@ fn entity_at(text: &[u8]) -> Result<Front, Flaw>
     }
 }
 
+// A flag is handed on, not the base: so it is 10 or 16 without a clause in each contract.
 fn base_of(hex: bool) -> u32
     ensures { result ≡ base_of hex }
 {

@@ -23,6 +23,7 @@ pub enum Markup {
 }
 
 // Behind the / of the end tag at `place`.
+// A text and a place in it stay two parameters, as in xml_names.
 fn close_at(text: &[u8], place: usize, at: usize) -> Markup
     requires { at ≤ length text.now }
     ensures { Marked text.now (in_name place true []) place at result }

@@ -21,6 +21,7 @@ pub fn put_attribute(draft: &mut Draft, name: &[u8], value: &[u8])
 }
 
 // A number in decimal.
+// The digits' array and their number: fixed memory.
 pub fn put_number(draft: &mut Draft, name: &[u8], n: u16)
     ensures { Wrote (attributes_bytes (number_attribute name.now n)) draft.old draft.new }
 {
@@ -39,6 +40,7 @@ pub fn put_unless_zero(draft: &mut Draft, name: &[u8], n: u16)
 }
 
 // Y or N by its word.
+// Three matches on letters, not one search in tables: an arm for each word is no longer than its entry.
 pub fn put_yes_no(draft: &mut Draft, name: &[u8], letter: u8)
     ensures { Wrote (attributes_bytes (word_attribute name.now yes_no letter)) draft.old draft.new }
 {

@@ -24,6 +24,7 @@ pub fn is_blank(b: u8) -> bool
 }
 
 // Where the blanks end that stand from a place on.
+// A text and a place in it stay two parameters, as in xml_names.
 pub fn blanks_end(text: &[u8], from: usize) -> usize
     requires { from ≤ length text.now }
     ensures { BlanksEnd text.now from result }

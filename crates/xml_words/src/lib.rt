@@ -80,6 +80,7 @@ fn is_digit(c: u32) -> bool
 }
 
 // "decimal, 1 to 65535, no leading zero"
+// `n` is 0 exactly before the first digit, since none begins with 0: an Option would say it twice.
 fn number_value(text: &[u8], start: usize, quote: u8) -> Option<u32>
     requires { start ≤ length text.now }
     ensures { number_told result ≡ number (value_codes quote 0 (drop start text.now)) }
@@ -101,6 +102,7 @@ fn number_value(text: &[u8], start: usize, quote: u8) -> Option<u32>
 }
 
 // A digit's value.
+// By hand: the library's `to_digit` takes lower case digits too.
 fn upper_digit(c: u32) -> Option<u32>
     ensures { number_told result ≡ upper_hex c }
 {
@@ -114,6 +116,7 @@ fn upper_digit(c: u32) -> Option<u32>
 }
 
 // "four upper hexadecimal digits"
+// The digits are counted by hand: they come one by one out of the value, and no slice has them.
 fn hexadecimal_value(text: &[u8], start: usize, quote: u8) -> Option<u32>
     requires { start ≤ length text.now }
     ensures { number_told result ≡ hexadecimal (value_codes quote 0 (drop start text.now)) }

@@ -129,6 +129,7 @@ fn put_target(draft: &mut Draft, q: u16)
 }
 
 // An inline record other than text, whose content goes on at `next`: the start of a pc has the dataRef of its end.
+// 0 is the table's number for no dataRef; other items than a pc's start do not show it.
 fn put_inline(draft: &mut Draft, t: &[u8], next: usize, i: Item)
     requires { RecordsAt t.now next × FourDigits (item i) }
     ensures { WroteInline t.now next (item i) draft.old draft.new }
