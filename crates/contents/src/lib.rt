@@ -36,7 +36,7 @@ fn contents(t: &[u8], targets: bool, out: &mut [u16]) -> usize
     let mut at: usize = 0;
     let mut inside = false;
     let mut m: usize = 0;
-    // the lent table is read record by record through the walker
+    // The lent table is read record by record through the walker.
     while at < t.len() {
         let g = walker::glance_at(t, at);
         m = sequences::put_if(is_found(g.head, inside, g.marker), out, m, at as u16);

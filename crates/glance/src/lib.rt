@@ -32,6 +32,7 @@ impl Head {
         matches!(self, Head::Other)
     }
 
+    // Whether it is of a TG that sets the order `q`.
     pub fn sets(self, q: u16) -> bool
         ensures { result ≡ sets_order q self }
     {
@@ -41,7 +42,7 @@ impl Head {
         }
     }
 
-    // The order that it sets. Above, whether it is of a TG that sets the order `q`.
+    // The order that it sets, if it is of a TG.
     pub fn order(self) -> Option<u16>
         ensures { result ≡ order_set self }
     {

@@ -194,7 +194,7 @@ pub fn rule_6(t: &[u8]) -> Option<usize>
     let mut ids = MetIds::new();
     let mut o: u32 = 2;
     let mut at: usize = 0;
-    // the lent table is read record by record through the walker
+    // The lent table is read record by record through the walker.
     while at < t.len() {
         let g = walker::glance_at(t, at);
         if ids.meets(name_at(t, at, g.head, o)) {

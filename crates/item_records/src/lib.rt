@@ -58,7 +58,7 @@ fn put_character(out: &mut [u8], c: u32) -> usize
     writer::put_number(out, low_at, (c % 65536) as u16)
 }
 
-// The record of an annotation's end with this mark; that of its start with this mark.
+// The record of an annotation's end with this mark.
 fn put_id(out: &mut [u8], mark: &[u8; 2], id: u16) -> usize
     requires { code_size ≤ length out.old }
     ensures { Written (bytes_of_mark mark.now ++ two id) out.old result out.new }
@@ -67,6 +67,7 @@ fn put_id(out: &mut [u8], mark: &[u8; 2], id: u16) -> usize
     writer::put_number(out, id_at, id)
 }
 
+// The record of an annotation's start with this mark.
 fn put_translate(out: &mut [u8], mark: &[u8; 2], id: u16, translate: u8) -> usize
     requires { code_size ≤ length out.old }
     ensures { Written (bytes_of_mark mark.now ++ two id ++ (translate ∷ [])) out.old result out.new }

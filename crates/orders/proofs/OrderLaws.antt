@@ -95,41 +95,41 @@ unfolding first_bad_in found
 orders_end t at rs n us a l = ap (λ (l : List encode.Record). first_bad_in n us (orders_found at l)) (at_end t at rs a l)
 
 -- the array of used orders
-abbrev pub Marked : List ℕ → List ℕ → Type 0
-Marked used us = (q : ℕ) → q ≤ most_parts → eqb (get_or used q 0) 1 ≡ among q us
+abbrev pub Marked : List Bool → List ℕ → Type 0
+Marked used us = (q : ℕ) → q ≤ most_parts → get_or used q false ≡ among q us
 
-pub bad_same : (n k : ℕ) (used us : List ℕ) → n ≤ most_parts → Marked used us → (eqb k 0 || (ltb n k || eqb (get_or used k 0) 1)) ≡ bad_order n us k
+pub bad_same : (n k : ℕ) (used : List Bool) (us : List ℕ) → n ≤ most_parts → Marked used us → (eqb k 0 || (ltb n k || get_or used k false)) ≡ bad_order n us k
 unfolding bad_order
 bad_same n k used us l m = ap (λ (b : Bool). eqb k 0 || b) (by (ltb n k) refl)
   where
-    by : (b : Bool) → ltb n k ≡ b → b || eqb (get_or used k 0) 1 ≡ b || among k us
+    by : (b : Bool) → ltb n k ≡ b → b || get_or used k false ≡ b || among k us
     by true e = refl
     by false e = m k (omega (arith, ltb-false n k e))
 
-pub marked_more : (used us : List ℕ) (k : ℕ) → Marked used us → k < length used → Marked (set used k 1) (k ∷ us)
+pub marked_more : (used : List Bool) (us : List ℕ) (k : ℕ) → Marked used us → k < length used → Marked (set used k true) (k ∷ us)
 unfolding among
 marked_more used us k m l q h = by (eqb q k) refl
   where
-    by : (b : Bool) → eqb q k ≡ b → eqb (get_or (set used k 1) q 0) 1 ≡ eqb q k || among q us
+    by : (b : Bool) → eqb q k ≡ b → get_or (set used k true) q false ≡ eqb q k || among q us
     by true e =
         let z : q ≡ k = eqb-true q k e in
-        rw (z, get_or-set_same used k 1 0 l, eq-eqb k k refl)
-    by false e = rw (e, get_or-set_other used k q 1 0 (eqb-false q k e)) (m q h)
+        rw (z, get_or-set_same used k true false l, eq-eqb k k refl)
+    by false e = rw (e, get_or-set_other used k q true false (eqb-false q k e)) (m q h)
 
-zeros : (n q : ℕ) → ◌≡◌ {A = ℕ} (get_or (replicate {A = ℕ} n 0) q 0) 0
-zeros zero q = refl
-zeros (suc n) zero = refl
-zeros (suc n) (suc q) = zeros n q
+all_unused : (n q : ℕ) → get_or (replicate n false) q false ≡ false
+all_unused zero q = refl
+all_unused (suc n) zero = refl
+all_unused (suc n) (suc q) = all_unused n q
 
-pub marked_none : Marked (replicate {A = ℕ} 65 0) []
+pub marked_none : Marked (replicate 65 false) []
 unfolding among
-marked_none q h = rw (zeros 65 q)
+marked_none q h = all_unused 65 q
 
 pub orders_start : (t : List ℕ) (n : ℕ) → n ≡ length (unit t).parts → fault_5 (unit t).parts ≡ first_bad_in n [] (orders_found 0 (unit_records (unit t)))
 orders_start t n e = rule_5_found (unit t) ∙ ap (λ (k : ℕ). first_bad_in k [] (orders_found 0 (unit_records (unit t)))) (sym e)
 
 -- Where rule 5 stands before an offset: the records from there on, the orders used before it and the array that holds them
-pub record Ordering (t : List ℕ) (n : ℕ) (used : List ℕ) (at : ℕ) : Type 0 where
+pub record Ordering (t : List ℕ) (n : ℕ) (used : List Bool) (at : ℕ) : Type 0 where
   pub records : List encode.Record
   pub orders : List ℕ
   pub here : At t at records
@@ -137,15 +137,15 @@ pub record Ordering (t : List ℕ) (n : ℕ) (used : List ℕ) (at : ℕ) : Type
   pub marked : Marked used orders
   pub sized : length used ≡ 65
 
-pub ordering_start : (t : List ℕ) (n : ℕ) → Passes t → n ≡ length (unit t).parts → Ordering t n (replicate {A = ℕ} 65 0) 0
+pub ordering_start : (t : List ℕ) (n : ℕ) → Passes t → n ≡ length (unit t).parts → Ordering t n (replicate 65 false) 0
 ordering_start t n p e =
     record { records = unit_records (unit t); orders = []; here = at_start t p; rest = orders_start t n e; marked = marked_none; sized = refl }
 
-pub ordering_end : {t : List ℕ} {n : ℕ} {used : List ℕ} {at : ℕ} → Ordering t n used at → length t ≤ at → none ≡ fault_5 (unit t).parts
+pub ordering_end : {t : List ℕ} {n : ℕ} {used : List Bool} {at : ℕ} → Ordering t n used at → length t ≤ at → none ≡ fault_5 (unit t).parts
 ordering_end {t} {n} {used} {at} o l = sym (o.rest ∙ orders_end t at o.records n o.orders o.here l)
 
 -- one record further
-module _ {t : List ℕ} {n : ℕ} {used : List ℕ} {at : ℕ} (o : Ordering t n used at) (g : Glance) (v : Walked t at o.records g) where
+module _ {t : List ℕ} {n : ℕ} {used : List Bool} {at : ℕ} (o : Ordering t n used at) (g : Glance) (v : Walked t at o.records g) where
   pub ordering_skips : order_by g ≡ None → Ordering t n used (at + g.width)
   ordering_skips e =
       record {
@@ -161,7 +161,7 @@ module _ {t : List ℕ} {n : ℕ} {used : List ℕ} {at : ℕ} (o : Ordering t n
   -- a target's order q: the code's test of it, and what follows of it
   module _ (few : n ≤ most_parts) (q : ℕ) (e : order_by g ≡ Some q) where
     abbrev is_bad : Bool
-    is_bad = eqb q 0 || (ltb n q || eqb (get_or used q 0) 1)
+    is_bad = eqb q 0 || (ltb n q || get_or used q false)
 
     judged : (b : Bool) → is_bad ≡ b → fault_5 (unit t).parts ≡ cond b (refusal 5 at) (first_bad_in n (q ∷ o.orders) (orders_found (at + g.width) v.step.others))
     judged b h =
@@ -177,7 +177,7 @@ module _ {t : List ℕ} {n : ℕ} {used : List ℕ} {at : ℕ} (o : Ordering t n
       pub order_within : q < 65
       order_within = omega (arith, ltb-false n q (or_left (ltb n q) _ (or_right (eqb q 0) _ h)))
 
-      pub ordering_uses : Ordering t n (set used q 1) (at + g.width)
+      pub ordering_uses : Ordering t n (set used q true) (at + g.width)
       ordering_uses =
           record {
             records = v.step.others;
@@ -185,5 +185,5 @@ module _ {t : List ℕ} {n : ℕ} {used : List ℕ} {at : ℕ} (o : Ordering t n
             here = v.rest;
             rest = judged false h;
             marked = marked_more used o.orders q o.marked (omega (arith, order_within, o.sized));
-            sized = length-set used q 1 ∙ o.sized;
+            sized = length-set used q true ∙ o.sized;
           }

@@ -1,13 +1,16 @@
 // The number of parts, and rule 5.
 #![tactic(auto)]
 
-ghost use Rattle.std.specs.Prelude.{◌≡◌, true, ◌||◌, ◌+◌, ◌-◌, ◌<◌, ◌≤◌, length, get_or, eqb, ltb};
+ghost use Rattle.std.specs.Prelude.{◌≡◌, true, false, ◌||◌, ◌+◌, ◌-◌, ◌<◌, ◌≤◌, length, get_or, eqb, ltb};
 ghost use Rattle.answers.specs.Answers.{refusal_at};
 ghost use Rattle.xliff.specs.Parse.{unit, most_parts};
 ghost use Rattle.xliff.specs.Rules.{fault_5};
 ghost use Rattle.places.specs.Passes.{Passes};
 
-// The number of parts. Here and below the lent table is read record by record through the walker.
+// The orders that a target may be given, from 0 to the most parts of a table.
+const ORDERS: usize = limits::MOST_PARTS + 1;
+
+// The number of parts.
 pub fn count_parts(t: &[u8]) -> usize
     requires { Passes t.now }
     ensures { result ≡ length (unit t.now).parts }
@@ -23,14 +26,15 @@ pub fn count_parts(t: &[u8]) -> usize
     n
 }
 
-fn bad_order(n: usize, used: &[u8; 65], k: usize) -> bool
+// Whether a target of a table with `n` parts may not have the order `k`: it is 0, above `n`, or used before.
+fn bad_order(n: usize, used: &[bool; ORDERS], k: usize) -> bool
     requires { n ≤ most_parts }
-    ensures { result ≡ (eqb k 0 || (ltb n k || eqb (get_or used.now k 0) 1)) }
+    ensures { result ≡ (eqb k 0 || (ltb n k || get_or used.now k false)) }
 {
     if n < k {
         return true;
     }
-    (k == 0) | (used[k] == 1)
+    (k == 0) | used[k]
 }
 
 // Rule 5 of a table with `n` parts.
@@ -38,7 +42,7 @@ pub fn rule_5(t: &[u8], n: usize) -> Option<usize>
     requires { Passes t.now × (n ≡ length (unit t.now).parts) }
     ensures { refusal_at 5 result ≡ fault_5 (unit t.now).parts }
 {
-    let mut used = [0u8; 65];
+    let mut used = [false; ORDERS];
     let mut at = 0;
     // The lent table is read record by record through the walker.
     while at < t.len() {
@@ -50,7 +54,7 @@ pub fn rule_5(t: &[u8], n: usize) -> Option<usize>
                 if bad_order(n, &used, k) {
                     return Some(at);
                 }
-                used[k] = 1;
+                used[k] = true;
                 at += w;
             }
             None => {

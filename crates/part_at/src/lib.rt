@@ -16,10 +16,7 @@ use table::{Read, Record};
 fn in_content(x: Record) -> bool
     ensures { result ≡ is_in_content x }
 {
-    match x {
-        Record::Text | Record::Inline(_) => true,
-        _ => false,
-    }
+    matches!(x, Record::Text | Record::Inline(_))
 }
 
 fn is_content(r: Read) -> bool

@@ -109,6 +109,6 @@ pub fn put_rewritten(out: &mut [u8], t: &[u8], side: u8, id: u16, form: u8) -> u
         × (out.new ≡ lead (encode (rewrite_unit (unit t.now) side id (form_of form))) out.old) }
 {
     let n = writer::put(out, t);
-    put_forms(out, t, side == b'S', id as u32, form == b'P');
+    put_forms(out, t, side == b'S', u32::from(id), form == b'P');
     n
 }

@@ -44,7 +44,7 @@ pub fn sources(t: &[u8], out: &mut [u16]) -> usize
     let mut at: usize = 0;
     let mut inside = false;
     let mut m: usize = 0;
-    // the lent table is read record by record through the walker
+    // The lent table is read record by record through the walker.
     while at < t.len() {
         let g = walker::glance_at(t, at);
         m = put_if(inside & g.marker, out, m, at as u16);
@@ -61,7 +61,7 @@ fn target_heads(t: &[u8], heads: &mut [u16]) -> usize
 {
     let mut at: usize = 0;
     let mut m: usize = 0;
-    // the lent table is read record by record through the walker
+    // The lent table is read record by record through the walker.
     while at < t.len() {
         let g = walker::glance_at(t, at);
         m = put_if(g.head.is_target(), heads, m, at as u16);
@@ -84,7 +84,7 @@ fn target_markers(t: &[u8], heads: &[u16], i: usize, q: u16, out: &mut [u16], n:
     }
     let mut at = head + first.width;
     let mut m = n;
-    // the lent table is read record by record through the walker
+    // The lent table is read record by record through the walker.
     while at < t.len() {
         let g = walker::glance_at(t, at);
         if !g.head.is_other() {

@@ -18,9 +18,7 @@ fn has_more(c: &[u8], k: usize) -> bool
     requires { Some c.now }
     ensures { MoreIs c.now k result }
 {
-    let p = walk::place_of(c, k);
-    let at = p.at;
-    at < c.len()
+    walk::place_of(c, k).at < c.len()
 }
 
 // Whether a content has at least `k` items.
@@ -28,8 +26,7 @@ fn has_enough(c: &[u8], k: usize) -> bool
     requires { Some c.now }
     ensures { EnoughIs c.now k result }
 {
-    let p = walk::place_of(c, k);
-    p.left == 0
+    walk::place_of(c, k).left == 0
 }
 
 // 13: whether the source is not cut between two items, or the target, if there is one, beyond its end.

@@ -67,7 +67,6 @@ pub fn has_other(c: &[u8], kind: HalfKind, id: u16) -> bool
     requires { Fair c.now }
     ensures { FoundOther c.now (Some kind) id result }
 {
-    // The lent table is read record by record through the walker.
     let mut at: usize = 0;
     // The content is read record by record through the walker.
     while at < c.len() {

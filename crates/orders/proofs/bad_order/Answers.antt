@@ -6,6 +6,6 @@ use Rattle.orders.proofs.bad_order.Goals as goal
 pub returns-then-n-k : goal.returns-then-n-k
 returns-then-n-k c = simp (lt-ltb _ _ c.if-n-k.true, or-true)
 
--- (k == 0) | (used[k] == 1)
+-- (k == 0) | used[k]
 pub returns : goal.returns
 returns c = simp (le-ltb _ _ c.if-n-k.false)

@@ -26,7 +26,7 @@ returns-then-bad_order c =
     ordering_refuses loop.invariant glance_at.result v (omega (arith, few_parts t c.requires.0, c.requires.1))
     c.in-Some.q (sym c.order.ensures ∙ c.in-Some.is) (rw c.from-k.ensures at (sym c.bad_order.ensures ∙ c.if-bad_order.true))
 
--- used[k] = 1
+-- used[k] = true
 pub bounds-used-k : goal.bounds-used-k
 bounds-used-k c =
     let t = c.args.t.now in

@@ -5,7 +5,7 @@ use Rattle.rewrite_marks.proofs.LengthLaws.{length_kept}
 use Rattle.rewrite_marks.proofs.ResultLaws.{copied, result_wrote}
 use Rattle.rewrite_marks.proofs.put_rewritten.Goals as goal
 
--- put_forms(out, t, side == b'S', id as u32, form == b'P')
+-- put_forms(out, t, side == b'S', u32::from(id), form == b'P')
 pub put_forms-requires : goal.put_forms-requires
 put_forms-requires c =
     let pre = c.requires in
@@ -28,5 +28,5 @@ returns c =
     let put-forms = c.put_forms in (
       put.ensures.0 ∙ sym (length_kept id (form_of form) t side pre.0),
       result_wrote t side id form pre.0 args.out.now put.new.out put-forms.new.out put.ensures.1
-          put-forms.ensures,
+          (rw c.from.ensures at put-forms.ensures),
     )
