@@ -6,6 +6,7 @@ use mathlib.Core.Bool.{Bool, true, false, not, ◌&&◌, cond, false≢true}
 use mathlib.Core.List.{List}
 use lib.ListN.{length, drop}
 use lib.Dec.{eqb}
+use mir.Val.{bool_byte}
 use Rattle.xliff.specs.Bytes.{'S'}
 use Rattle.xliff.specs.Item.{Item}
 use Rattle.xliff.specs.Encode.{Record, unit_records}
@@ -37,6 +38,15 @@ half_is inside i x v e = ap (λ (w : View). inside && (not (eqb w.half 0) && eqb
 counted : (b : Bool) (n : ℕ) → cond b (suc n) n ≡ cond b 1 0 + n
 counted true n = omega arith
 counted false n = omega arith
+
+-- n += usize::from(head)
+pub count_on : (b : Bool) (n : ℕ) → n + bool_byte b ≡ cond b (suc n) n
+count_on true n = omega arith
+count_on false n = omega arith
+
+pub at_most_one : (b : Bool) → bool_byte b ≤ 1
+at_most_one true = omega arith
+at_most_one false = omega arith
 
 -- a half outside the grant is not right
 outside_wrong : (a w : Bool) → a && not w ≡ true → right a w ≡ false

@@ -1,8 +1,8 @@
 // Whether the halves of an id stand in granted parts.
 #![tactic(auto)]
 
-ghost use Rattle.std.specs.Prelude.{◌≡◌, not, ◌&&◌, cond, suc, ◌≤◌};
-ghost use Rattle.xliff.specs.Parse.{unit, most_parts};
+ghost use Rattle.std.specs.Prelude.{◌≡◌, not, ◌&&◌};
+ghost use Rattle.xliff.specs.Parse.{unit};
 ghost use Rattle.xliff.specs.Rules.{half_of_id};
 ghost use Rattle.places.specs.Passes.{Passes};
 ghost use Rattle.places.specs.Markers.{item_at};
@@ -10,14 +10,6 @@ ghost use Rattle.grants.specs.Grant.{within, halves_within};
 ghost use Rattle.granted_parts.specs.Roles.{grant_of};
 
 use granted_parts::Grant;
-
-// The position of the part behind a record, which may be the head of a part.
-fn number_after(head: bool, n: usize) -> usize
-    requires { n ≤ most_parts }
-    ensures { result ≡ cond head (suc n) n }
-{
-    if head { n + 1 } else { n }
-}
 
 // Whether the item at an offset is a half of the id, in a content of the side, and its part `n` is outside the grant.
 // The half of a view is the specification's number (crate views): 0 for none.
@@ -48,7 +40,7 @@ pub fn halves_within(t: &[u8], grant: Grant, side: u8, id: u16) -> bool
         if stands_outside(t, at, grant, n, inside, id) {
             return false;
         }
-        n = number_after(g.head.is_part(), n);
+        n += usize::from(g.head.is_part());
         inside = rewrite_marks::inside_of(source, inside, g.head);
         at += g.width;
     }

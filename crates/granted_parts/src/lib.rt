@@ -16,7 +16,8 @@ pub enum Role {
     Other,
 }
 
-// The role of a letter, T, R or E. As a match its last arm has no name for "none of these", so tests.
+// The role of a letter, T, R or E. By tests and not by a match: a match on a number gives no fact for its last arm that
+// the proof could name.
 pub fn role_of(letter: u8) -> Role
     ensures { role_meaning result ≡ role_of letter }
 {

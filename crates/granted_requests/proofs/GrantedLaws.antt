@@ -5,7 +5,7 @@ use mathlib.Core.Bool.{Bool, true, false, ◌&&◌, ◌||◌}
 use mathlib.Core.List.{List, [], ◌∷◌}
 use mathlib.Core.Option.{Option, none, some}
 use lib.Dec.{eqb}
-use Rattle.std.specs.Prelude.{Option as RustOption, is_some, is_none}
+use Rattle.std.specs.Prelude.{Option as RustOption, is_some}
 use Rattle.xliff.specs.Bytes.{'S', 'T', among}
 use Rattle.xliff.specs.Unit.{Part}
 use Rattle.xliff.specs.Rewrite.{Whole, side_sequence, find_whole}

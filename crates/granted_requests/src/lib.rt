@@ -15,12 +15,7 @@ use requests::Request;
 fn is_engineer(role: Role) -> bool
     ensures { result ≡ is_engineer (role_meaning role) }
 {
-    match role {
-        Role::Translator => false,
-        Role::Reviewer => false,
-        Role::Engineer => true,
-        Role::Other => false,
-    }
+    role == Role::Engineer
 }
 
 // Whether the side has a complete pair or annotation of the id, both halves in granted parts.
@@ -47,10 +42,9 @@ fn rewrite_granted(grant: Grant, table: &[u8], side: u8, id: u16) -> bool
         (unit table.now).parts side id) }
 {
     match grant.role {
-        Role::Translator => false,
+        Role::Translator | Role::Other => false,
         Role::Reviewer => whole_granted(grant, table, side, id),
         Role::Engineer => true,
-        Role::Other => false,
     }
 }
 
@@ -60,10 +54,10 @@ pub fn granted(grant: Grant, table: &[u8], r: Request) -> bool
     ensures { GrantedIs (grant_of grant.entry.role grant.entry.positions.now) table.now r result }
 {
     match r {
-        Request::Split { .. } => is_engineer(grant.role),
-        Request::Join { .. } => is_engineer(grant.role),
-        Request::SetTarget { part, .. } => grant.has_part(usize::from(part)),
-        Request::RemoveTarget { part } => grant.has_part(usize::from(part)),
+        Request::Split { .. } | Request::Join { .. } => is_engineer(grant.role),
+        Request::SetTarget { part, .. } | Request::RemoveTarget { part } => {
+            grant.has_part(usize::from(part))
+        }
         Request::Rewrite { side, id, .. } => rewrite_granted(grant, table, side, id),
     }
 }

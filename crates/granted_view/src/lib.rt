@@ -98,8 +98,9 @@ fn view_passed(role: Role, positions: &[u8], table: &[u8], out: &mut [u8]) -> An
 pub fn view(role: Role, positions: &[u8], table: &[u8], out: &mut [u8]) -> Answer
     ensures { Answers (view table.now (grant_of role positions.now) (length out.old)) result out.old out.new }
 {
-    match table_check::check(table) {
-        Answer::Accepted(_) => view_passed(role, positions, table, out),
-        Answer::Refused(k, at) => Answer::Refused(k, at),
-    }
+    let checked = table_check::check(table);
+    let Answer::Accepted(_) = checked else {
+        return checked;
+    };
+    view_passed(role, positions, table, out)
 }

@@ -22,10 +22,11 @@ fn judged(builder: &TableBuilder, out: &mut [u8]) -> Answer
     if out.len() < table.len() {
         return Answer::Refused(15, 0);
     }
-    match check(table) {
-        Answer::Accepted(_) => Answer::Accepted(writer::put(out, table)),
-        Answer::Refused(n, at) => Answer::Refused(n, at),
-    }
+    let checked = check(table);
+    let Answer::Accepted(_) = checked else {
+        return checked;
+    };
+    Answer::Accepted(writer::put(out, table))
 }
 
 // The unit that the text holds, as a table: 22 with its place, then 15, then the check of the table read. Accepted: the

@@ -8,7 +8,8 @@ ghost use Rattle.xliff.specs.Calls.{SP, JN, ST, RT, RW};
 ghost use Rattle.xliff.specs.Desk.{lent, asked, request};
 ghost use Rattle.requests.specs.Requests.{request_size, Asks};
 
-// The bytes of a request by its mark; those of set target without its content, which stands behind them.
+// The bytes of a request by its mark. Set target has no size of its own: it ends with its content, which begins at
+// CONTENT_AT.
 const SPLIT_SIZE: usize = 10;
 
 const JOIN_SIZE: usize = 4;

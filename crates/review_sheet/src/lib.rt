@@ -31,8 +31,9 @@ fn sheet_passed(table: &[u8], out: &mut [u8]) -> Answer
 pub fn sheet(table: &[u8], out: &mut [u8]) -> Answer
     ensures { Answers (sheet table.now (length out.old)) result out.old out.new }
 {
-    match table_check::check(table) {
-        Answer::Accepted(_) => sheet_passed(table, out),
-        Answer::Refused(k, at) => Answer::Refused(k, at),
-    }
+    let checked = table_check::check(table);
+    let Answer::Accepted(_) = checked else {
+        return checked;
+    };
+    sheet_passed(table, out)
 }

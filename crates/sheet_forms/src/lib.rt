@@ -96,6 +96,7 @@ pub fn put_text(draft: &mut Draft, text: &[u8])
 pub fn put_blanks(draft: &mut Draft, n: usize)
     ensures { Wrote (replicate n blank) draft.old draft.new }
 {
+    // `i` and not `_`: the proof's invariant tells by `i` how many blanks there are.
     for i in 0..n {
         draft.put(b" ");
     }

@@ -33,8 +33,9 @@ fn write_passed(table: &[u8], out: &mut [u8]) -> Answer
 pub fn write_xml(table: &[u8], out: &mut [u8]) -> Answer
     ensures { Answers (write_xml table.now (length out.old)) result out.old out.new }
 {
-    match table_check::check(table) {
-        Answer::Accepted(_) => write_passed(table, out),
-        Answer::Refused(k, at) => Answer::Refused(k, at),
-    }
+    let checked = table_check::check(table);
+    let Answer::Accepted(_) = checked else {
+        return checked;
+    };
+    write_passed(table, out)
 }

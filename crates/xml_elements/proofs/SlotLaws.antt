@@ -13,7 +13,7 @@ use Rattle.std.specs.Result.{result_ok}
 use Rattle.xml.specs.Tokens.{Attribute}
 use Rattle.xml.specs.Attributes.{with, value_of, number, required, optional, hexadecimal, yes_no, yes_first_no, states, letter_of, choice}
 use Rattle.xml_slots.specs.Slots.{value_read, bad, absent, or_bad, good, in_slot, slot, slots_of}
-use Rattle.xml_slots.proofs.ValueLaws.{Within, nothing, value, number_within, states_within, yes_first_no_within, yes_no_within, value_within, slot_absent}
+use Rattle.xml_slots.proofs.ValueLaws.{Within, nothing, value, states_within, yes_first_no_within, yes_no_within, value_within, slot_absent}
 use Rattle.xml_elements.specs.Reading.{name_of, words_of, value_meaning}
 
 -- the letters of the table

@@ -25,7 +25,7 @@ pub fn unit_opening(slots: &[u32], count: usize) -> Option<u8>
     if !has_only(slots, count, &[ID, CAN_RESEGMENT]) {
         return None;
     }
-    let _id = required_number(slots, ID)?;
+    required_number(slots, ID)?;
     letter(slots, CAN_RESEGMENT, b'Y')
 }
 

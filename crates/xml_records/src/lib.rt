@@ -33,7 +33,7 @@ pub fn put_opening(builder: &mut TableBuilder, can_resegment: u8)
 {
     let mut bytes = [0u8; 3];
     let letter_at = writer::put_mark(&mut bytes, 0, b"UN");
-    let end = writer::put_byte(&mut bytes, letter_at, can_resegment);
+    writer::put_byte(&mut bytes, letter_at, can_resegment);
     builder.put_record(&bytes, false);
 }
 
@@ -49,7 +49,7 @@ pub fn put_segment(builder: &mut TableBuilder, f: Segment)
     ensures { Collects (part_head (segment (segment_meaning f)) ∷ []) builder.old builder.new }
 {
     let mut head = [0u8; 6];
-    let wide = heads::put_segment(&mut head, f);
+    heads::put_segment(&mut head, f);
     builder.put_record(&head, true);
 }
 
@@ -60,7 +60,7 @@ pub fn put_ignorable(builder: &mut TableBuilder, id: u16)
 {
     let mut bytes = [0u8; 4];
     let id_at = writer::put_mark(&mut bytes, 0, b"IG");
-    let end = writer::put_number(&mut bytes, id_at, id);
+    writer::put_number(&mut bytes, id_at, id);
     builder.put_record(&bytes, true);
 }
 
@@ -69,6 +69,6 @@ pub fn put_target_head(builder: &mut TableBuilder, order: u16)
     ensures { Collects (target_head order ∷ []) builder.old builder.new }
 {
     let mut bytes = [0u8; 4];
-    let wide = heads::put_target_head(&mut bytes, order);
+    heads::put_target_head(&mut bytes, order);
     builder.put_record(&bytes, false);
 }

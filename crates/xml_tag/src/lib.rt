@@ -10,7 +10,7 @@ use xml_front::{Flaw, begins, front_character};
 use xml_names::{Span, name_end, name_starts};
 use xml_values::blanks_end;
 
-// A start tag: where its name stands, its attributes begin behind that. An end tag: the same, and the place behind it.
+// A start tag: where its name stands, its attributes begin behind that. An end tag: its name, and the place behind it.
 // A comment: the place behind it. The text ends in the tag. A place at fault. (No Result: no step here passes on a fault
 // of another by `?`, and the one caller goes through all five cases.)
 #[derive(Clone, Copy)]

@@ -2,7 +2,7 @@ use mathlib.Core.Path.{sym, ◌∙◌}
 use native.Mathlib.Omega.{arith}
 use Rattle.orders.proofs.WalkLaws.{walked}
 use Rattle.granted_parts.specs.Roles.{grant_of}
-use Rattle.granted_halves.proofs.WalkLaws.{going_start, going_few, going_end, going_found, going_on}
+use Rattle.granted_halves.proofs.WalkLaws.{going_start, going_few, going_end, going_found, going_on, count_on, at_most_one}
 use Rattle.granted_halves.proofs.halves_within.Goals as goal
 
 -- let mut at: usize = 0;
@@ -11,13 +11,18 @@ loop-at-init c =
     let args = c.args in
     going_start args.t.now (grant_of args.grant.role args.grant.positions.now) args.side args.id c.requires
 
--- n = number_after(g.head.is_part(), n);
-pub number_after-n-requires : goal.number_after-n-requires
-number_after-n-requires c =
+-- n += usize::from(g.head.is_part());
+pub overflow_add-n : goal.overflow_add-n
+overflow_add-n c =
     let loop = c.loop-at in
     let args = c.args in
     let grant = grant_of args.grant.role args.grant.positions.now in
-    going_few args.t.now grant args.side args.id loop.at loop.n loop.inside loop.invariant c.requires
+    omega (
+      arith,
+      going_few args.t.now grant args.side args.id loop.at loop.n loop.inside loop.invariant c.requires,
+      c.from-n.ensures,
+      at_most_one c.is_part.result,
+    )
 
 -- at += g.width;
 pub overflow_add-at : goal.overflow_add-at
@@ -67,6 +72,6 @@ loop-at-preserved c =
     let args = c.args in
     let grant = grant_of args.grant.role args.grant.positions.now in
     let none = sym c.stands_outside.ensures ∙ c.if-stands_outside.false in
-    rw (c.number_after-n.ensures, c.is_part.ensures, c.inside_of-inside.ensures)
+    rw (c.from-n.ensures, count_on c.is_part.result loop.n, c.is_part.ensures, c.inside_of-inside.ensures)
     (going_on args.t.now grant args.side args.id loop.at loop.n loop.inside loop.invariant
     c.glance_at-g.result seen none)

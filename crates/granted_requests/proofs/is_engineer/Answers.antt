@@ -1,23 +1,19 @@
+use mathlib.Core.Path.{◌≡◌, refl, ◌∙◌}
+use denote.Enum.Bare.{sameb}
 use Rattle.grants.specs.Grant.{is_engineer}
-use borrow.Author.Rules.{rules}
+use Rattle.granted_parts.specs.contracts.Role.{the_type}
+use Rattle.granted_parts.specs.declared.Role.{Role}
+use Rattle.granted_parts.specs.declared.Role.TheVariants.{Translator, Reviewer, Engineer, Other}
+use Rattle.granted_parts.specs.Roles.{role_meaning}
 use Rattle.granted_requests.proofs.is_engineer.Goals as goal
 
--- Role::Translator => false
-pub returns-in-Translator : goal.returns-in-Translator
+same_engineer : (r : Role) → sameb the_type r Engineer ≡ is_engineer (role_meaning r)
 unfolding is_engineer
-returns-in-Translator c = search rules
+same_engineer Translator = refl
+same_engineer Reviewer = refl
+same_engineer Engineer = refl
+same_engineer Other = refl
 
--- Role::Reviewer => false
-pub returns-in-Reviewer : goal.returns-in-Reviewer
-unfolding is_engineer
-returns-in-Reviewer c = search rules
-
--- Role::Engineer => true
-pub returns-in-Engineer : goal.returns-in-Engineer
-unfolding is_engineer
-returns-in-Engineer c = search rules
-
--- Role::Other => false
-pub returns-in-Other : goal.returns-in-Other
-unfolding is_engineer
-returns-in-Other c = search rules
+-- role == Role::Engineer
+pub returns : goal.returns
+returns c = c.eq.ensures ∙ same_engineer c.args.role

@@ -1,13 +1,15 @@
-use mathlib.Core.Path.{sym, ◌∙◌}
+use mathlib.Core.Path.{refl, sym, ◌∙◌}
+use mathlib.Core.Logic.{inl, inr}
 use Rattle.grants.specs.Grant.{rewrite_granted}
 use Rattle.granted_requests.proofs.GrantedLaws.{reviewer_granted}
 use borrow.Author.Rules.{rules}
 use Rattle.granted_requests.proofs.rewrite_granted.Goals as goal
 
--- Role::Translator => false
+-- Role::Translator | Role::Other => false
 pub returns-in-Translator : goal.returns-in-Translator
 unfolding rewrite_granted
-returns-in-Translator c = search rules
+returns-in-Translator c =
+    elim c.in-Translator.is [ inl e ↦ rw e refl | inr e ↦ rw e refl ]
 
 -- Role::Reviewer => whole_granted(grant, table, side, id)
 pub returns-in-Reviewer : goal.returns-in-Reviewer
@@ -19,8 +21,3 @@ returns-in-Reviewer c =
 pub returns-in-Engineer : goal.returns-in-Engineer
 unfolding rewrite_granted
 returns-in-Engineer c = search rules
-
--- Role::Other => false
-pub returns-in-Other : goal.returns-in-Other
-unfolding rewrite_granted
-returns-in-Other c = search rules

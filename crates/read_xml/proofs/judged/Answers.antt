@@ -16,22 +16,23 @@ returns-then-out-table c =
     let (free, told) = c.in-Some.ensures in
     λ u k. refused_room u c.args.builder.now k c.args.out.now free c.in-Some.table.now told c.if-out-table.true
 
--- Answer::Accepted(writer::put(out, table))
-pub returns-in-Accepted : goal.returns-in-Accepted
+-- return checked
+pub returns-in_default-checked : goal.returns-in_default-checked
 unfolding Judges
-returns-in-Accepted c =
+returns-in_default-checked c =
+    let (free, told) = c.in-Some.ensures in
+    let refused = sym (ap answer_meaning c.in_default-checked.is) ∙ c.check-checked.ensures in
+    λ u k.
+    rw c.in_default-checked.is
+    (refused_table u c.args.builder.now k c.args.out.now free c.in-Some.table.now told c.if-out-table.false _ _ refused)
+
+-- Answer::Accepted(writer::put(out, table))
+pub returns : goal.returns
+unfolding Judges
+returns c =
     let put = c.put in
     let (free, told) = c.in-Some.ensures in
-    let accepted = sym (ap answer_meaning c.in-Accepted.is) ∙ c.check.ensures in
+    let accepted = sym (ap answer_meaning c.in-Accepted.is) ∙ c.check-checked.ensures in
     λ u k.
     accepted_table u c.args.builder.now k c.args.out.now free c.in-Some.table.now told c.if-out-table.false _ put.result
     put.new.out accepted put.ensures.0 put.ensures.1
-
--- Answer::Refused(n, at) => Answer::Refused(n, at)
-pub returns-in-Refused : goal.returns-in-Refused
-unfolding Judges
-returns-in-Refused c =
-    let (free, told) = c.in-Some.ensures in
-    let refused = sym (ap answer_meaning c.in-Refused.is) ∙ c.check.ensures in
-    λ u k. refused_table u c.args.builder.now k c.args.out.now free c.in-Some.table.now told c.if-out-table.false _ _
-    refused

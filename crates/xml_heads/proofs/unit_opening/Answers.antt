@@ -19,15 +19,15 @@ unfolding ByAttributes unit_opening
 returns-then-not-has_only c = λ ats s. rw (← c.has_only.ensures ats s, not-true _ c.if-not-has_only.true-raw) refl
 
 -- no id: None
-pub returns-in_err-_id : goal.returns-in_err-_id
+pub returns-in_err-required_number : goal.returns-in_err-required_number
 unfolding ByAttributes BySlots words_of with unit_opening
-returns-in_err-_id c =
+returns-in_err-required_number c =
     λ ats s.
     rw (
       c.from_residual.ensures,
       ← c.has_only.ensures ats s,
       not-false _ c.if-not-has_only.false-raw,
-      ← c.in_err-_id.ensures ats s.told,
+      ← c.in_err-required_number.ensures ats s.told,
     ) refl
 
 -- letter(slots, CAN_RESEGMENT, b'Y')
@@ -38,6 +38,6 @@ returns c =
     rw (
       ← c.has_only.ensures ats s,
       not-false _ c.if-not-has_only.false-raw,
-      ← c.in_ok-_id.ensures ats s.told,
+      ← c.in_ok-required_number.ensures ats s.told,
       ← c.letter.ensures ats s.told,
     ) (opening_is c.letter.result)

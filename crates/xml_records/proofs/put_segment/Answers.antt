@@ -11,8 +11,8 @@ use lib.ListN.{replicate}
 use Rattle.xml_records.proofs.put_segment.Goals as goal
 
 -- heads::put_segment(&mut bytes, f): the array is as long as a segment's head
-pub put_segment-wide-requires : goal.put_segment-wide-requires
-put_segment-wide-requires c = omega (arith, segment_long (segment_meaning c.args.f))
+pub put_segment-requires : goal.put_segment-requires
+put_segment-requires c = omega (arith, segment_long (segment_meaning c.args.f))
 
 -- builder.put_record(&bytes, true)
 pub returns : goal.returns
@@ -20,6 +20,6 @@ unfolding record_bytes is_part
 returns c =
     let f = segment_meaning c.args.f in
     let bytes = head_bytes (segment f) in
-    let head = c.put_segment-wide.ensures in
+    let head = c.put_segment.ensures in
     let wrote = array_is bytes (replicate 6 0) head (omega (arith, segment_long f)) in
     collects_record c.put_record.ensures.put (whole_head (segment f)) wrote refl

@@ -9,8 +9,8 @@ use lib.ListN.{replicate}
 use Rattle.xml_records.proofs.put_target_head.Goals as goal
 
 -- heads::put_target_head(&mut bytes, order): the array is as long as a target's head
-pub put_target_head-wide-requires : goal.put_target_head-wide-requires
-put_target_head-wide-requires c = omega (arith, target_long c.args.order)
+pub put_target_head-requires : goal.put_target_head-requires
+put_target_head-requires c = omega (arith, target_long c.args.order)
 
 -- builder.put_record(&bytes, false)
 pub returns : goal.returns
@@ -18,6 +18,6 @@ unfolding is_part
 returns c =
     let order = c.args.order in
     let bytes = record_bytes (target_head order) in
-    let head = c.put_target_head-wide.ensures in
+    let head = c.put_target_head.ensures in
     let wrote = array_is bytes (replicate 4 0) head (omega (arith, target_long order)) in
     collects_record c.put_record.ensures.put (whole_target order) wrote refl
