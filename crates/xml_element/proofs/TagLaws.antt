@@ -6,7 +6,9 @@ use lib.ListN.{length}
 use Rattle.std.specs.Prelude.{Ok, Err}
 use Rattle.xml.specs.Tokens.{start_tag, cut_tag}
 use Rattle.xml.specs.Elements.{elements}
+use Rattle.xml_front.specs.declared.Flaw.{Flaw}
 use Rattle.xml_front.specs.declared.Flaw.TheVariants.{Cut, Wrong}
+use Rattle.xml_front.specs.Fronts.{place_blamed}
 use Rattle.xml_attributes.specs.declared.Tagged.{Tagged}
 use Rattle.xml_attributes.specs.Tags.{WholeTag, TagRead}
 use Rattle.xml_piece.specs.Pieces.{tag_at}
@@ -17,13 +19,11 @@ use Rattle.xml_element.specs.Opens.{after_tag, TagFaulty, AttributesRead, TagBla
 
 module _ (text : List ℕ) (tag : StartTag) where
   -- (what the slots hold does not matter)
-  pub cut_faulty : TagRead text tag.name.upto [] (Err Cut) → TagFaulty text tag (length text)
+  pub tag_flawed : (f : Flaw) → TagRead text tag.name.upto [] (Err f)
+      → TagFaulty text tag (place_blamed f tag.place (length text))
   unfolding TagFaulty
-  cut_faulty k name w cut = ap (elements w) (k tag.place name) ∙ turns_bad w (cut_tag tag.place (length text)) [] (length text) cut
-
-  pub wrong_faulty : TagRead text tag.name.upto [] (Err Wrong) → TagFaulty text tag tag.place
-  unfolding TagFaulty
-  wrong_faulty k name w cut = k tag.place name w
+  tag_flawed Cut k name w cut = ap (elements w) (k tag.place name) ∙ turns_bad w (cut_tag tag.place (length text)) [] (length text) cut
+  tag_flawed Wrong k name w cut = k tag.place name w
 
   -- blamed where no start tag may stand
   pub whole_blamed : (slots : List ℕ) (t : Tagged) → AttributesRead text tag slots (Ok t) → TagBlamed text tag tag.place

@@ -12,7 +12,6 @@ use table::Item;
 use table_builder::TableBuilder;
 use xml_attributes::{Tagged, read_attributes};
 use xml_elements::{Inline, inline_element};
-use xml_front::Flaw;
 use xml_names::Span;
 use xml_piece::{Piece, piece_at};
 use xml_records::put_item;
@@ -72,8 +71,9 @@ pub fn attributes_at(text: &[u8], tag: StartTag, slots: &mut [u32]) -> Result<Ta
 {
     match read_attributes(text, tag.name.upto, slots) {
         Ok(tagged) => Ok(tagged),
-        Err(Flaw::Cut) => Err(Blamed { place: text.len() }),
-        Err(Flaw::Wrong) => Err(Blamed { place: tag.place }),
+        Err(flaw) => Err(Blamed {
+            place: flaw.place(tag.place, text.len()),
+        }),
     }
 }
 

@@ -11,6 +11,11 @@ told (Ok f) = found f.point f.more
 told (Err Cut) = cut
 told (Err Wrong) = wrong
 
+-- what is blamed: where a text ends that cuts what begins at a place, or that place
+abbrev pub place_blamed : Flaw → ℕ → ℕ → ℕ
+place_blamed Cut at end = end
+place_blamed Wrong at end = at
+
 -- a number that the program tells, or none
 abbrev pub number_told : RustOption ℕ → Option ℕ
 number_told (Some x) = some x

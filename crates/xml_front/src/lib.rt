@@ -4,7 +4,7 @@
 ghost use Rattle.std.specs.Prelude.{◌≡◌, [], ◌∷◌, ◌++◌, ◌≤◌, length, get_or};
 ghost use Rattle.xliff.specs.Text.{spelled};
 ghost use Rattle.xml.specs.Characters.{begins, part_of, cut_character, front_character};
-ghost use Rattle.xml_front.specs.Fronts.{told};
+ghost use Rattle.xml_front.specs.Fronts.{told, place_blamed};
 
 use text::{char_of, xml_char};
 
@@ -20,6 +20,18 @@ pub struct Front {
 pub enum Flaw {
     Cut,
     Wrong,
+}
+
+impl Flaw {
+    // The place blamed for it: the text's end where that cuts what begins at a place, else that place.
+    pub fn place(self, at: usize, end: usize) -> usize
+        ensures { result ≡ place_blamed self at end }
+    {
+        match self {
+            Flaw::Cut => end,
+            Flaw::Wrong => at,
+        }
+    }
 }
 
 // Whether a text begins with a word.

@@ -11,6 +11,10 @@ use Rattle.xml.specs.Characters.{'<', '&', ']', line_feed, carriage_return, begi
 use Rattle.xml.specs.Tokens.{Token, char, reference, text_fault, outside_tags, Move, give, stop, with_front, outside_step, step, at_end}
 use Rattle.xml.proofs.PlaceLaws.{at_give, at_stop, text_ends}
 use Rattle.xml.proofs.FitLaws.{begins_fits, character_within}
+use Rattle.std.specs.Prelude.{Err}
+use Rattle.xml_front.specs.declared.Flaw.{Flaw}
+use Rattle.xml_front.specs.declared.Flaw.TheVariants.{Cut, Wrong}
+use Rattle.xml_front.specs.Fronts.{told, place_blamed}
 use Rattle.xml_tag.specs.Markups.{Marked}
 use Rattle.xml_tag.specs.declared.Markup.{Markup}
 use Rattle.xml_tag.specs.declared.Markup.TheVariants.{Start, Close, Comment, Short, Fault}
@@ -132,11 +136,10 @@ module _ (s : List ℕ) (at : ℕ) (h : at < length s) where
           (reference_within s (at + 1) c w (omega arith) e),
     )
 
-    pub reference_cut : front_reference (drop (at + 1) s) ≡ cut → PieceRead s at (TextFault (length s))
-    reference_cut e = front_cut reference (front_reference (drop (at + 1) s)) is_front e
-
-    pub reference_wrong : front_reference (drop (at + 1) s) ≡ wrong → PieceRead s at (TextFault at)
-    reference_wrong e = front_wrong reference (front_reference (drop (at + 1) s)) is_front e
+    pub reference_flawed : (f : Flaw) → front_reference (drop (at + 1) s) ≡ told (Err f)
+        → PieceRead s at (TextFault (place_blamed f at (length s)))
+    reference_flawed Cut e = front_cut reference (front_reference (drop (at + 1) s)) is_front e
+    reference_flawed Wrong e = front_wrong reference (front_reference (drop (at + 1) s)) is_front e
 
   -- a line end
   module _ (is_return : byte ≡ carriage_return) where
@@ -187,8 +190,7 @@ module _ (s : List ℕ) (at : ℕ) (plain : Plain s at) where
         (character_within s at c w plain.inside e),
   )
 
-  pub character_cut : front_character (drop at s) ≡ cut → PieceRead s at (TextFault (length s))
-  character_cut e = front_cut s at plain.inside char (front_character (drop at s)) is_character e
-
-  pub character_wrong : front_character (drop at s) ≡ wrong → PieceRead s at (TextFault at)
-  character_wrong e = front_wrong s at plain.inside char (front_character (drop at s)) is_character e
+  pub character_flawed : (f : Flaw) → front_character (drop at s) ≡ told (Err f)
+      → PieceRead s at (TextFault (place_blamed f at (length s)))
+  character_flawed Cut e = front_cut s at plain.inside char (front_character (drop at s)) is_character e
+  character_flawed Wrong e = front_wrong s at plain.inside char (front_character (drop at s)) is_character e

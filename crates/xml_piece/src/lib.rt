@@ -5,7 +5,7 @@ ghost use Rattle.std.specs.Prelude.{◌≡◌, ◌≤◌, ◌<◌, length, get_o
 ghost use Rattle.xml.specs.Characters.{'<', '&', carriage_return};
 ghost use Rattle.xml_piece.specs.Pieces.{Plain, PieceRead};
 
-use xml_front::{Flaw, begins, front_character};
+use xml_front::{begins, front_character};
 use xml_names::Span;
 use xml_reference::front_reference;
 use xml_tag::{Markup, tag_at};
@@ -50,8 +50,7 @@ fn reference_at(text: &[u8], at: usize) -> Piece
     let behind = at + 1;
     match front_reference(&text[behind..]) {
         Ok(front) => Piece::Reference(front.point, behind + front.more),
-        Err(Flaw::Cut) => Piece::TextFault(text.len()),
-        Err(Flaw::Wrong) => Piece::TextFault(at),
+        Err(flaw) => Piece::TextFault(flaw.place(at, text.len())),
     }
 }
 
@@ -77,8 +76,7 @@ fn character_at(text: &[u8], at: usize) -> Piece
     let behind = at + 1;
     match front_character(&text[at..]) {
         Ok(front) => Piece::Character(front.point, behind + front.more),
-        Err(Flaw::Cut) => Piece::TextFault(text.len()),
-        Err(Flaw::Wrong) => Piece::TextFault(at),
+        Err(flaw) => Piece::TextFault(flaw.place(at, text.len())),
     }
 }
 

@@ -10,13 +10,17 @@ use lib.Dec.{eqb}
 use borrow.Author.Tests.{eqb-true, eq-eqb}
 use Rattle.xliff.specs.Bytes.{equal}
 use Rattle.xliff.proofs.lists.Tests.{and_left, and_right, equal_true}
-use Rattle.xml.specs.Characters.{hyphen, '>', begins, found, cut, wrong, front_character}
+use Rattle.xml.specs.Characters.{hyphen, '>', begins, found, front_character}
 use Rattle.xml.specs.Tokens.{fault, outside_tags, comment, stop, with_front, comment_step, step, at_end}
 use Rattle.xml.specs.Places.{tokens_at}
 use Rattle.xml.proofs.PlaceLaws.{at_go, at_stop, text_ends}
 use Rattle.xml.proofs.FitLaws.{begins_fits, character_within}
 use Rattle.xml_tag.specs.declared.Markup.{Markup}
 use Rattle.xml_tag.specs.declared.Markup.TheVariants.{Comment, Fault}
+use Rattle.std.specs.Prelude.{Err}
+use Rattle.xml_front.specs.declared.Flaw.{Flaw}
+use Rattle.xml_front.specs.declared.Flaw.TheVariants.{Cut, Wrong}
+use Rattle.xml_front.specs.Fronts.{told, place_blamed}
 use Rattle.xml_tag.specs.Markups.{hyphens, InComment}
 use Rattle.xml_tag.proofs.MarkedLaws.{carry}
 
@@ -117,10 +121,9 @@ module _ (s : List ℕ) (from i : ℕ) (so_far : CommentSoFar s from i) where
               ∙ ap (tokens_at s comment) (let z : suc i + w ≡ i + 1 + w = omega arith in z);
         }
 
-    pub comment_cut : front_character (drop i s) ≡ cut → InComment s from (Fault (length s))
-    comment_cut e p = so_far.same ∙ at_the_end s i h (unfold comment_step with_front in rw (none, e))
-
-    pub comment_wrong : front_character (drop i s) ≡ wrong → InComment s from (Fault i)
-    comment_wrong e p =
+    pub comment_flawed : (f : Flaw) → front_character (drop i s) ≡ told (Err f)
+        → InComment s from (Fault (place_blamed f i (length s)))
+    comment_flawed Cut e p = so_far.same ∙ at_the_end s i h (unfold comment_step with_front in rw (none, e))
+    comment_flawed Wrong e p =
         so_far.same
         ∙ at_stop s comment i h (fault i) (step_is s i h ∙ (unfold comment_step with_front in rw (none, e)))

@@ -6,7 +6,7 @@ ghost use Rattle.xml.specs.Characters.{'<', begins};
 ghost use Rattle.xml.specs.Tokens.{in_name, outside_tags};
 ghost use Rattle.xml_tag.specs.Markups.{Marked, InComment, hyphens};
 
-use xml_front::{Flaw, begins, front_character};
+use xml_front::{begins, front_character};
 use xml_names::{Span, name_end, name_starts};
 use xml_values::blanks_end;
 
@@ -92,11 +92,8 @@ fn comment_at(text: &[u8], from: usize) -> Markup
             Ok(front) => {
                 at = at + 1 + front.more;
             }
-            Err(Flaw::Cut) => {
-                return Markup::Fault(text.len());
-            }
-            Err(Flaw::Wrong) => {
-                return Markup::Fault(at);
+            Err(flaw) => {
+                return Markup::Fault(flaw.place(at, text.len()));
             }
         }
     }

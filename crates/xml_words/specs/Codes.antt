@@ -4,6 +4,11 @@ use Rattle.std.specs.Borrow.{Bor}
 use Rattle.xml.specs.Attributes.{Word, word}
 use Rattle.xml_values.specs.Values.{value_codes}
 use Rattle.xml_words.specs.declared.Code.{Code}
+use Rattle.xml_words.specs.declared.value.Value.{Value}
+
+-- the code points of a value
+abbrev pub codes_of : Value → List ℕ
+codes_of v = value_codes v.quote 0 (drop v.start v.text.now)
 
 -- the first code point of a value from `at` on, and the place of the rest
 pub record PointRead (text : List ℕ) (at quote c next : ℕ) : Type 0 where

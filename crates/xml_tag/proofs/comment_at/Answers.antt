@@ -3,7 +3,7 @@ use Rattle.xliff.proofs.lists.Slices.{tail_is}
 use native.Mathlib.Omega.{arith}
 use Rattle.xml_front.specs.Fronts.{told}
 use Rattle.xml.proofs.FitLaws.{character_within}
-use Rattle.xml_tag.proofs.CommentLaws.{comment_begins, comment_read, comment_goes_on, comment_cut, comment_wrong, comment_ends}
+use Rattle.xml_tag.proofs.CommentLaws.{comment_begins, comment_read, comment_goes_on, comment_flawed, comment_ends}
 use borrow.Author.Rules.{rules}
 use Rattle.xml_tag.proofs.comment_at.Goals as goal
 
@@ -53,25 +53,14 @@ loop-at-preserved c =
     let front = sym (simp tail_is at front_character.ensures) ∙ ap told c.in-Ok.is in
     comment_goes_on args.text.now args.from loop.at loop.invariant (search rules) no-hyphens _ _ front
 
--- Err(Flaw::Cut): return Markup::Fault(text.len())
-pub returns-in-Err-Cut : goal.returns-in-Err-Cut
-returns-in-Err-Cut c =
+-- Err(flaw): return Markup::Fault(flaw.place(at, text.len()))
+pub returns-in-Err : goal.returns-in-Err
+returns-in-Err c =
     let args = c.args in
     let loop = c.loop-at in
-    let if1 = c.if-begins in
-    let no-hyphens = sym (simp tail_is at c.begins.ensures) ∙ if1.false in
-    let front = sym (simp tail_is at c.front_character.ensures) ∙ ap told (rw c.in-Err-Cut.field-0-is at c.in-Err-Cut.is) in
-    comment_cut args.text.now args.from loop.at loop.invariant (search rules) no-hyphens front
-
--- Err(Flaw::Wrong): return Markup::Fault(at)
-pub returns-in-Err-Wrong : goal.returns-in-Err-Wrong
-returns-in-Err-Wrong c =
-    let args = c.args in
-    let loop = c.loop-at in
-    let if1 = c.if-begins in
-    let no-hyphens = sym (simp tail_is at c.begins.ensures) ∙ if1.false in
-    let front = sym (simp tail_is at c.front_character.ensures) ∙ ap told (rw c.in-Err-Wrong.field-0-is at c.in-Err-Wrong.is) in
-    comment_wrong args.text.now args.from loop.at loop.invariant (search rules) no-hyphens front
+    let no-hyphens = sym (simp tail_is at c.begins.ensures) ∙ c.if-begins.false in
+    let front = sym (simp tail_is at c.front_character.ensures) ∙ ap told c.in-Err.is in
+    rw c.place.ensures (comment_flawed args.text.now args.from loop.at loop.invariant (search rules) no-hyphens _ front)
 
 -- Markup::Fault(text.len()), where the text ends
 pub returns : goal.returns

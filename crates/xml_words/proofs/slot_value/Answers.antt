@@ -11,6 +11,6 @@ unfolding or_bad
 or_bad_is None = refl
 or_bad_is (Some x) = refl
 
--- value_of(text, start, quote, k).unwrap_or(BAD)
+-- self.of_slot(k).unwrap_or(BAD)
 pub returns : goal.returns
-returns c = c.unwrap_or.ensures ∙ or_bad_is c.value_of.result ∙ ap or_bad c.value_of.ensures
+returns c = c.unwrap_or.ensures ∙ or_bad_is c.of_slot.result ∙ ap or_bad c.of_slot.ensures

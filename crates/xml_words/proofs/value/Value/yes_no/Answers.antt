@@ -1,8 +1,8 @@
 use Rattle.xml.specs.Words.{Words·all}
-use Rattle.xml.specs.Attributes.{states}
-use Rattle.xml_words.proofs.state.Goals as goal
+use Rattle.xml.specs.Attributes.{yes_no}
+use Rattle.xml_words.proofs.value.Value.yes_no.Goals as goal
 
 -- the words are those of the definition
 pub returns : goal.returns
-unfolding states Words·all
+unfolding yes_no Words·all
 returns c = c.letter.ensures

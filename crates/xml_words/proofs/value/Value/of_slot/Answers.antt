@@ -2,29 +2,29 @@ use Rattle.xml_slots.specs.Slots.{value_read}
 use borrow.Author.Tests.{lt-ltb, le-ltb, ne_eqb}
 use mathlib.Core.Path.{◌≡◌}
 use native.Mathlib.Omega.{arith}
-use Rattle.xml_words.proofs.value_of.Goals as goal
+use Rattle.xml_words.proofs.value.Value.of_slot.Goals as goal
 
--- ID..=START_REF => number_value(text, start, quote)
+-- ID..=START_REF => self.number()
 pub returns-in-0-to-6 : goal.returns-in-0-to-6
 unfolding value_read
-returns-in-0-to-6 c = rw (lt-ltb c.args.k 7 (omega arith)) c.number_value.ensures
+returns-in-0-to-6 c = rw (lt-ltb c.args.k 7 (omega arith)) c.number.ensures
 
--- HEX => hexadecimal_value(text, start, quote)
+-- HEX => self.hexadecimal()
 pub returns-in-7 : goal.returns-in-7
 unfolding value_read
-returns-in-7 c = rw c.in-7.is c.hexadecimal_value.ensures
+returns-in-7 c = rw c.in-7.is c.hexadecimal.ensures
 
--- STATE => state(text, start, quote)
+-- STATE => self.state()
 pub returns-in-8 : goal.returns-in-8
 unfolding value_read
 returns-in-8 c = rw c.in-8.is c.state.ensures
 
--- CAN_REORDER => yes_first_no(text, start, quote)
+-- CAN_REORDER => self.yes_first_no()
 pub returns-in-9 : goal.returns-in-9
 unfolding value_read
 returns-in-9 c = rw c.in-9.is c.yes_first_no.ensures
 
--- _ => yes_no(text, start, quote)
+-- _ => self.yes_no()
 pub returns-in_default : goal.returns-in_default
 unfolding value_read
 returns-in_default c =

@@ -2,22 +2,22 @@ use Rattle.xml_words.proofs.CodeLaws.{a_point, no_point}
 use Rattle.xml_words.proofs.NumberLaws.{no_digit_yet, a_number, no_digits, no_number, too_large, number_so_far, digit_low, digit_high}
 use native.Mathlib.Omega.{arith}
 use mathlib.Core.List.{[]}
-use Rattle.xml_words.proofs.number_value.Goals as goal
+use Rattle.xml_words.proofs.value.Value.number.Goals as goal
 
 -- the loop's start
 pub loop-code-init : goal.loop-code-init
 loop-code-init c =
     let args = c.args in
-    no_digit_yet args.text.now args.start args.quote c.requires
+    no_digit_yet args.self.text.now args.self.start args.self.quote args.self.inside
 
--- if !is_digit(c) | ((n == 0) & (c == b'0' as u32)) { return BAD; }
+-- if !is_digit(c) | ((n == 0) & (c == b'0' as u32)) { return None; }
 pub returns-then-is_digit-n : goal.returns-then-is_digit-n
 returns-then-is_digit-n c =
     let loop = c.loop-code in
     let args = c.args in
-    let text = args.text.now in
-    let read = a_point text loop.at args.quote _ c.next_code.ensures _ c.in-Some.is in
-    no_number text args.start args.quote loop.at loop.n loop.invariant _ _ read
+    let text = args.self.text.now in
+    let read = a_point text loop.at args.self.quote _ c.code_at.ensures _ c.in-Some.is in
+    no_number text args.self.start args.self.quote loop.at loop.n loop.invariant _ _ read
     (rw c.is_digit.ensures at c.if-is_digit-n.true)
 
 -- n * 10
@@ -38,14 +38,14 @@ overflow_add-n c =
     let high = digit_high loop.n c.in-Some.code.point [] (rw c.is_digit.ensures at c.if-is_digit-n.false) in
     omega (arith, high, loop.invariant.small)
 
--- if 65535 < n { return BAD; }
+-- if 65535 < n { return None; }
 pub returns-then-n-gt65535 : goal.returns-then-n-gt65535
 returns-then-n-gt65535 c =
     let loop = c.loop-code in
     let args = c.args in
-    let text = args.text.now in
-    let read = a_point text loop.at args.quote _ c.next_code.ensures _ c.in-Some.is in
-    too_large text args.start args.quote loop.at loop.n loop.invariant _ _ read
+    let text = args.self.text.now in
+    let read = a_point text loop.at args.self.quote _ c.code_at.ensures _ c.in-Some.is in
+    too_large text args.self.start args.self.quote loop.at loop.n loop.invariant _ _ read
     (rw c.is_digit.ensures at c.if-is_digit-n.false) c.if-n-gt65535.true
 
 -- the loop's measure
@@ -53,8 +53,8 @@ pub loop-code-smaller : goal.loop-code-smaller
 loop-code-smaller c =
     let loop = c.loop-code in
     let args = c.args in
-    let text = args.text.now in
-    let read = a_point text loop.at args.quote _ c.next_code.ensures _ c.in-Some.is in
+    let text = args.self.text.now in
+    let read = a_point text loop.at args.self.quote _ c.code_at.ensures _ c.in-Some.is in
     omega (arith, read.ahead, read.inside)
 
 -- the loop's step
@@ -62,25 +62,25 @@ pub loop-code-preserved : goal.loop-code-preserved
 loop-code-preserved c =
     let loop = c.loop-code in
     let args = c.args in
-    let text = args.text.now in
-    let read = a_point text loop.at args.quote _ c.next_code.ensures _ c.in-Some.is in
-    number_so_far text args.start args.quote loop.at loop.n loop.invariant _ _ read
+    let text = args.self.text.now in
+    let read = a_point text loop.at args.self.quote _ c.code_at.ensures _ c.in-Some.is in
+    number_so_far text args.self.start args.self.quote loop.at loop.n loop.invariant _ _ read
     (rw c.is_digit.ensures at c.if-is_digit-n.false) c.if-n-gt65535.false
 
--- BAD
+-- None
 pub returns-then-n-eq0 : goal.returns-then-n-eq0
 returns-then-n-eq0 c =
     let loop = c.loop-code in
     let args = c.args in
-    let text = args.text.now in
-    let over = no_point text loop.at args.quote _ c.next_code.ensures c.in_default.is in
-    no_digits text args.start args.quote loop.at loop.n loop.invariant over c.if-n-eq0.true
+    let text = args.self.text.now in
+    let over = no_point text loop.at args.self.quote _ c.code_at.ensures c.in_default.is in
+    no_digits text args.self.start args.self.quote loop.at loop.n loop.invariant over c.if-n-eq0.true
 
--- n
+-- Some(n)
 pub returns-else-n-eq0 : goal.returns-else-n-eq0
 returns-else-n-eq0 c =
     let loop = c.loop-code in
     let args = c.args in
-    let text = args.text.now in
-    let over = no_point text loop.at args.quote _ c.next_code.ensures c.in_default.is in
-    a_number text args.start args.quote loop.at loop.n loop.invariant over c.if-n-eq0.false
+    let text = args.self.text.now in
+    let over = no_point text loop.at args.self.quote _ c.code_at.ensures c.in_default.is in
+    a_number text args.self.start args.self.quote loop.at loop.n loop.invariant over c.if-n-eq0.false

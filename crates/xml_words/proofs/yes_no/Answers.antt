@@ -1,8 +1,0 @@
-use Rattle.xml.specs.Words.{Words·all}
-use Rattle.xml.specs.Attributes.{yes_no}
-use Rattle.xml_words.proofs.yes_no.Goals as goal
-
--- the words are those of the definition
-pub returns : goal.returns
-unfolding yes_no Words·all
-returns c = c.letter.ensures
