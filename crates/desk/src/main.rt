@@ -3,6 +3,7 @@
 
 ghost use Rattle.std.specs.Prelude.{◌≤◌, length, IfOk};
 
+use both_ends::MOST_PRINTED;
 use std::io::{self, Read, Write};
 
 // Reads until `buf` is full or the input ends; how many bytes it read.
@@ -21,18 +22,15 @@ fn read_full<R: Read>(reader: &mut R, buf: &mut [u8]) -> io::Result<usize>
     Ok(done)
 }
 
-// Writes the answers that stand at the head of `output`.
-fn write_answers<W: Write>(writer: &mut W, output: &[u8], k: usize) -> io::Result<()>
-    requires { k ≤ length output.now }
-{
-    writer.write_all(&output[..k])?;
+fn write_answers<W: Write>(writer: &mut W, answers: &[u8]) -> io::Result<()> {
+    writer.write_all(answers)?;
     writer.flush()
 }
 
 fn main(rt: HostRuntime) -> io::Result<()> {
     let mut input = [0u8; 65535];
-    let mut output = [0u8; 1048576];
+    let mut output = [0u8; MOST_PRINTED];
     let n = read_full(&mut rt.reader(), &mut input)?;
     let k = both_ends::run(&input[..n], &mut output);
-    write_answers(&mut io::writer(&rt), &output, k)
+    write_answers(&mut io::writer(&rt), &output[..k])
 }

@@ -13,9 +13,8 @@ use Rattle.xliff.specs.Desk.{Request, request, answer_requests, line, table_line
 use Rattle.answers.specs.declared.Answer.{Answer}
 use Rattle.answers.specs.declared.Answer.TheVariants.{Accepted, Refused}
 use Rattle.writer.specs.Pieces.{lead}
-use Rattle.xliff.proofs.lists.Slices.{tail_is}
 use Rattle.xliff.specs.Parse.{most_bytes}
-use Rattle.writer.proofs.PieceLaws.{tail_ends, two_back}
+use Rattle.writer.proofs.PieceLaws.{lead_length, two_back}
 use Rattle.outcomes.specs.Outcomes.{Answers}
 use Rattle.job.specs.Job.{FitsIn, kept_table}
 
@@ -78,13 +77,14 @@ pub same_requests : (job table : List ℕ) (m n : ℕ) → m ≡ n → take m ta
     → answer_requests (length job) (take m table) m (drop m job) ≡ answer_requests (length job) (take n job) n (drop n job)
 same_requests job table m n e f = ap₂ (λ (t : List ℕ) (k : ℕ). answer_requests (length job) t k (drop k job)) f e
 
--- a tail that was lent keeps its length, and so the output
-pub back_length : (out last : List ℕ) (k : ℕ) → k ≤ length out → length last ≡ length (take (length out - k) (drop k out))
-    → length (take k out ++ (last ++ drop (length out - k) (drop k out))) ≡ length out
-back_length out last k h e =
-    let b : length (drop (length out - k) (drop k out)) ≡ 0 = ap length (tail_ends k out) in
-    let c : length last ≡ length (drop k out) = e ∙ ap length (tail_is k out) in
-    omega (arith, length-append (take k out) (last ++ drop (length out - k) (drop k out)), length-append last (drop (length out - k) (drop k out)), b, c, length-drop k out, length-take-le k out h)
+-- the second piece behind the first, in the room left of an output whose length stays
+room_back : (out₀ a b out last : List ℕ) (k room : ℕ) → room ≡ length out₀ - k → k ≤ length out₀ → k ≡ length a → out ≡ lead a out₀
+    → last ≡ lead b (take room (drop k out)) → take k out ++ (last ++ drop room (drop k out)) ≡ lead (a ++ b) out₀
+room_back out₀ a b out last k room r h e f =
+    let same : length out ≡ length out₀ = ap length f ∙ lead_length a out₀ (omega (arith, h, e)) in
+    let is_room : room ≡ length out - k = r ∙ ap (λ (l : ℕ). l - k) (sym same) in
+    subst (λ (j : ℕ). last ≡ lead b (take j (drop k out)) → take k out ++ (last ++ drop j (drop k out)) ≡ lead (a ++ b) out₀) (sym is_room)
+    (two_back out₀ a b out last k e f)
 
 -- what is printed so far, and what the requests from an offset on have to print
 pub record Printed (job first : List ℕ) (n : ℕ) (out₀ out table : List ℕ) (at m k : ℕ) : Type 0 where
@@ -99,18 +99,19 @@ module _ (job first : List ℕ) (n : ℕ) (out₀ : List ℕ) where
   pub printed_start : Printed job first n out₀ out₀ first n n 0
   printed_start = record { lines = []; long = refl; wrote = refl; steps = length job; enough = omega arith; same = refl }
 
-  module _ (out table : List ℕ) (at m k : ℕ) (p : Printed job first n out₀ out table at m k) where
+  module _ (out table : List ℕ) (at m k room : ℕ) (is_room : room ≡ length out₀ - k) (within : k ≤ length out₀)
+      (p : Printed job first n out₀ out table at m k) where
     -- a line more
     printed_by : (q : Request) (table' last : List ℕ) (m' k' : ℕ) → at < length job → 4 ≤ q.size → some q ≡ request (drop at job)
         → k' ≡ length (line (answer (outcome (take m table) q.call)))
-        → last ≡ lead (line (answer (outcome (take m table) q.call))) (take (length out - k) (drop k out))
+        → last ≡ lead (line (answer (outcome (take m table) q.call))) (take room (drop k out))
         → take m' table' ≡ left (take m table) q.call
-        → Printed job first n out₀ (take k out ++ (last ++ drop (length out - k) (drop k out))) table' (at + q.size) m' (k + k')
+        → Printed job first n out₀ (take k out ++ (last ++ drop room (drop k out))) table' (at + q.size) m' (k + k')
     printed_by q table' last m' k' h g e l w v =
         record {
           lines = p.lines ++ line (answer (outcome (take m table) q.call));
           long = omega (arith, p.long, l, length-append p.lines (line (answer (outcome (take m table) q.call))));
-          wrote = two_back out₀ p.lines (line (answer (outcome (take m table) q.call))) out last k p.long p.wrote w;
+          wrote = room_back out₀ p.lines (line (answer (outcome (take m table) q.call))) out last k room is_room within p.long p.wrote w;
           steps = p.steps - 1;
           enough = omega (arith, p.enough, h, g);
           same =
@@ -124,30 +125,30 @@ module _ (job first : List ℕ) (n : ℕ) (out₀ : List ℕ) where
 
     pub printed_on : (q : Request) (table' last : List ℕ) (m' k' i : ℕ) → i ≡ q.size → at < length job → 4 ≤ q.size → some q ≡ request (drop at job)
         → k' ≡ length (line (answer (outcome (take m table) q.call)))
-        → last ≡ lead (line (answer (outcome (take m table) q.call))) (take (length out - k) (drop k out))
+        → last ≡ lead (line (answer (outcome (take m table) q.call))) (take room (drop k out))
         → take m' table' ≡ left (take m table) q.call
-        → Printed job first n out₀ (take k out ++ (last ++ drop (length out - k) (drop k out))) table' (at + i) m' (k + k')
+        → Printed job first n out₀ (take k out ++ (last ++ drop room (drop k out))) table' (at + i) m' (k + k')
     printed_on q table' last m' k' i f h g e l w v =
-        subst (λ (j : ℕ). Printed job first n out₀ (take k out ++ (last ++ drop (length out - k) (drop k out))) table' (at + j) m' (k + k')) (sym f)
+        subst (λ (j : ℕ). Printed job first n out₀ (take k out ++ (last ++ drop room (drop k out))) table' (at + j) m' (k + k')) (sym f)
         (printed_by q table' last m' k' h g e l w v)
 
     -- the last lines
-    module _ (last : List ℕ) (k' : ℕ) (piece : List ℕ) (l : k' ≡ length piece) (w : last ≡ lead piece (take (length out - k) (drop k out))) where
+    module _ (last : List ℕ) (k' : ℕ) (piece : List ℕ) (l : k' ≡ length piece) (w : last ≡ lead piece (take room (drop k out))) where
       ends_by : answer_requests p.steps (take m table) at (drop at job) ≡ piece
           → (k + k' ≡ length (answer_requests (length job) (take n first) n (drop n job)))
-          × (take k out ++ (last ++ drop (length out - k) (drop k out)) ≡ lead (answer_requests (length job) (take n first) n (drop n job)) out₀)
+          × (take k out ++ (last ++ drop room (drop k out)) ≡ lead (answer_requests (length job) (take n first) n (drop n job)) out₀)
       ends_by e =
           let z : p.lines ++ piece ≡ answer_requests (length job) (take n first) n (drop n job) = ap (λ (x : List ℕ). p.lines ++ x) (sym e) ∙ p.same in (
             omega (arith, p.long, l, length-append p.lines piece, ap length z),
-            two_back out₀ p.lines piece out last k p.long p.wrote w ∙ ap (λ (x : List ℕ). lead x out₀) z,
+            room_back out₀ p.lines piece out last k room is_room within p.long p.wrote w ∙ ap (λ (x : List ℕ). lead x out₀) z,
           )
 
       pub printed_stop : at < length job → none ≡ request (drop at job) → piece ≡ line (spec.refused 2 at) ++ table_line (take m table)
           → (k + k' ≡ length (answer_requests (length job) (take n first) n (drop n job)))
-          × (take k out ++ (last ++ drop (length out - k) (drop k out)) ≡ lead (answer_requests (length job) (take n first) n (drop n job)) out₀)
+          × (take k out ++ (last ++ drop room (drop k out)) ≡ lead (answer_requests (length job) (take n first) n (drop n job)) out₀)
       printed_stop h e f = ends_by (requests_stop p.steps (take m table) at (drop at job) (omega (arith, p.enough, h)) (omega (arith, length-drop at job, h)) e ∙ sym f)
 
       pub printed_end : length job ≤ at → piece ≡ table_line (take m table)
           → (k + k' ≡ length (answer_requests (length job) (take n first) n (drop n job)))
-          × (take k out ++ (last ++ drop (length out - k) (drop k out)) ≡ lead (answer_requests (length job) (take n first) n (drop n job)) out₀)
+          × (take k out ++ (last ++ drop room (drop k out)) ≡ lead (answer_requests (length job) (take n first) n (drop n job)) out₀)
       printed_end h f = ends_by (requests_end p.steps (take m table) at (drop at job) (drop_of_length-le job h) ∙ sym f)

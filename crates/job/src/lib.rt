@@ -15,6 +15,9 @@ use answers::Answer;
 use limits::MOST_BYTES;
 use requests::Request;
 
+// What any job prints fits: docs/DECISIONS.md, 28.
+pub const MOST_PRINTED: usize = 1_048_576;
+
 // What a request printed, and the length of the table that it left.
 #[derive(Clone, Copy)]
 pub struct Step {
@@ -23,20 +26,26 @@ pub struct Step {
 }
 
 // The table behind an answer: the result of an accepted request, else the table as before it. Its length.
-fn keep(table: &mut [u8], n: usize, a: Answer, res: &[u8]) -> usize
-    requires { (n ≤ most_bytes) × (length table.old ≡ most_bytes) × (length res.now ≡ most_bytes) × FitsIn a }
-    ensures { (take result table.new ≡ kept_table a n table.old res.now) × (result ≤ most_bytes) }
+fn keep(table: &mut [u8; MOST_BYTES], n: usize, a: Answer, kept: &[u8; MOST_BYTES]) -> usize
+    requires { (n ≤ most_bytes) × FitsIn a }
+    ensures { (take result table.new ≡ kept_table a n table.old kept.now) × (result ≤ most_bytes) }
 {
     match a {
-        Answer::Accepted(m) => writer::put(table, &res[..m]),
+        Answer::Accepted(m) => writer::put(table, &kept[..m]),
         Answer::Refused(_, _) => n,
     }
 }
 
 // The request `r` at the head of `s`, on the table in the first `n` bytes of `table`: its line at the head of `out`,
 // and in `table` the table that it leaves.
-fn answer_request(r: Request, s: &[u8], table: &mut [u8], n: usize, out: &mut [u8]) -> Step
-    requires { (n ≤ most_bytes) × (length table.old ≡ most_bytes) × (48 ≤ length out.old) × (request_size r ≤ length s.now) }
+fn answer_request(
+    r: Request,
+    s: &[u8],
+    table: &mut [u8; MOST_BYTES],
+    n: usize,
+    out: &mut [u8],
+) -> Step
+    requires { (n ≤ most_bytes) × (48 ≤ length out.old) × (request_size r ≤ length s.now) }
     ensures { Performed (call_of s.now r) (take n table.old) out.old result table.new
         out.new }
 {
@@ -60,8 +69,13 @@ fn put_unreadable(out: &mut [u8], at: usize, t: &[u8]) -> usize
 // The lines of the requests behind the first `n` bytes of a job, whose table stands at the head of `table`; last the
 // table.
 // No line is longer than 48 bytes and no request shorter than 4.
-fn put_requests(job: &[u8], n: usize, table: &mut [u8], out: &mut [u8]) -> usize
-    requires { (n ≤ length job.now) × (n ≤ most_bytes) × (length job.now ≤ 65535) × (length table.old ≡ most_bytes) × (length out.old ≡ 1048576) }
+fn put_requests(
+    job: &[u8],
+    n: usize,
+    table: &mut [u8; MOST_BYTES],
+    out: &mut [u8; MOST_PRINTED],
+) -> usize
+    requires { (n ≤ length job.now) × (n ≤ most_bytes) × (length job.now ≤ 65535) }
     ensures { (result ≡ length (answer_requests (length job.now) (take n table.old) n (drop n job.now)))
         × (out.new ≡ lead (answer_requests (length job.now) (take n table.old) n (drop n job.now))
         out.old) }
@@ -83,8 +97,8 @@ fn put_requests(job: &[u8], n: usize, table: &mut [u8], out: &mut [u8]) -> usize
 }
 
 // The requests of a job whose table, its first `n` bytes, is accepted.
-fn put_accepted(job: &[u8], n: usize, out: &mut [u8]) -> usize
-    requires { (n ≤ length job.now) × (n ≤ most_bytes) × (length job.now ≤ 65535) × (length out.old ≡ 1048576) }
+fn put_accepted(job: &[u8], n: usize, out: &mut [u8; MOST_PRINTED]) -> usize
+    requires { (n ≤ length job.now) × (n ≤ most_bytes) × (length job.now ≤ 65535) }
     ensures { (result ≡ length (answer_requests (length job.now) (take n job.now) n (drop n job.now)))
         × (out.new ≡ lead (answer_requests (length job.now) (take n job.now) n (drop n job.now))
         out.old) }
@@ -94,8 +108,8 @@ fn put_accepted(job: &[u8], n: usize, out: &mut [u8]) -> usize
     put_requests(job, m, &mut table, out)
 }
 
-fn put_answers(job: &[u8], n: usize, a: Answer, out: &mut [u8]) -> usize
-    requires { (n ≡ table_length job.now) × (n ≤ length job.now) × (length job.now ≤ 65535) × (length out.old ≡ 1048576)
+fn put_answers(job: &[u8], n: usize, a: Answer, out: &mut [u8; MOST_PRINTED]) -> usize
+    requires { (n ≡ table_length job.now) × (n ≤ length job.now) × (length job.now ≤ 65535)
         × (answer_meaning a ≡ check (take n job.now)) }
     ensures { (result ≡ length (desk_job job.now)) × (out.new ≡ lead (desk_job job.now) out.old) }
 {
@@ -105,16 +119,16 @@ fn put_answers(job: &[u8], n: usize, a: Answer, out: &mut [u8]) -> usize
     }
 }
 
-fn run_job(job: &[u8], out: &mut [u8]) -> usize
-    requires { (length job.now ≤ 65535) × (length out.old ≡ 1048576) }
+fn run_job(job: &[u8], out: &mut [u8; MOST_PRINTED]) -> usize
+    requires { length job.now ≤ 65535 }
     ensures { (result ≡ length (desk_job job.now)) × (out.new ≡ lead (desk_job job.now) out.old) }
 {
     let n = job_table::table_length(job);
     put_answers(job, n, table_check::check(&job[..n]), out)
 }
 
-// What the desk program prints for a job, at the head of `out`; its length. No job prints more than `out` holds.
-pub fn run(job: &[u8], out: &mut [u8; 1048576]) -> usize
+// What the desk program prints for a job, at the head of `out`; its length.
+pub fn run(job: &[u8], out: &mut [u8; MOST_PRINTED]) -> usize
     ensures value { (result ≡ length (desk job.now)) × (out.new ≡ lead (desk job.now) out.old) }
     ensures within { (result ≤ length out.new) × (result ≡ length (take result out.new)) }
 {

@@ -3,19 +3,10 @@ use lib.ListN.{length}
 use Rattle.xliff.specs.Answer as spec
 use Rattle.xliff.specs.Desk.{line}
 use Rattle.xliff.specs.Calls.{left}
-use mathlib.Core.Path.{refl, sym, ap, ◌∙◌}
-use native.Mathlib.Omega.{arith}
-use lib.Seq.{length-take-le}
+use mathlib.Core.Path.{refl, ap, ◌∙◌}
 use Rattle.job.proofs.StepLaws.{answer_fits, answer_keeps}
 use borrow.Author.Rules.{rules}
 use Rattle.job.proofs.answer_request.Goals as goal
-
--- &table[..n]
-pub slice_bounds-perform-end-2 : goal.slice_bounds-perform-end-2
-unfolding left
-slice_bounds-perform-end-2 c =
-    let pre = c.requires in
-    sym (length-take-le c.args.n c.args.table.now (omega (arith, pre.0, pre.1)))
 
 -- keep(table, n, a, &result)
 pub keep-length-requires : goal.keep-length-requires
@@ -24,7 +15,7 @@ keep-length-requires c =
     let pre = c.requires in
     let perform = c.perform-a in
     let whole = perform.auto.out in
-    (pre.0, pre.1, whole, answer_fits _ perform.result _ _ perform.ensures refl whole)
+    (pre.0, answer_fits _ perform.result _ _ perform.ensures refl whole)
 
 -- the end
 pub returns : goal.returns

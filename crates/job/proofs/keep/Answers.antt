@@ -1,38 +1,27 @@
-use mathlib.Core.Path.{refl, sym}
+use mathlib.Core.Path.{refl}
 use native.Mathlib.Omega.{arith}
 use lib.Seq.{length-take-le}
 use Rattle.job.proofs.StepLaws.{put_keeps}
 use Rattle.job.proofs.keep.Goals as goal
 
--- &result[..m]
-pub slice_bounds-put-end : goal.slice_bounds-put-end
-slice_bounds-put-end c =
-    let pre = c.requires in
-    let f = rw c.in-Accepted.is at pre.3 in
-    sym (length-take-le _ c.args.res.now (omega (arith, f, pre.2)))
-
--- writer::put(table, &result[..m])
+-- writer::put(table, &kept[..m])
 pub put-requires : goal.put-requires
 put-requires c =
-    let pre = c.requires in
-    let f = rw c.in-Accepted.is at pre.3 in
+    let f = rw c.in-Accepted.is at c.requires.1 in
     omega (
       arith,
       f,
-      pre.2,
-      pre.1,
-      length-take-le c.in-Accepted.m c.args.res.now (omega (arith, f, pre.2)),
+      c.told-kept,
+      c.told-table,
+      length-take-le c.in-Accepted.m c.args.kept.now (omega (arith, f, c.told-kept)),
     )
 
 pub returns-in-Accepted : goal.returns-in-Accepted
 returns-in-Accepted c =
-    let pre = c.requires in
     let put = c.put in
-    let f = rw c.in-Accepted.is at pre.3 in
-    rw c.in-Accepted.is (put_keeps c.args.table.now c.args.res.now put.new.out c.in-Accepted.m
-    put.result (omega (arith, f, pre.2)) pre.2 put.ensures.0 put.ensures.1)
+    let f = rw c.in-Accepted.is at c.requires.1 in
+    rw c.in-Accepted.is (put_keeps c.args.table.now c.args.kept.now put.new.out c.in-Accepted.m
+    put.result (omega (arith, f, c.told-kept)) c.told-kept put.ensures.0 put.ensures.1)
 
 pub returns-in-Refused : goal.returns-in-Refused
-returns-in-Refused c =
-    let pre = c.requires in
-    rw c.in-Refused.is (refl, pre.0)
+returns-in-Refused c = rw c.in-Refused.is (refl, c.requires.0)

@@ -25,7 +25,7 @@ put_requests-requires c =
     let pre = c.requires in
     let put = c.put-m in
     let l = put.ensures.0 ∙ length-take-le c.args.n c.args.job.now pre.0 in
-    (omega (arith, l, pre.0), omega (arith, l, pre.1), pre.2, put.auto.out, pre.3)
+    (omega (arith, l, pre.0), omega (arith, l, pre.1), pre.2)
 
 -- put_requests(job, m, &mut table, out)
 pub returns : goal.returns

@@ -18,7 +18,7 @@ pub run_job-requires : goal.run_job-requires
 unfolding desk
 run_job-requires c =
     let job = c.args.job.now in
-    (omega (arith, length-take-le 65535 job (omega (arith, c.if-job-gt65535.true))), search rules)
+    omega (arith, length-take-le 65535 job (omega (arith, c.if-job-gt65535.true)))
 
 pub run_job-requires-2 : goal.run_job-requires-2
 unfolding desk
