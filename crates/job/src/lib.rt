@@ -26,6 +26,7 @@ pub struct Step {
 }
 
 // The table behind an answer: the result of an accepted request, else the table as before it. Its length.
+// Array and length of the table stay apart: an operation reads a slice, and only here a result is kept.
 fn keep(table: &mut [u8; MOST_BYTES], n: usize, a: Answer, kept: &[u8; MOST_BYTES]) -> usize
     requires { (n ≤ most_bytes) × FitsIn a }
     ensures { (take result table.new ≡ kept_table a n table.old kept.now) × (result ≤ most_bytes) }
@@ -69,6 +70,7 @@ fn put_unreadable(out: &mut [u8], at: usize, t: &[u8]) -> usize
 // The lines of the requests behind the first `n` bytes of a job, whose table stands at the head of `table`; last the
 // table.
 // No line is longer than 48 bytes and no request shorter than 4.
+// A job and its table's length go through three functions, one calling the next: a struct is no plainer.
 fn put_requests(
     job: &[u8],
     n: usize,
@@ -119,6 +121,7 @@ fn put_answers(job: &[u8], n: usize, a: Answer, out: &mut [u8; MOST_PRINTED]) ->
     }
 }
 
+// The lengths of job and output are asked by four functions, one calling the next: a struct is no plainer.
 fn run_job(job: &[u8], out: &mut [u8; MOST_PRINTED]) -> usize
     requires { length job.now ≤ 65535 }
     ensures { (result ≡ length (desk_job job.now)) × (out.new ≡ lead (desk_job job.now) out.old) }
@@ -132,6 +135,7 @@ pub fn run(job: &[u8], out: &mut [u8; MOST_PRINTED]) -> usize
     ensures value { (result ≡ length (desk job.now)) × (out.new ≡ lead (desk job.now) out.old) }
     ensures within { (result ≤ length out.new) × (result ≡ length (take result out.new)) }
 {
+    // A test and no `min`: a job that is short enough goes on as it stands, without a cut.
     if 65535 < job.len() {
         return run_job(&job[..65535], out);
     }
