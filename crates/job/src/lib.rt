@@ -121,7 +121,7 @@ fn put_answers(job: &[u8], n: usize, a: Answer, out: &mut [u8; MOST_PRINTED]) ->
     }
 }
 
-// The lengths of job and output are asked by four functions, one calling the next: a struct is no plainer.
+// The length of the job is asked by four functions, one calling the next: a struct is no plainer.
 fn run_job(job: &[u8], out: &mut [u8; MOST_PRINTED]) -> usize
     requires { length job.now ≤ 65535 }
     ensures { (result ≡ length (desk_job job.now)) × (out.new ≡ lead (desk_job job.now) out.old) }
