@@ -1,5 +1,5 @@
 -- What is read of the records that open a unit and head its parts and targets, and written of them.
-use Rattle.std.specs.Prelude.{ℕ, ◌≤◌, ◌≡◌, Bool, true, false, List, ◌++◌, length}
+use Rattle.std.specs.Prelude.{ℕ, ◌≤◌, ◌≡◌, Bool, true, false, Option, Some, None, List, ◌++◌, length}
 use Rattle.table.specs.Meaning.{segment_meaning}
 use Rattle.xliff.specs.Unit as unit
 use Rattle.xliff.specs.Unit.{Opening, Head, segment, ignorable, with_id, with_state}
@@ -35,6 +35,11 @@ SegmentIs bytes r = (h : Head) → head_bytes h ≡ bytes → r ≡ is_segment h
 
 abbrev pub FieldsAre : List ℕ → Segment → Type 0
 FieldsAre bytes r = (f : unit.Segment) → head_bytes (segment f) ≡ bytes → segment_meaning r ≡ f
+
+-- the fields, where a head is a segment's
+abbrev pub SegmentOf : List ℕ → Option Segment → Type 0
+SegmentOf bytes (Some r) = SegmentIs bytes true × FieldsAre bytes r
+SegmentOf bytes None = SegmentIs bytes false
 
 abbrev pub OrderIs : List ℕ → ℕ → Type 0
 OrderIs t r = (q : ℕ) (s : List ℕ) → t ≡ record_bytes (target_head q) ++ s → r ≡ q

@@ -7,7 +7,7 @@ ghost use Rattle.table.specs.Meaning.{segment_meaning};
 ghost use Rattle.xliff.specs.Unit.{segment};
 ghost use Rattle.xliff.specs.Encode.{target_head, record_bytes, head_bytes};
 ghost use Rattle.writer.specs.Pieces.{Written};
-ghost use Rattle.heads.specs.Heads.{SomeUnit, ResegmentIs, SomeHead, SegmentIs, SomeSegment, FieldsAre, HeadRoom, WroteState, WroteId, SomeTarget, OrderIs};
+ghost use Rattle.heads.specs.Heads.{SomeUnit, ResegmentIs, SomeHead, SegmentIs, SegmentOf, HeadRoom, WroteState, WroteId, SomeTarget, OrderIs};
 
 use table::Segment;
 
@@ -33,13 +33,15 @@ pub fn is_segment(head: &[u8]) -> bool
     marks::marked_by(head, b"SG")
 }
 
-// The fields of a segment's head.
-// No Option beside `is_segment`: who reads the fields has asked that, and `part_at` asks nothing else.
-pub fn segment_of(head: &[u8]) -> Segment
-    requires { SomeSegment head.now }
-    ensures { FieldsAre head.now result }
+// The fields of a head, where it is a segment's.
+pub fn segment_of(head: &[u8]) -> Option<Segment>
+    requires { SomeHead head.now }
+    ensures { SegmentOf head.now result }
 {
-    table::segment_fields(head)
+    if is_segment(head) {
+        return Some(table::segment_fields(head));
+    }
+    None
 }
 
 // A segment's head with these fields.
@@ -58,11 +60,10 @@ pub fn put_with_state(out: &mut [u8], head: &[u8], state: u8) -> usize
     requires { HeadRoom head.now out.old }
     ensures { WroteState state head.now out.old result out.new }
 {
-    if is_segment(head) {
-        let f = segment_of(head);
-        return put_segment(out, Segment { state, ..f });
-    }
-    writer::put(out, head)
+    let Some(f) = segment_of(head) else {
+        return writer::put(out, head);
+    };
+    put_segment(out, Segment { state, ..f })
 }
 
 // The head of a part with this id.

@@ -43,21 +43,6 @@ ignored_first f j = refl
 
 -- the heads a and b, whose bytes are h and i
 module _ (h i : List ℕ) where
-  pub both_segments : (a b : Head) → head_bytes a ≡ h → head_bytes b ≡ i → is_segment a ≡ true → is_segment b ≡ true
-      → (x y r : Segment) → FieldsAre h x → FieldsAre i y → JoinedSegment x y r
-      → segment (segment_meaning r) ≡ join_heads a b
-  both_segments (segment f) (segment g) ea eb p q x y r u v j =
-      j ∙ ap₂ (λ (m n : unit.Segment). join_heads (segment m) (segment n)) (u f ea) (v g eb)
-  both_segments (segment f) (ignorable n) ea eb p q x y r u v j = absurd (true≢false (sym q))
-  both_segments (ignorable m) b ea eb p q x y r u v j = absurd (true≢false (sym p))
-
-  pub first_segment : (a b : Head) → head_bytes a ≡ h → is_segment a ≡ true → is_segment b ≡ false
-      → (x r : Segment) → FieldsAre h x → JoinedWithIgnorable x r → segment (segment_meaning r) ≡ join_heads a b
-  first_segment (segment f) (ignorable n) ea p q x r u j =
-      j n ∙ ap (λ (m : unit.Segment). join_heads (segment m) (ignorable n)) (u f ea)
-  first_segment (segment f) (segment g) ea p q x r u j = absurd (true≢false q)
-  first_segment (ignorable m) b ea p q x r u j = absurd (true≢false (sym p))
-
   pub second_segment : (a b : Head) → head_bytes b ≡ i → is_segment a ≡ false → is_segment b ≡ true
       → (y r : Segment) → FieldsAre i y → JoinedWithIgnorable y r → segment (segment_meaning r) ≡ join_heads a b
   second_segment (ignorable n) (segment g) eb p q y r v j =

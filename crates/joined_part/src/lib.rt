@@ -45,19 +45,12 @@ fn put_joined_head(out: &mut [u8], h: &[u8], i: &[u8]) -> usize
     requires { RoomHeads h.now i.now out.old }
     ensures { WroteHeads h.now i.now out.old result out.new }
 {
-    if heads::is_segment(h) {
-        let x = heads::segment_of(h);
-        if heads::is_segment(i) {
-            let y = heads::segment_of(i);
-            return heads::put_segment(out, joined_segment(x, y));
-        }
-        return heads::put_segment(out, joined_with_ignorable(x));
+    match (heads::segment_of(h), heads::segment_of(i)) {
+        (Some(x), Some(y)) => heads::put_segment(out, joined_segment(x, y)),
+        (Some(x), None) => heads::put_segment(out, joined_with_ignorable(x)),
+        (None, Some(y)) => heads::put_segment(out, joined_with_ignorable(y)),
+        (None, None) => writer::put(out, h),
     }
-    if heads::is_segment(i) {
-        let y = heads::segment_of(i);
-        return heads::put_segment(out, joined_with_ignorable(y));
-    }
-    writer::put(out, h)
 }
 
 // The target of both, with this order; none if neither has one.
