@@ -5,7 +5,6 @@ use Rattle.xliff.specs.Desk.{line}
 use Rattle.xliff.specs.Calls.{left}
 use mathlib.Core.Path.{refl, ap, ◌∙◌}
 use Rattle.job.proofs.StepLaws.{answer_fits, answer_keeps}
-use borrow.Author.Rules.{rules}
 use Rattle.job.proofs.answer_request.Goals as goal
 
 -- keep(table, n, a, &result)
@@ -34,11 +33,3 @@ returns c =
           ∙ answer_keeps _ perform.result args.n args.table.now _ _ perform.ensures;
       fits = keep.ensures.1;
     }
-
-pub perform-a-requires : goal.perform-a-requires
-unfolding left
-perform-a-requires c = search rules
-
-pub put_line-printed-requires : goal.put_line-printed-requires
-unfolding left
-put_line-printed-requires c = search rules

@@ -1,20 +1,7 @@
 use mathlib.Core.Path.{refl}
 use native.Mathlib.Omega.{arith}
-use lib.Seq.{length-take-le}
 use Rattle.job.proofs.StepLaws.{put_keeps}
 use Rattle.job.proofs.keep.Goals as goal
-
--- writer::put(table, &kept[..m])
-pub put-requires : goal.put-requires
-put-requires c =
-    let f = rw c.in-Accepted.is at c.requires.1 in
-    omega (
-      arith,
-      f,
-      c.told-kept,
-      c.told-table,
-      length-take-le c.in-Accepted.m c.args.kept.now (omega (arith, f, c.told-kept)),
-    )
 
 pub returns-in-Accepted : goal.returns-in-Accepted
 returns-in-Accepted c =

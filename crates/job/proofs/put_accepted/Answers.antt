@@ -1,23 +1,12 @@
 use Rattle.writer.specs.Pieces.{lead}
 use Prim.Native.Nat.{ℕ}
 use mathlib.Core.List.{List}
-use mathlib.Core.Path.{sym, ap, ◌∙◌}
+use mathlib.Core.Path.{ap, ◌∙◌}
 use lib.ListN.{length, take}
 use native.Mathlib.Omega.{arith}
 use lib.Seq.{length-take-le}
 use Rattle.job.proofs.StepLaws.{head_by, same_requests}
 use Rattle.job.proofs.put_accepted.Goals as goal
-
--- &job[..n]
-pub slice_bounds-put-end-2 : goal.slice_bounds-put-end-2
-slice_bounds-put-end-2 c =
-    sym (length-take-le c.args.n c.args.job.now c.requires.0)
-
--- writer::put(&mut table, &job[..n])
-pub put-m-requires : goal.put-m-requires
-put-m-requires c =
-    let pre = c.requires in
-    omega (arith, length-take-le c.args.n c.args.job.now pre.0, pre.1)
 
 -- put_requests(job, m, &mut table, out)
 pub put_requests-requires : goal.put_requests-requires

@@ -3,7 +3,6 @@ use native.Mathlib.Omega.{arith}
 use mathlib.Core.Path.{sym}
 use lib.Seq.{length-take-le}
 use Rattle.job.proofs.RunLaws.{whole_job}
-use borrow.Author.Rules.{rules}
 use Rattle.job.proofs.run.Goals as goal
 
 -- &job[..65535]
@@ -17,12 +16,7 @@ slice_bounds-run_job-end c =
 pub run_job-requires : goal.run_job-requires
 unfolding desk
 run_job-requires c =
-    let job = c.args.job.now in
-    omega (arith, length-take-le 65535 job (omega (arith, c.if-job-gt65535.true)))
-
-pub run_job-requires-2 : goal.run_job-requires-2
-unfolding desk
-run_job-requires-2 c = search rules
+    omega (arith, length-take-le 65535 c.args.job.now (omega (arith, c.if-job-gt65535.true)))
 
 -- run_job(job, out)
 pub returns-clause-value : goal.returns-clause-value
