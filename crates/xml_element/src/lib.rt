@@ -11,7 +11,7 @@ ghost use Rattle.xml_names.specs.Names.{NameIn};
 use table::Item;
 use table_builder::TableBuilder;
 use xml_attributes::{Tagged, read_attributes};
-use xml_elements::{Inline, inline_element};
+use xml_elements::{Filled, Inline, inline_element};
 use xml_names::Span;
 use xml_piece::{Piece, piece_at};
 use xml_records::put_item;
@@ -156,7 +156,11 @@ pub fn open_element(
 {
     let mut slots = [ABSENT; SLOTS];
     let tagged = attributes_at(text, tag, &mut slots)?;
-    let Some(inline) = inline_element(tag.name.of(text), &slots, tagged.count) else {
+    let filled = Filled {
+        slots: &slots,
+        count: tagged.count,
+    };
+    let Some(inline) = inline_element(tag.name.of(text), filled) else {
         return Err(Blamed { place: tag.place });
     };
     match inline {

@@ -1,13 +1,13 @@
 // The inline elements, by their names and attributes; first what they and the heads of parts read of their slots.
 #![tactic(auto)]
 
-ghost use Rattle.std.specs.Prelude.{◌≡◌, true, eqb};
+ghost use Rattle.std.specs.Prelude.{◌≡◌, true, eqb, length};
 ghost use Rattle.xliff.specs.Bytes.{'Y'};
 ghost use Rattle.xml.specs.Attributes.{only, required, optional, choice};
 ghost use Rattle.xml.specs.Elements.{end_of_pc, read_cp, read_ph, read_pc, read_sc, read_ec, read_mrk, read_sm, read_em, inline_of_name};
 ghost use Rattle.table.specs.Meaning.{fields, half as half-meaning, item};
-ghost use Rattle.xml_slots.specs.Slots.{SomeSlots, ByAttributes};
-ghost use Rattle.xml_elements.specs.Reading.{name_of, names_of, NumberSlot, LetterSlot, words_of, apart, Told, BySlots, value_meaning, fields_of_slots, HalfId, half_id};
+ghost use Rattle.xml_slots.specs.Slots.{ByAttributes};
+ghost use Rattle.xml_elements.specs.Reading.{name_of, names_of, NumberSlot, LetterSlot, words_of, apart, BySlots, value_meaning, fields_of_slots, HalfId, half_id};
 ghost use Rattle.xml_elements.specs.Meanings.{coded_meaning, inline_meaning, half_fields, half_item, annotation_of_name};
 
 use table::{Fields, Form, Half, Item, Letters};
@@ -23,22 +23,29 @@ pub enum Inline {
     Nested(Item, Item),
 }
 
+// The slots that the attributes of a tag fill, and how many attributes these are.
+#[derive(Clone, Copy)]
+pub struct Filled<'a> {
+    pub slots: &'a [u32],
+    pub count: usize,
+    pub ghost sized: { length slots.now ≡ 16 },
+}
+
 // Whether there are only attributes of these slots: they are as many as there are at all.
-// Slots and count go together in all readers here: the slots are a lent array, the count comes with the tag.
-pub fn has_only(slots: &[u32], count: usize, those: &[usize]) -> bool
-    requires { SomeSlots slots.now count × (apart those.now ≡ true) }
-    ensures { ByAttributes slots.now count (only (names_of those.now)) result }
+pub fn has_only(filled: Filled, those: &[usize]) -> bool
+    requires { apart those.now ≡ true }
+    ensures { ByAttributes filled.entry.slots.now filled.entry.count (only (names_of those.now)) result }
 {
     let mut there = 0;
     for &slot in those {
-        there += present(slots[slot]);
+        there += present(filled.slots[slot]);
     }
-    there == count
+    there == filled.count
 }
 
 // A number that must be there. What a slot holds that is no number does not fit.
 pub fn required_number(slots: &[u32], slot: usize) -> Option<u16>
-    requires { Told slots.now × NumberSlot slot }
+    requires { (length slots.now ≡ 16) × NumberSlot slot }
     ensures { BySlots slots.now (required (name_of slot)) (value_meaning result) }
 {
     u16::try_from(slots[slot]).ok()
@@ -46,7 +53,7 @@ pub fn required_number(slots: &[u32], slot: usize) -> Option<u16>
 
 // A number, which is 0 where it is absent: the table's 0 for none.
 pub fn optional_number(slots: &[u32], slot: usize) -> Option<u16>
-    requires { Told slots.now × NumberSlot slot }
+    requires { (length slots.now ≡ 16) × NumberSlot slot }
     ensures { BySlots slots.now (optional (name_of slot)) (value_meaning result) }
 {
     u16::try_from(or_default(slots[slot], 0)).ok()
@@ -54,7 +61,7 @@ pub fn optional_number(slots: &[u32], slot: usize) -> Option<u16>
 
 // The letter of a word, which is the default where it is absent.
 pub fn letter(slots: &[u32], slot: usize, default: u8) -> Option<u8>
-    requires { Told slots.now × LetterSlot slot }
+    requires { (length slots.now ≡ 16) × LetterSlot slot }
     ensures { BySlots slots.now (choice (name_of slot) (words_of slot) default) (value_meaning result) }
 {
     u8::try_from(or_default(slots[slot], u32::from(default))).ok()
@@ -67,7 +74,7 @@ fn code_fields(
     data_slot: usize,
     overlap: Option<u8>,
 ) -> Option<Fields>
-    requires { Told slots.now × NumberSlot id_slot × NumberSlot data_slot }
+    requires { (length slots.now ≡ 16) × NumberSlot id_slot × NumberSlot data_slot }
     ensures { BySlots slots.now (fields_of_slots id_slot data_slot (value_meaning overlap)) (coded_meaning result) }
 {
     let id = required_number(slots, id_slot)?;
@@ -91,27 +98,25 @@ fn code_fields(
 }
 
 // <cp>
-fn read_cp(slots: &[u32], count: usize) -> Option<Inline>
-    requires { SomeSlots slots.now count }
-    ensures { ByAttributes slots.now count read_cp (inline_meaning result) }
+fn read_cp(filled: Filled) -> Option<Inline>
+    ensures { ByAttributes filled.entry.slots.now filled.entry.count read_cp (inline_meaning result) }
 {
-    if !has_only(slots, count, &[HEX]) {
+    if !has_only(filled, &[HEX]) {
         return None;
     }
-    let hex = u16::try_from(slots[HEX]).ok()?;
+    let hex = u16::try_from(filled.slots[HEX]).ok()?;
     Some(Inline::Single(Item::Character(u32::from(hex))))
 }
 
 // <ph>: canOverlap is always - in PH.
-fn read_ph(slots: &[u32], count: usize) -> Option<Inline>
-    requires { SomeSlots slots.now count }
-    ensures { ByAttributes slots.now count read_ph (inline_meaning result) }
+fn read_ph(filled: Filled) -> Option<Inline>
+    ensures { ByAttributes filled.entry.slots.now filled.entry.count read_ph (inline_meaning result) }
 {
     let allowed = [ID, COPY_OF, DATA_REF, CAN_COPY, CAN_DELETE, CAN_REORDER];
-    if !has_only(slots, count, &allowed) {
+    if !has_only(filled, &allowed) {
         return None;
     }
-    let f = code_fields(slots, ID, DATA_REF, Some(b'-'))?;
+    let f = code_fields(filled.slots, ID, DATA_REF, Some(b'-'))?;
     Some(Inline::Single(Item::Standalone(f)))
 }
 
@@ -121,23 +126,25 @@ fn end_of_pc(f: Fields, data_ref: u16) -> Fields
 {
     let letters = f.letters;
     Fields {
-        data_ref,
+        id: f.id,
+        copy_of: f.copy_of,
+        data_ref: data_ref,
         letters: Letters {
+            copy: letters.copy,
+            delete: letters.delete,
+            overlap: letters.overlap,
             reorder: if letters.reorder == b'F' {
                 b'N'
             } else {
                 letters.reorder
             },
-            ..letters
         },
-        ..f
     }
 }
 
 // <pc>: canOverlap is no where it is absent.
-fn read_pc(slots: &[u32], count: usize) -> Option<Inline>
-    requires { SomeSlots slots.now count }
-    ensures { ByAttributes slots.now count read_pc (inline_meaning result) }
+fn read_pc(filled: Filled) -> Option<Inline>
+    ensures { ByAttributes filled.entry.slots.now filled.entry.count read_pc (inline_meaning result) }
 {
     let allowed = [
         ID,
@@ -149,12 +156,12 @@ fn read_pc(slots: &[u32], count: usize) -> Option<Inline>
         CAN_OVERLAP,
         CAN_REORDER,
     ];
-    if !has_only(slots, count, &allowed) {
+    if !has_only(filled, &allowed) {
         return None;
     }
-    let overlap = letter(slots, CAN_OVERLAP, b'N');
-    let f = code_fields(slots, ID, DATA_REF_START, overlap)?;
-    let end_data = optional_number(slots, DATA_REF_END)?;
+    let overlap = letter(filled.slots, CAN_OVERLAP, b'N');
+    let f = code_fields(filled.slots, ID, DATA_REF_START, overlap)?;
+    let end_data = optional_number(filled.slots, DATA_REF_END)?;
     Some(Inline::Nested(
         Item::Pair(Form::P, Half::Start, f),
         Item::Pair(Form::P, Half::End, end_of_pc(f, end_data)),
@@ -162,9 +169,10 @@ fn read_pc(slots: &[u32], count: usize) -> Option<Inline>
 }
 
 // The fields of sc and ec, whose id is in this slot: canOverlap is yes where it is absent.
-fn half_fields(slots: &[u32], count: usize, id_slot: usize) -> Option<Fields>
-    requires { SomeSlots slots.now count × HalfId id_slot }
-    ensures { ByAttributes slots.now count (half_fields (name_of id_slot)) (coded_meaning result) }
+fn half_fields(filled: Filled, id_slot: usize) -> Option<Fields>
+    requires { HalfId id_slot }
+    ensures { ByAttributes filled.entry.slots.now filled.entry.count (half_fields (name_of id_slot))
+        (coded_meaning result) }
 {
     let allowed = [
         id_slot,
@@ -176,11 +184,11 @@ fn half_fields(slots: &[u32], count: usize, id_slot: usize) -> Option<Fields>
         CAN_REORDER,
         ISOLATED,
     ];
-    if !has_only(slots, count, &allowed) {
+    if !has_only(filled, &allowed) {
         return None;
     }
-    let overlap = letter(slots, CAN_OVERLAP, b'Y');
-    code_fields(slots, id_slot, DATA_REF, overlap)
+    let overlap = letter(filled.slots, CAN_OVERLAP, b'Y');
+    code_fields(filled.slots, id_slot, DATA_REF, overlap)
 }
 
 // A half of a pair, or an isolated code.
@@ -194,12 +202,11 @@ fn half_item(isolated: u8, half: Half, f: Fields) -> Item
 }
 
 // <sc>
-fn read_sc(slots: &[u32], count: usize) -> Option<Inline>
-    requires { SomeSlots slots.now count }
-    ensures { ByAttributes slots.now count read_sc (inline_meaning result) }
+fn read_sc(filled: Filled) -> Option<Inline>
+    ensures { ByAttributes filled.entry.slots.now filled.entry.count read_sc (inline_meaning result) }
 {
-    let isolated = letter(slots, ISOLATED, b'N')?;
-    let f = half_fields(slots, count, ID)?;
+    let isolated = letter(filled.slots, ISOLATED, b'N')?;
+    let f = half_fields(filled, ID)?;
     Some(Inline::Single(half_item(isolated, Half::Start, f)))
 }
 
@@ -215,25 +222,23 @@ fn half_id(isolated: u8) -> usize
 
 // <ec>
 // Like read_sc but for the half and the slot of its id, which hangs on isolated here: as one no plainer.
-fn read_ec(slots: &[u32], count: usize) -> Option<Inline>
-    requires { SomeSlots slots.now count }
-    ensures { ByAttributes slots.now count read_ec (inline_meaning result) }
+fn read_ec(filled: Filled) -> Option<Inline>
+    ensures { ByAttributes filled.entry.slots.now filled.entry.count read_ec (inline_meaning result) }
 {
-    let isolated = letter(slots, ISOLATED, b'N')?;
-    let f = half_fields(slots, count, half_id(isolated))?;
+    let isolated = letter(filled.slots, ISOLATED, b'N')?;
+    let f = half_fields(filled, half_id(isolated))?;
     Some(Inline::Single(half_item(isolated, Half::End, f)))
 }
 
 // <mrk>
-fn read_mrk(slots: &[u32], count: usize) -> Option<Inline>
-    requires { SomeSlots slots.now count }
-    ensures { ByAttributes slots.now count read_mrk (inline_meaning result) }
+fn read_mrk(filled: Filled) -> Option<Inline>
+    ensures { ByAttributes filled.entry.slots.now filled.entry.count read_mrk (inline_meaning result) }
 {
-    if !has_only(slots, count, &[ID, TRANSLATE]) {
+    if !has_only(filled, &[ID, TRANSLATE]) {
         return None;
     }
-    let id = required_number(slots, ID)?;
-    let translate = letter(slots, TRANSLATE, b'-')?;
+    let id = required_number(filled.slots, ID)?;
+    let translate = letter(filled.slots, TRANSLATE, b'-')?;
     Some(Inline::Nested(
         Item::AnnotationStart(Form::P, id, translate),
         Item::AnnotationEnd(Form::P, id),
@@ -242,66 +247,64 @@ fn read_mrk(slots: &[u32], count: usize) -> Option<Inline>
 
 // <sm>
 // It reads what read_mrk reads, but makes one item, not two: as one function no plainer.
-fn read_sm(slots: &[u32], count: usize) -> Option<Inline>
-    requires { SomeSlots slots.now count }
-    ensures { ByAttributes slots.now count read_sm (inline_meaning result) }
+fn read_sm(filled: Filled) -> Option<Inline>
+    ensures { ByAttributes filled.entry.slots.now filled.entry.count read_sm (inline_meaning result) }
 {
-    if !has_only(slots, count, &[ID, TRANSLATE]) {
+    if !has_only(filled, &[ID, TRANSLATE]) {
         return None;
     }
-    let id = required_number(slots, ID)?;
-    let translate = letter(slots, TRANSLATE, b'-')?;
+    let id = required_number(filled.slots, ID)?;
+    let translate = letter(filled.slots, TRANSLATE, b'-')?;
     Some(Inline::Single(Item::AnnotationStart(Form::S, id, translate)))
 }
 
 // <em>
-fn read_em(slots: &[u32], count: usize) -> Option<Inline>
-    requires { SomeSlots slots.now count }
-    ensures { ByAttributes slots.now count read_em (inline_meaning result) }
+fn read_em(filled: Filled) -> Option<Inline>
+    ensures { ByAttributes filled.entry.slots.now filled.entry.count read_em (inline_meaning result) }
 {
-    if !has_only(slots, count, &[START_REF]) {
+    if !has_only(filled, &[START_REF]) {
         return None;
     }
-    let id = required_number(slots, START_REF)?;
+    let id = required_number(filled.slots, START_REF)?;
     Some(Inline::Single(Item::AnnotationEnd(Form::S, id)))
 }
 
 // The annotations, by their names.
-fn annotation_element(name: &[u8], slots: &[u32], count: usize) -> Option<Inline>
-    requires { SomeSlots slots.now count }
-    ensures { ByAttributes slots.now count (annotation_of_name name.now) (inline_meaning result) }
+fn annotation_element(name: &[u8], filled: Filled) -> Option<Inline>
+    ensures { ByAttributes filled.entry.slots.now filled.entry.count (annotation_of_name name.now)
+        (inline_meaning result) }
 {
     if is_word(name, b"mrk") {
-        return read_mrk(slots, count);
+        return read_mrk(filled);
     }
     if is_word(name, b"sm") {
-        return read_sm(slots, count);
+        return read_sm(filled);
     }
     if is_word(name, b"em") {
-        return read_em(slots, count);
+        return read_em(filled);
     }
     None
 }
 
 // The inline element of this name.
-pub fn inline_element(name: &[u8], slots: &[u32], count: usize) -> Option<Inline>
-    requires { SomeSlots slots.now count }
-    ensures { ByAttributes slots.now count (inline_of_name name.now) (inline_meaning result) }
+pub fn inline_element(name: &[u8], filled: Filled) -> Option<Inline>
+    ensures { ByAttributes filled.entry.slots.now filled.entry.count (inline_of_name name.now)
+        (inline_meaning result) }
 {
     if is_word(name, b"cp") {
-        return read_cp(slots, count);
+        return read_cp(filled);
     }
     if is_word(name, b"ph") {
-        return read_ph(slots, count);
+        return read_ph(filled);
     }
     if is_word(name, b"pc") {
-        return read_pc(slots, count);
+        return read_pc(filled);
     }
     if is_word(name, b"sc") {
-        return read_sc(slots, count);
+        return read_sc(filled);
     }
     if is_word(name, b"ec") {
-        return read_ec(slots, count);
+        return read_ec(filled);
     }
-    annotation_element(name, slots, count)
+    annotation_element(name, filled)
 }

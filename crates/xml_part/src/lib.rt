@@ -14,6 +14,7 @@ use table_builder::TableBuilder;
 use xml_attributes::Tagged;
 use xml_content::content;
 use xml_element::{Blamed, EndTag, StartTag, attributes_at, blamed_tag, ends_name};
+use xml_elements::Filled;
 use xml_heads::{Head, part_head, target_order};
 use xml_names::Span;
 use xml_piece::{Piece, piece_at};
@@ -163,7 +164,11 @@ fn target_at(
     if !is_word(tag.name.of(text), b"target") {
         return Err(Blamed { place: tag.place });
     }
-    let Some(order) = target_order(&slots, tagged.count) else {
+    let filled = Filled {
+        slots: &slots,
+        count: tagged.count,
+    };
+    let Some(order) = target_order(filled) else {
         return Err(Blamed { place: tag.place });
     };
     put_order(builder, order, position);
@@ -245,7 +250,11 @@ fn head(text: &[u8], tag: StartTag, builder: &mut TableBuilder) -> Result<usize,
     if tagged.short {
         return Err(Blamed { place: tag.place });
     }
-    let Some(head) = part_head(tag.name.of(text), &slots, tagged.count) else {
+    let filled = Filled {
+        slots: &slots,
+        count: tagged.count,
+    };
+    let Some(head) = part_head(tag.name.of(text), filled) else {
         return Err(Blamed { place: tag.place });
     };
     put_head(builder, head);

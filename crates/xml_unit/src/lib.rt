@@ -11,6 +11,7 @@ ghost use Rattle.xml_unit.specs.Units.{Finishes, UnitEnds, BehindUnit, TextRead}
 
 use table_builder::TableBuilder;
 use xml_element::{Blamed, EndTag, StartTag, attributes_at};
+use xml_elements::Filled;
 use xml_heads::unit_opening;
 use xml_part::{AnyTag, Outer, outer_at, part, tag_behind};
 use xml_records::{put_closing, put_opening};
@@ -72,7 +73,11 @@ fn unit(text: &[u8], tag: StartTag, builder: &mut TableBuilder) -> Result<(), Bl
     if !is_word(tag.name.of(text), b"unit") {
         return Err(Blamed { place: tag.place });
     }
-    let Some(letter) = unit_opening(&slots, tagged.count) else {
+    let filled = Filled {
+        slots: &slots,
+        count: tagged.count,
+    };
+    let Some(letter) = unit_opening(filled) else {
         return Err(Blamed { place: tag.place });
     };
     put_opening(builder, letter);

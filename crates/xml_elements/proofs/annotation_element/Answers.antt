@@ -9,7 +9,7 @@ unfolding Words·all
 returns-then-is_word c =
     let args = c.args in
     let is = sym c.is_word.ensures ∙ c.if-is_word.true in
-    is_mrk args.name.now args.slots.now args.count _ is c.read_mrk.ensures
+    is_mrk args.name.now args.filled.slots.now args.filled.count _ is c.read_mrk.ensures
 
 -- return read_sm(slots, count)
 pub returns-then-is_word-2 : goal.returns-then-is_word-2
@@ -18,7 +18,7 @@ returns-then-is_word-2 c =
     let args = c.args in
     let not-mrk = sym c.is_word.ensures ∙ c.if-is_word.false in
     let is = sym c.is_word-2.ensures ∙ c.if-is_word-2.true in
-    is_sm args.name.now args.slots.now args.count _ not-mrk is c.read_sm.ensures
+    is_sm args.name.now args.filled.slots.now args.filled.count _ not-mrk is c.read_sm.ensures
 
 -- return read_em(slots, count)
 pub returns-then-is_word-3 : goal.returns-then-is_word-3
@@ -28,7 +28,7 @@ returns-then-is_word-3 c =
     let not-mrk = sym c.is_word.ensures ∙ c.if-is_word.false in
     let not-sm = sym c.is_word-2.ensures ∙ c.if-is_word-2.false in
     let is = sym c.is_word-3.ensures ∙ c.if-is_word-3.true in
-    is_em args.name.now args.slots.now args.count _ not-mrk not-sm is c.read_em.ensures
+    is_em args.name.now args.filled.slots.now args.filled.count _ not-mrk not-sm is c.read_em.ensures
 
 -- Inline::Bad
 pub returns : goal.returns
@@ -38,4 +38,4 @@ returns c =
     let not-mrk = sym c.is_word.ensures ∙ c.if-is_word.false in
     let not-sm = sym c.is_word-2.ensures ∙ c.if-is_word-2.false in
     let not-em = sym c.is_word-3.ensures ∙ c.if-is_word-3.false in
-    is_none args.name.now args.slots.now args.count not-mrk not-sm not-em
+    is_none args.name.now args.filled.slots.now args.filled.count not-mrk not-sm not-em

@@ -1,14 +1,14 @@
 use native.Mathlib.Omega.{arith}
 use mathlib.Core.Path.{◌∙◌, ap}
 use Rattle.xml_elements.specs.Reading.{BySlots, value_meaning}
-use Rattle.xml_elements.proofs.SlotLaws.{told_long, letter_read}
+use Rattle.xml_elements.proofs.SlotLaws.{letter_read}
 use Rattle.xml_elements.proofs.letter.Goals as goal
 
 -- slots[slot]
 pub bounds-slots-slot : goal.bounds-slots-slot
 bounds-slots-slot c =
-    let ((ats, told), (low, high)) = c.requires in
-    omega (arith, told_long c.args.slots.now ats told)
+    let (sized, (low, high)) = c.requires in
+    omega (arith, sized)
 
 -- u8::try_from(..).ok()
 pub returns : goal.returns

@@ -1,14 +1,14 @@
 use native.Mathlib.Omega.{arith}
 use mathlib.Core.Path.{◌∙◌, ap}
 use Rattle.xml_elements.specs.Reading.{BySlots, value_meaning}
-use Rattle.xml_elements.proofs.SlotLaws.{told_long, optional_read}
+use Rattle.xml_elements.proofs.SlotLaws.{optional_read}
 use Rattle.xml_elements.proofs.optional_number.Goals as goal
 
 -- slots[slot]
 pub bounds-slots-slot : goal.bounds-slots-slot
 bounds-slots-slot c =
-    let ((ats, told), number) = c.requires in
-    omega (arith, told_long c.args.slots.now ats told)
+    let (sized, number) = c.requires in
+    omega (arith, sized)
 
 -- u16::try_from(..).ok()
 pub returns : goal.returns

@@ -5,20 +5,18 @@ use Rattle.xliff.specs.Bytes.{among}
 use Rattle.xml.specs.Attributes.{with}
 use Rattle.xml_slots.specs.Slots.{ByAttributes}
 use Rattle.xml_elements.specs.Reading.{apart}
-use Rattle.xml_elements.proofs.SlotLaws.{told_long}
 use Rattle.xml_elements.proofs.ElementLaws.{cp_is, digits_read}
 use Rattle.xml_elements.proofs.read_cp.Goals as goal
 
--- slots[HEX]
-pub bounds-slots-7 : goal.bounds-slots-7
-bounds-slots-7 c =
-    let some = c.requires in
-    omega (arith, told_long c.args.slots.now some.attributes some.slotted.told)
+-- filled.slots[HEX]
+pub bounds-filled-7 : goal.bounds-filled-7
+bounds-filled-7 c =
+    omega (arith, c.args.filled.sized)
 
 -- has_only(slots, count, &[HEX]): none of them twice
 pub has_only-requires : goal.has_only-requires
 unfolding apart among
-has_only-requires c = (c.requires, refl)
+has_only-requires c = refl
 
 -- other attributes: None
 pub returns-then-not-has_only : goal.returns-then-not-has_only
@@ -31,7 +29,7 @@ pub returns-in_err-hex : goal.returns-in_err-hex
 unfolding ByAttributes with
 returns-in_err-hex c =
     λ ats s.
-    let read = digits_read c.args.slots.now ats s.told _ c.try_from.ensures in
+    let read = digits_read c.args.filled.slots.now ats s.told _ c.try_from.ensures in
     let digits = rw (← c.ok.ensures.value, c.in_err-hex.was) at read in
     rw (
       c.from_residual.ensures,
@@ -46,7 +44,7 @@ pub returns : goal.returns
 unfolding ByAttributes with
 returns c =
     λ ats s.
-    let read = digits_read c.args.slots.now ats s.told _ c.try_from.ensures in
+    let read = digits_read c.args.filled.slots.now ats s.told _ c.try_from.ensures in
     let digits = rw (← c.ok.ensures.value, c.in_ok-hex.was) at read in
     rw (
       c.from.ensures,

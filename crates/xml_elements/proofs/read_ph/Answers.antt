@@ -10,7 +10,7 @@ use Rattle.xml_elements.proofs.read_ph.Goals as goal
 -- has_only(..): none of the slots twice
 pub has_only-requires : goal.has_only-requires
 unfolding apart among
-has_only-requires c = (c.requires, refl)
+has_only-requires c = refl
 
 -- other attributes: None
 pub returns-then-not-has_only : goal.returns-then-not-has_only

@@ -9,12 +9,12 @@ use Rattle.xml_elements.proofs.read_sc.Goals as goal
 -- no isolated: None
 pub returns-in_err-isolated : goal.returns-in_err-isolated
 returns-in_err-isolated c =
-    rw c.from_residual.ensures (sc_none c.args.slots.now c.args.count c.in_err-isolated.ensures)
+    rw c.from_residual.ensures (sc_none c.args.filled.slots.now c.args.filled.count c.in_err-isolated.ensures)
 
 -- half_fields(slots, count, ID): none of the slots twice
 pub half_fields-requires : goal.half_fields-requires
 unfolding apart among
-half_fields-requires c = (c.requires, (refl, omega arith))
+half_fields-requires c = ((refl, omega arith))
 
 -- no fields: None
 pub returns-in_err-f : goal.returns-in_err-f
@@ -22,7 +22,7 @@ unfolding with
 returns-in_err-f c =
     let isolated = c.in_ok-isolated in
     rw c.from_residual-in_err-f.ensures
-    (sc_is c.args.slots.now c.args.count isolated.isolated isolated.ensures _ c.in_err-f.ensures)
+    (sc_is c.args.filled.slots.now c.args.filled.count isolated.isolated isolated.ensures _ c.in_err-f.ensures)
 
 -- Some(Inline::Single(half_item(isolated, Half::Start, f)))
 pub returns : goal.returns
@@ -30,4 +30,4 @@ unfolding with
 returns c =
     let isolated = c.in_ok-isolated in
     rw c.half_item.ensures
-    (sc_is c.args.slots.now c.args.count isolated.isolated isolated.ensures _ c.in_ok-f.ensures)
+    (sc_is c.args.filled.slots.now c.args.filled.count isolated.isolated isolated.ensures _ c.in_ok-f.ensures)
