@@ -66,7 +66,7 @@ pub fn ends_name(text: &[u8], name: Span, end: EndTag) -> bool
 // The attributes of a start tag, in slots. It is blamed where it is at fault, and the text's end where that cuts it.
 // A tag does not hold the text: that it stands in it (TagIn, EndNameIn) is asked wherever both come.
 pub fn attributes_at(text: &[u8], tag: StartTag, slots: &mut [u32]) -> Result<Tagged, Blamed>
-    requires { TagIn text.now tag × (slots.old ≡ slots_of []) }
+    requires { (tag.name.upto ≤ length text.now) × (slots.old ≡ slots_of []) }
     ensures { AttributesRead text.now tag slots.new result }
 {
     match read_attributes(text, tag.name.upto, slots) {
@@ -79,7 +79,7 @@ pub fn attributes_at(text: &[u8], tag: StartTag, slots: &mut [u32]) -> Result<Ta
 
 // The place blamed for a start tag where none may stand: the tag, or the text's end where that cuts it.
 pub fn blamed_tag(text: &[u8], tag: StartTag) -> Blamed
-    requires { TagIn text.now tag }
+    requires { tag.name.upto ≤ length text.now }
     ensures { TagBlamed text.now tag result.place }
 {
     let mut slots = [ABSENT; SLOTS];

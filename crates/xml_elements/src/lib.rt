@@ -126,19 +126,16 @@ fn end_of_pc(f: Fields, data_ref: u16) -> Fields
 {
     let letters = f.letters;
     Fields {
-        id: f.id,
-        copy_of: f.copy_of,
-        data_ref: data_ref,
+        data_ref,
         letters: Letters {
-            copy: letters.copy,
-            delete: letters.delete,
-            overlap: letters.overlap,
             reorder: if letters.reorder == b'F' {
                 b'N'
             } else {
                 letters.reorder
             },
+            ..letters
         },
+        ..f
     }
 }
 

@@ -23,7 +23,7 @@ pub fn unit_opening(filled: Filled) -> Option<u8>
     if !has_only(filled, &[ID, CAN_RESEGMENT]) {
         return None;
     }
-    let _id = required_number(filled.slots, ID)?;
+    required_number(filled.slots, ID)?;
     letter(filled.slots, CAN_RESEGMENT, b'Y')
 }
 

@@ -11,7 +11,7 @@ use Rattle.xml_part.proofs.source_at.Goals as goal
 
 -- attributes_at(text, tag, &mut slots)
 pub attributes_at-requires : goal.attributes_at-requires
-attributes_at-requires c = (c.requires, all_absent)
+attributes_at-requires c = (c.requires.inside, all_absent)
 
 -- attributes_at(..)?: the tag is at fault
 pub returns-in_err-tagged : goal.returns-in_err-tagged

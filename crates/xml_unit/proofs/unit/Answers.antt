@@ -10,7 +10,7 @@ use Rattle.xml_unit.proofs.unit.Goals as goal
 
 -- attributes_at(text, tag, &mut slots)
 pub attributes_at-requires : goal.attributes_at-requires
-attributes_at-requires c = (c.requires.0, all_absent)
+attributes_at-requires c = (c.requires.0.inside, all_absent)
 
 -- attributes_at(..)?: the tag is at fault
 pub returns-in_err-tagged : goal.returns-in_err-tagged
