@@ -6,7 +6,6 @@ use mathlib.Core.Bool.{Bool, true, false, ◌&&◌, ◌||◌, cond}
 use mathlib.Core.List.{List, [], ◌∷◌, ◌++◌, map, append-nil}
 use native.Mathlib.Omega.{arith}
 use lib.ListN.{length, take, drop}
-use Rattle.std.specs.Prelude.{None}
 use Rattle.xliff.specs.Bytes.{two, four, any, two_at}
 use Rattle.xliff.specs.Item.{Item, Content, start, end, form_P, form_S, text, character, standalone, isolated, pair, annotation_start, annotation_end, mark, id_of, class, half, alike, other_half, in_form}
 use Rattle.xliff.specs.Encode.{Record, text_run, inline, code_bytes, field_bytes, record_bytes, spell, content_records, content_bytes, item_before}
@@ -17,6 +16,7 @@ use Rattle.xliff.proofs.unit.Table.{starts_text, content_records_text}
 use Rattle.xliff.proofs.unit.Forms.{item_long}
 use Rattle.walk.specs.Kept.{Kept, kept_end, kept_item, kept_text, items, Inline, an_item, a_text}
 use Rattle.walk.specs.Marks.{number, kind_of, kind_at, kind, is_other, has_other}
+use Rattle.walk.proofs.WalkLaws.{no_other}
 use Rattle.writer.specs.Pieces.{lead, overlay, number_bytes}
 use Rattle.writer.proofs.PieceLaws.{over_lead, two_back}
 use Rattle.cut.specs.Turned.{turned_mark, turn_if, cut_record, cut_records, text_piece}
@@ -74,12 +74,6 @@ pub any_other : (x : Item) (ys : Content) → any (other_half x) ys ≡ has_othe
 unfolding any has_other
 any_other x [] = refl
 any_other x (y ∷ ys) = ap₂ ◌||◌ (other_is x y) (any_other x ys)
-
--- what is no half has no other half
-pub no_other : (i : ℕ) (ys : Content) → has_other None i ys ≡ false
-unfolding any has_other
-no_other i [] = refl
-no_other i (y ∷ ys) = no_other i ys
 
 -- the test on a record's bytes
 turn_is : (x : Item) (s : List ℕ) (ys : Content) → GoodItem x

@@ -54,10 +54,7 @@ fn is_parted(m: Mark, t: &[u8], beyond: &[u8]) -> bool
     requires { (4 ≤ length t.now) × Fair beyond.now }
     ensures { FoundOther beyond.now (kind_of (meaning m)) (number t.now) result }
 {
-    match walk::kind_of(m) {
-        Some(kind) => walk::has_other(beyond, kind, marks::number_at(t, 2)),
-        None => false,
-    }
+    walk::has_other(beyond, walk::kind_of(m), marks::number_at(t, 2))
 }
 
 // One record of the mark `m`, turned if its other half stands beyond the cut.

@@ -27,6 +27,11 @@ pub no_opposite : (k : Option HalfKind) → are_opposite k None ≡ false
 no_opposite None = refl
 no_opposite (Some k) = refl
 
+pub no_other : (i : ℕ) (ys : Content) → has_other None i ys ≡ false
+unfolding any has_other
+no_other i [] = refl
+no_other i (y ∷ ys) = no_other i ys
+
 none : (k : Option HalfKind) (a b : Bool) → are_opposite k None && a ≡ are_opposite k None && b
 none k a b = rw (no_opposite k)
 

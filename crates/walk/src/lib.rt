@@ -62,8 +62,8 @@ fn other_at(c: &[u8], at: usize, kind: HalfKind, id: u16) -> bool
     (kind_of(walker::mark_at(c, at)) == Some(kind.opposite())) & (id == marks::number_at(c, at + 2))
 }
 
-// Whether a content has the other half of a record of that kind and id.
-pub fn has_other(c: &[u8], kind: HalfKind, id: u16) -> bool
+// Whether a content has the other half of a half of that kind and id.
+fn has_half(c: &[u8], kind: HalfKind, id: u16) -> bool
     requires { Fair c.now }
     ensures { FoundOther c.now (Some kind) id result }
 {
@@ -77,6 +77,17 @@ pub fn has_other(c: &[u8], kind: HalfKind, id: u16) -> bool
         at = next;
     }
     false
+}
+
+// Whether a content has the other half of a record of that kind and id; of a record that is no half, none is.
+pub fn has_other(c: &[u8], kind: Option<HalfKind>, id: u16) -> bool
+    requires { Fair c.now }
+    ensures { FoundOther c.now kind id result }
+{
+    match kind {
+        Some(half) => has_half(c, half, id),
+        None => false,
+    }
 }
 
 // The item stands in the record met, behind so many bytes of its text; or the items left.

@@ -6,7 +6,7 @@ use Rattle.xliff.specs.Encode.{Record}
 use Rattle.walk.specs.Kept.{Of}
 use Rattle.walk.specs.Marks.{is_other}
 use Rattle.walk.proofs.WalkLaws.{Searched}
-use Rattle.walk.proofs.has_other.Given as goal
+use Rattle.walk.proofs.has_half.Given as goal
 
 abbrev pub invariant-loop-at : goal.invariant-loop-at
 invariant-loop-at l = (l.at ≤ length l.c) × ((rs : List Record) → Of l.c rs → Searched (is_other (Some l.kind) l.id) l.c rs l.at)
