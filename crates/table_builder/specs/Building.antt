@@ -1,6 +1,6 @@
 -- What a table holds while it is built, record by record and, within a text, code point by code point. Stepping stones.
 use Rattle.std.specs.Prelude.{ℕ, ◌+◌, ◌≡◌, Bool, true, false, ◌||◌, List, [], ◌∷◌, ◌++◌, length, take, ltb, Option as RustOption, Some, None}
-use Rattle.std.specs.Borrow.{Bor}
+use Rattle.std.specs.Borrow.{Bor, MutBor}
 use Rattle.xliff.specs.Text.{utf8s}
 use Rattle.xliff.specs.Encode.{Record, text_run, record_bytes, spell}
 use Rattle.xliff.specs.Good.{part_heads}
@@ -20,6 +20,15 @@ with_run done run = done ++ run_records run
 unfoldable pub past_limits : List Record → Bool
 past_limits rs =
     ltb most_bytes (length (spell rs)) || (ltb most_records (length rs) || ltb most_parts (part_heads rs))
+
+-- a builder holds the array that was lent to it, with the bytes that it had
+pub record Lent (table : MutBor (List ℕ)) (builder : TableBuilder) : Type 0 where
+  pub same : builder.table.ghost_name ≡ table.ghost_name
+  pub bytes : builder.table.now ≡ table.now
+
+-- two builders hold the same lent array, before a step and after it, also beyond a limit
+abbrev pub SameLoan : TableBuilder → TableBuilder → Type 0
+SameLoan builder builder' = builder'.table.ghost_name ≡ builder.table.ghost_name
 
 -- the array and the numbers, for records within the limits
 pub record Within (builder : TableBuilder) (done : List Record) (run : List ℕ) : Type 0 where

@@ -27,12 +27,13 @@ pub struct TableBuilder<'a> {
 }
 
 impl<'a> TableBuilder<'a> {
-    ghost use Rattle.table_builder.specs.Building.{Holds, RecordPut, CodePointPut, Grows, TableTold};
+    ghost use Rattle.table_builder.specs.Building.{Lent, SameLoan, Holds, RecordPut, CodePointPut, Grows, TableTold};
 
     // Nothing as yet.
     pub fn new(table: &'a mut [u8]) -> TableBuilder<'a>
         requires { length table.old ≡ most_bytes }
-        ensures { Holds result [] [] }
+        ensures holds { Holds result [] [] }
+        ensures lent { Lent table.entry result }
     {
         TableBuilder {
             table,
@@ -65,6 +66,7 @@ impl<'a> TableBuilder<'a> {
     pub fn put_record(&mut self, bytes: &[u8], heads_part: bool)
         ensures put { RecordPut self.old bytes.now heads_part self.new }
         ensures grows { Grows self.old bytes.now self.new }
+        ensures same { SameLoan self.old self.new }
     {
         if self.over {
             return;
@@ -86,7 +88,8 @@ impl<'a> TableBuilder<'a> {
     // The first code point of a text.
     fn put_first(&mut self, c: u32)
         requires { (c ≤ 0x10FFFF) × (self.old.over ≡ false) × (self.old.text ≡ 0) }
-        ensures { CodePointPut self.old c self.new }
+        ensures put { CodePointPut self.old c self.new }
+        ensures same { SameLoan self.old self.new }
     {
         let wide = utf8::width(c);
         let mut bytes = [0u8; 8];
@@ -102,7 +105,8 @@ impl<'a> TableBuilder<'a> {
     // A further one.
     fn put_further(&mut self, c: u32)
         requires { (c ≤ 0x10FFFF) × (self.old.over ≡ false) × (1 ≤ self.old.text) }
-        ensures { CodePointPut self.old c self.new }
+        ensures put { CodePointPut self.old c self.new }
+        ensures same { SameLoan self.old self.new }
     {
         let wide = utf8::width(c);
         if MOST_BYTES - self.used < wide {
@@ -120,7 +124,8 @@ impl<'a> TableBuilder<'a> {
     // A code point behind what is built: in the text that stands last, or in a new one.
     pub fn put_code_point(&mut self, c: u32)
         requires { c ≤ 0x10FFFF }
-        ensures { CodePointPut self.old c self.new }
+        ensures put { CodePointPut self.old c self.new }
+        ensures same { SameLoan self.old self.new }
     {
         if self.over {
             return;

@@ -69,4 +69,5 @@ put_beyond builder bytes part over done run r held b h = record_beyond held r ov
 
 pub beyond_collects : {builder : TableBuilder} (q : ℕ) → builder.over ≡ true → Collects (target_head q ∷ []) builder builder
 beyond_collects {builder} q over =
-    collects_record (put_beyond builder (record_bytes (target_head q)) (is_part (target_head q)) over) (whole_target q) refl refl
+    collects_record (put_beyond builder (record_bytes (target_head q)) (is_part (target_head q)) over) refl
+    (whole_target q) refl refl

@@ -239,7 +239,12 @@ module _ (text : List ℕ) where
   text_bad p e = records_are ∙ e
 
   pub text_read : {builder : TableBuilder} (builder' : TableBuilder) → Holds builder [] [] → (m : Result (Unit {0}) Blamed)
-      → Finishes unit_due (rest_at text 0) builder builder' m → TextRead text builder' m
+      → Finishes unit_due (rest_at text 0) builder builder' m → TextRead text builder builder' m
   text_read builder' h (Ok done) f =
-      record { records = f.records; are = records_are ∙ f.are; collected = f.collects.on [] (collected_none h) }
+      record {
+        same = f.collects.same;
+        records = f.records;
+        are = records_are ∙ f.are;
+        collected = f.collects.on [] (collected_none h);
+      }
   text_read builder' h (Err p) k = records_are ∙ k

@@ -4,6 +4,7 @@ use Rattle.xliff.specs.Encode.{Record}
 use Rattle.xml.specs.Tokens.{Token}
 use Rattle.xml.specs.Elements.{Due, part_due, nothing_due, outside, read, bad, elements, xml_records}
 use Rattle.table_builder.specs.declared.TableBuilder.{TableBuilder}
+use Rattle.table_builder.specs.Building.{SameLoan}
 use Rattle.xml_piece.specs.Pieces.{rest_at}
 use Rattle.xml_records.specs.Collecting.{Collected, Collects}
 use Rattle.xml_element.specs.declared.Blamed.{Blamed}
@@ -26,12 +27,13 @@ abbrev pub BehindUnit : List ℕ → ℕ → Result (Unit {0}) Blamed → Type 0
 BehindUnit text start (Ok done) = elements (outside nothing_due) (rest_at text start) ≡ read []
 BehindUnit text start (Err blamed) = elements (outside nothing_due) (rest_at text start) ≡ bad blamed.place
 
--- a whole text: the records of a unit, collected; or the place at fault
-pub record Whole (text : List ℕ) (builder' : TableBuilder) : Type 0 where
+-- a whole text: the records of a unit, collected in the array that was lent; or the place at fault
+pub record Whole (text : List ℕ) (builder builder' : TableBuilder) : Type 0 where
+  pub same : SameLoan builder builder'
   pub records : List Record
   pub are : xml_records text ≡ read records
   pub collected : Collected builder' records
 
-abbrev pub TextRead : List ℕ → TableBuilder → Result (Unit {0}) Blamed → Type 0
-TextRead text builder' (Ok done) = Whole text builder'
-TextRead text builder' (Err blamed) = xml_records text ≡ bad blamed.place
+abbrev pub TextRead : List ℕ → TableBuilder → TableBuilder → Result (Unit {0}) Blamed → Type 0
+TextRead text builder builder' (Ok done) = Whole text builder builder'
+TextRead text builder builder' (Err blamed) = xml_records text ≡ bad blamed.place

@@ -91,7 +91,7 @@ fn unit(text: &[u8], tag: StartTag, builder: &mut TableBuilder) -> Result<(), Bl
 // A whole text, into a table that holds nothing as yet.
 pub fn read_unit(text: &[u8], builder: &mut TableBuilder) -> Result<(), Blamed>
     requires { Holds builder.old [] [] }
-    ensures { TextRead text.now builder.new result }
+    ensures { TextRead text.now builder.old builder.new result }
 {
     match tag_behind(text, 0)? {
         AnyTag::Start(tag) => unit(text, tag, builder),

@@ -7,4 +7,4 @@ use Rattle.xml_records.proofs.put_closing.Goals as goal
 -- builder.put_record(b"UE", false)
 pub returns : goal.returns
 unfolding record_bytes is_part
-returns c = collects_record c.put_record.ensures.put whole_closing refl refl
+returns c = collects_record c.put_record.ensures.put c.put_record.ensures.same whole_closing refl refl

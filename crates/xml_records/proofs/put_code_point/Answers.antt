@@ -3,4 +3,4 @@ use Rattle.xml_records.proofs.put_code_point.Goals as goal
 
 -- builder.put_code_point(c)
 pub returns : goal.returns
-returns c = collects_code_point c.put_code_point.ensures
+returns c = collects_code_point c.put_code_point.ensures.put c.put_code_point.ensures.same

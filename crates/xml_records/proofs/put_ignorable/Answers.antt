@@ -20,5 +20,5 @@ returns c =
     let bytes = record_bytes (part_head (ignorable id)) in
     let mark = behind (none_yet (replicate 4 0)) (73 ∷ 71 ∷ []) c.put_mark-id_at.ensures in
     let wrote = written (behind mark (number_bytes id) c.put_number.ensures) bytes refl in
-    collects_record c.put_record.ensures.put (whole_head (ignorable id))
+    collects_record c.put_record.ensures.put c.put_record.ensures.same (whole_head (ignorable id))
     (array_is bytes (replicate 4 0) wrote (omega arith)) refl

@@ -28,4 +28,4 @@ unfolding is_part
 returns c =
     let x = c.args.x in
     let wrote = front_is (record_bytes (inline (item x))) (replicate 12 0) c.put_item-wide.ensures in
-    collects_record c.put_record.ensures.put (whole_item x) wrote refl
+    collects_record c.put_record.ensures.put c.put_record.ensures.same (whole_item x) wrote refl

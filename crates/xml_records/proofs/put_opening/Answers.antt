@@ -19,5 +19,5 @@ returns c =
     let bytes = record_bytes (opening o) in
     let mark = behind (none_yet (replicate 3 0)) (85 ∷ 78 ∷ []) c.put_mark-letter_at.ensures in
     let wrote = written (behind mark (letter ∷ []) c.put_byte.ensures) bytes refl in
-    collects_record c.put_record.ensures.put (whole_opening o)
+    collects_record c.put_record.ensures.put c.put_record.ensures.same (whole_opening o)
     (array_is bytes (replicate 3 0) wrote (omega arith)) refl

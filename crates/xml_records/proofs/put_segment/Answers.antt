@@ -22,4 +22,4 @@ returns c =
     let bytes = head_bytes (segment f) in
     let head = c.put_segment.ensures in
     let wrote = array_is bytes (replicate 6 0) head (omega (arith, segment_long f)) in
-    collects_record c.put_record.ensures.put (whole_head (segment f)) wrote refl
+    collects_record c.put_record.ensures.put c.put_record.ensures.same (whole_head (segment f)) wrote refl

@@ -20,4 +20,4 @@ returns c =
     let bytes = record_bytes (target_head order) in
     let head = c.put_target_head.ensures in
     let wrote = array_is bytes (replicate 4 0) head (omega (arith, target_long order)) in
-    collects_record c.put_record.ensures.put (whole_target order) wrote refl
+    collects_record c.put_record.ensures.put c.put_record.ensures.same (whole_target order) wrote refl

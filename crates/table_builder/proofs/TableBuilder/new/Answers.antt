@@ -3,5 +3,5 @@ use Rattle.table_builder.proofs.RecordLaws.{empty}
 use Rattle.table_builder.proofs.TableBuilder.new.Goals as goal
 
 -- TableBuilder { table, used: 0, .. }
-pub returns : goal.returns
-returns c = empty refl refl refl refl refl
+pub returns-clause-holds : goal.returns-clause-holds
+returns-clause-holds c = empty refl refl refl refl refl

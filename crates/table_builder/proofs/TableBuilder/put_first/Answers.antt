@@ -9,9 +9,9 @@ use Rattle.table_builder.proofs.TextLaws.{first_wrote, first_passed, first_held}
 use Rattle.table_builder.proofs.TableBuilder.put_first.Goals as goal
 
 -- self.text = wide
-pub returns-then-not-self : goal.returns-then-not-self
+pub returns-then-not-self-clause-put : goal.returns-then-not-self-clause-put
 unfolding RecordPut CodePointPut is_part
-returns-then-not-self c =
+returns-then-not-self-clause-put c =
     let point = c.args.c in
     let width = c.width-wide in
     let mark = c.put_mark-length_at in
@@ -28,9 +28,9 @@ returns-then-not-self c =
     refl width.ensures.0
 
 -- a limit is passed
-pub returns-else-not-self : goal.returns-else-not-self
+pub returns-else-not-self-clause-put : goal.returns-else-not-self-clause-put
 unfolding RecordPut CodePointPut is_part
-returns-else-not-self c =
+returns-else-not-self-clause-put c =
     let point = c.args.c in
     let width = c.width-wide in
     let mark = c.put_mark-length_at in
