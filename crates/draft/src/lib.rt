@@ -56,7 +56,7 @@ impl<'a> Draft<'a> {
         }
         let behind = self.used + bytes.len();
         if !self.measured {
-            self.out[self.used..behind].copy_from_slice(bytes);
+            writer::put(&mut self.out[self.used..], bytes);
         }
         self.used = behind;
     }

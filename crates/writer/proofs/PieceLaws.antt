@@ -4,8 +4,8 @@ use mathlib.Core.Path.{◌≡◌, refl, sym, ap, ◌∙◌}
 use mathlib.Core.List.{List, [], ◌∷◌, ◌++◌, append_assoc, append-nil}
 use native.Mathlib.Numerals.{add-one}
 use native.Mathlib.Omega.{arith}
-use lib.ListN.{length, take, drop, set, length-drop, length-append, drop_of_length-le}
-use lib.Seq.{append_snoc, drop-drop, take-append_seam, drop-append_seam, drop-append-add, set_split}
+use lib.ListN.{length, take, drop, get_or, set, length-drop, length-append, drop_of_length-le}
+use lib.Seq.{take-length, take-suc, drop-cons, set_at, length-take-le, append_snoc, drop-drop, take-append_seam, drop-append_seam, drop-append-add, set_split}
 use borrow.Rule.Slice.PartMut.{put_mid}
 use Rattle.writer.specs.Pieces.{lead, Written, rest, back, overlay, bytes_of_mark}
 use Rattle.xliff.proofs.lists.Slices.{tail_is}
@@ -13,6 +13,16 @@ use Rattle.xliff.proofs.lists.Slices.{tail_is}
 -- nothing is behind `&s[n..]`
 pub tail_ends : (n : ℕ) (s : List ℕ) → drop (length s - n) (drop n s) ≡ []
 tail_ends n s = drop_of_length-le (drop n s) {i = length s - n} (omega (arith, length-drop n s))
+
+-- one byte more of a copy
+pub lead_suc : (s out : List ℕ) (i : ℕ) → i < length s → i < length out
+    → set (take i s ++ drop i out) i (get_or s i 0) ≡ take (i + 1) s ++ drop (i + 1) out
+lead_suc s out i h k =
+    rw (add-one, take-suc s i 0, append_snoc, drop-cons out i 0)
+    (set_at (take i s) (get_or out i 0) (drop (suc i) out) (get_or s i 0) i (length-take-le i s (omega arith)))
+
+pub lead_full : (s out : List ℕ) (i : ℕ) → i ≡ length s → take i s ++ drop i out ≡ lead s out
+lead_full s out i e = rw (e, take-length)
 
 -- two bytes copied into `&mut out[at..at + 2]`
 pub two_copied : (out xs piece : List ℕ) (at : ℕ) → xs ≡ piece → length piece ≡ 2

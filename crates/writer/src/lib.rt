@@ -5,11 +5,15 @@ ghost use Rattle.std.specs.Prelude.{◌≡◌, [], ◌∷◌, ◌+◌, ◌<◌, 
 ghost use Rattle.writer.specs.Pieces.{lead, overlay, number_bytes, bytes_of_mark};
 
 // All of `bytes` at the head of `out`.
+// No copy_from_slice: of slices of any length it becomes a call of memmove, and the library for C would need that from
+// outside.
 pub fn put(out: &mut [u8], bytes: &[u8]) -> usize
     requires { length bytes.now ≤ length out.old }
     ensures { (result ≡ length bytes.now) × (out.new ≡ lead bytes.now out.old) }
 {
-    out[..bytes.len()].copy_from_slice(bytes);
+    for i in 0..bytes.len() {
+        out[i] = bytes[i];
+    }
     bytes.len()
 }
 

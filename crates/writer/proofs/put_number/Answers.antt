@@ -1,6 +1,6 @@
 use Rattle.writer.proofs.PieceLaws.{two_copied}
 use Rattle.writer.specs.Pieces.{number_bytes}
-use mathlib.Core.List.{List, ◌∷◌, []}
+use mathlib.Core.List.{◌∷◌, []}
 use mathlib.Core.Path.{◌≡◌, refl, ap, ◌∙◌}
 use native.Mathlib.Omega.{arith}
 use Prim.Native.Nat.{ℕ, ◌/◌, ◌%◌}
