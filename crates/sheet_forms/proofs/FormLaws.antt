@@ -1,14 +1,15 @@
 -- Laws of shown forms, of cells, and of blanks around bytes.
-use Prim.Native.Nat.{ℕ, zero, suc, ◌+◌, ◌-◌, ◌<◌, ◌≤◌}
+use Prim.Native.Nat.{ℕ, zero, suc, ◌+◌, ◌-◌, ◌*◌, ◌/◌, ◌%◌, ◌<◌, ◌≤◌}
 use native.Mathlib.Omega.{arith}
 use native.Mathlib.Numerals.{add-one}
 use mathlib.Core.Path.{◌≡◌, refl, sym, ap, ap₂, ◌∙◌}
 use mathlib.Core.Bool.{Bool, true, false}
-use mathlib.Core.List.{List, [], ◌∷◌, ◌++◌, map, append-nil}
-use lib.ListN.{length, take, get_or, replicate}
-use lib.Seq.{take-suc, take_all}
+use mathlib.Core.List.{List, [], ◌∷◌, ◌++◌, map, append_assoc, append-nil}
+use lib.ListN.{length, take, get_or, set, replicate}
+use lib.Seq.{take-suc, take-suc-set, take_all}
 use lib.Dec.{eqb}
 use borrow.Author.Tests.{eq-eqb, ne_eqb, eqb-false}
+use Rattle.std.proofs.lemmas.List.{nil_from_length, replicate-append-replicate}
 use Rattle.xliff.specs.Bytes.{among}
 use Rattle.xliff.specs.Item.{Fields, Half, start, end, Form, isolated, pair}
 use Rattle.xliff.specs.Desk.{decimal, blank}
@@ -41,28 +42,45 @@ pub other_cell : (b : ℕ) → (b ≡ 9 → ⊥) → (b ≡ 10 → ⊥) → (b �
 unfolding cell among
 other_cell b h k l = rw (ne_eqb b 9 h, ne_eqb b 10 k, ne_eqb b 13 l)
 
--- the cell of the next byte of a text
-pub text_more : (text : List ℕ) (i b : ℕ) → i < length text → b ≡ cell (get_or text i 0)
-    → map cell (take i text) ++ (b ∷ []) ≡ map cell (take (i + 1) text)
-text_more text i b h e =
-    ap (λ (x : ℕ). map cell (take i text) ++ (x ∷ [])) e
-    ∙ sym (map-append cell (take i text) (get_or text i 0 ∷ []))
-    ∙ ap (map cell) (sym (take-suc text i 0 h) ∙ ap (λ (n : ℕ). take n text) (sym (add-one i)))
+-- the cell of the next byte of a piece
+pub cells_more : (piece cells : List ℕ) (i b : ℕ) → i < length piece → i < length cells → b ≡ cell (get_or piece i 0)
+    → take i cells ≡ map cell (take i piece) → take (i + 1) (set cells i b) ≡ map cell (take (i + 1) piece)
+cells_more piece cells i b h k e so_far =
+    rw (add-one, take-suc-set cells i b k, take-suc piece i 0 h, map-append cell (take i piece) (get_or piece i 0 ∷ []))
+    (ap₂ (λ (p : List ℕ) (x : ℕ). p ++ (x ∷ [])) so_far e)
 
 -- behind the last byte
-pub text_whole : (text : List ℕ) (i : ℕ) → length text ≤ i → map cell (take i text) ≡ map cell text
-text_whole text i h = ap (map cell) (take_all i text h)
+pub cells_whole : (piece cells : List ℕ) (i : ℕ) → length piece ≤ i → i ≤ length piece
+    → take i cells ≡ map cell (take i piece) → take (length piece) cells ≡ map cell piece
+cells_whole piece cells i h k e =
+    ap (λ (n : ℕ). take n cells) (let z : length piece ≡ i = omega arith in z) ∙ e ∙ ap (map cell) (take_all i piece h)
 
--- one blank more
-pub one_blank : (n : ℕ) → replicate n blank ++ (blank ∷ []) ≡ replicate (n + 1) blank
-one_blank n = behind_blank n ∙ ap (λ (k : ℕ). replicate k blank) (sym (add-one n))
-  where
-    behind_blank : (n : ℕ) → replicate n blank ++ (blank ∷ []) ≡ replicate (suc n) blank
-    behind_blank zero = refl
-    behind_blank (suc n) = ap {B = List ℕ} (λ l. blank ∷ l) (behind_blank n)
+-- a piece more of a text, and no piece left
+pub piece_more : (done piece rest : List ℕ) {ahead text : List ℕ} → ahead ≡ piece ++ rest → done ++ ahead ≡ text
+    → (done ++ piece) ++ rest ≡ text
+piece_more done piece rest e f = append_assoc done piece rest ∙ ap (λ (l : List ℕ). done ++ l) (sym e) ∙ f
 
-pub whole_blanks : (n i : ℕ) → n ≤ i → i ≤ n → replicate i blank ≡ replicate n blank
-whole_blanks n i h k = ap (λ (m : ℕ). replicate m blank) (let z : i ≡ n = omega arith in z)
+pub pieces_whole : (done rest : List ℕ) {text : List ℕ} → length rest ≡ 0 → done ++ rest ≡ text → map cell done ≡ map cell text
+pieces_whole done rest e f =
+    ap (map cell) (sym (append-nil done) ∙ ap (λ (l : List ℕ). done ++ l) (sym (nil_from_length rest e)) ∙ f)
+
+-- a column's blanks more, and the blanks that are left
+pub column_more : (i : ℕ) → replicate (i * 33) blank ++ replicate 33 blank ≡ replicate ((i + 1) * 33) blank
+column_more i =
+    replicate-append-replicate (i * 33) 33 blank
+    ∙ ap (λ (m : ℕ). replicate m blank) (let z : i * 33 + 33 ≡ (i + 1) * 33 = omega arith in z)
+
+take_blanks : (n m : ℕ) → n ≤ m → take n (replicate m blank) ≡ replicate n blank
+take_blanks zero m h = refl
+take_blanks (suc n) zero h = absurd (let z : ⊥ = omega arith in z)
+take_blanks (suc n) (suc m) h = ap {B = List ℕ} (λ l. blank ∷ l) (take_blanks n m (omega arith))
+
+pub whole_blanks : (n i : ℕ) → n / 33 ≤ i → i ≤ n / 33
+    → replicate (i * 33) blank ++ take (n % 33) (replicate 33 blank) ≡ replicate n blank
+whole_blanks n i h k =
+    ap (λ (l : List ℕ). replicate (i * 33) blank ++ l) (take_blanks (n % 33) 33 (omega arith))
+    ∙ replicate-append-replicate (i * 33) (n % 33) blank
+    ∙ ap (λ (m : ℕ). replicate m blank) (let z : i * 33 + n % 33 ≡ n = omega arith in z)
 
 -- blanks before, as many as are missing: a number, k digits long
 pub aligned : (cells : ℕ) (s : List ℕ) {k before : ℕ} {d : List ℕ} → d ≡ s → k ≡ length s → before ≡ cells - k

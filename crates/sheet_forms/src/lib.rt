@@ -16,6 +16,9 @@ use table::{Half, Item};
 // The cells of a column that shows a content.
 pub const COLUMN_CELLS: usize = 33;
 
+// As many bytes as a column's cells take at most: a code point takes one to four.
+pub const COLUMN_BYTES: usize = 132;
+
 // The longest shown form has a brace on both sides of a number, for which twenty digits are lent.
 pub const FORM_BYTES: usize = 22;
 
@@ -84,22 +87,37 @@ fn cell_of(b: u8) -> u8
     }
 }
 
+// The cells of a piece of a text, no longer than a column's cells may be, filled in an array and written at once.
+fn put_cells(draft: &mut Draft, piece: &[u8])
+    requires { length piece.now ≤ 132 }
+    ensures { Wrote (map cell piece.now) draft.old draft.new }
+{
+    let mut cells = [0u8; COLUMN_BYTES];
+    for i in 0..piece.len() {
+        cells[i] = cell_of(piece[i]);
+    }
+    draft.put(&cells[..piece.len()]);
+}
+
 // A text. A byte of a code point that takes more than one is above 127 and stays.
 pub fn put_text(draft: &mut Draft, text: &[u8])
     ensures { Wrote (map cell text.now) draft.old draft.new }
 {
-    for b in text {
-        draft.put(&[cell_of(*b)]);
+    for piece in text.chunks(COLUMN_BYTES) {
+        put_cells(draft, piece);
     }
 }
 
+// As many blanks as a column has cells are written at once, and the rest behind them.
 pub fn put_blanks(draft: &mut Draft, n: usize)
     ensures { Wrote (replicate n blank) draft.old draft.new }
 {
+    let blanks = [b' '; COLUMN_CELLS];
     // `i` and not `_`: the proof's invariant tells by `i` how many blanks there are.
-    for i in 0..n {
-        draft.put(b" ");
+    for i in 0..n / COLUMN_CELLS {
+        draft.put(&blanks);
     }
+    draft.put(&blanks[..n % COLUMN_CELLS]);
 }
 
 // Bytes between blanks.
