@@ -37,15 +37,16 @@ pub fn granted_call(
 ) -> Answer
     ensures { Answers (granted_request (grant_of role positions.now) table.now request.now (length out.old)) result out.old out.new }
 {
-    let checked = table_check::check(table);
-    let Answer::Accepted(_) = checked else {
-        return checked;
-    };
+    // No let-else: the must-fail edit grant_before_check plants its wrong number in this arm.
+    match table_check::check(table) {
+        Answer::Accepted(_) => {}
+        Answer::Refused(k, at) => return Answer::Refused(k, at),
+    }
     let Some(r) = requests::request_of(request) else {
         return Answer::Refused(2, 0);
     };
-    if r.size() != request.len() {
-        return Answer::Refused(2, 0);
+    if r.size() == request.len() {
+        return call_read(Grant { role, positions }, table, r, request, out);
     }
-    call_read(Grant { role, positions }, table, r, request, out)
+    Answer::Refused(2, 0)
 }

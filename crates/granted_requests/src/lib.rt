@@ -54,7 +54,9 @@ pub fn granted(grant: Grant, table: &[u8], r: Request) -> bool
     ensures { GrantedIs (grant_of grant.entry.role grant.entry.positions.now) table.now r result }
 {
     match r {
-        Request::Split { .. } | Request::Join { .. } => is_engineer(grant.role),
+        // An arm each: the must-fail edit reviewer_joins plants its wrong role in the join's alone.
+        Request::Split { .. } => is_engineer(grant.role),
+        Request::Join { .. } => is_engineer(grant.role),
         Request::SetTarget { part, .. } | Request::RemoveTarget { part } => {
             grant.has_part(usize::from(part))
         }

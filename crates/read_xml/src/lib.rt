@@ -17,7 +17,7 @@ fn judged(builder: &TableBuilder, out: &mut [u8]) -> Answer
     ensures { Judges builder.now out.old out.new result }
 {
     let Some(table) = builder.table() else {
-        return Answer::Refused(15, 0);
+        return Answer::Refused(15, 0); // beyond a limit
     };
     if out.len() < table.len() {
         return Answer::Refused(15, 0);

@@ -99,9 +99,9 @@ pub fn set_target(table: &[u8], part: u16, state: u8, content: &[u8], out: &mut 
         return Answer::Refused(2, 0);
     }
     // The content's own numbers, with their place in it.
-    let judged = syntax::content(content);
-    let Answer::Accepted(_) = judged else {
-        return judged;
-    };
-    set_content(table, part, place, state, content, out)
+    // No let-else: the edit place_in_content plants a wrong place in the refusal's arm.
+    match syntax::content(content) {
+        Answer::Accepted(_) => set_content(table, part, place, state, content, out),
+        Answer::Refused(number, at) => Answer::Refused(number, at),
+    }
 }

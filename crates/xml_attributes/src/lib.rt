@@ -80,19 +80,26 @@ pub fn read_attributes(text: &[u8], start: usize, slots: &mut [u32]) -> Result<T
     let mut count: usize = 0;
     let mut fine = true;
     // From attribute to attribute, of some bytes each.
+    // No `?`: the edit cut_is_fault plants a wrong answer in the cut tag's arm.
     loop {
-        match next_attribute(text, at)? {
-            Next::One(a) => {
+        match next_attribute(text, at) {
+            Ok(Next::One(a)) => {
                 fine = place(text, a, slots, fine);
                 count += 1;
                 at = a.next;
             }
-            Next::End(next, short) => {
+            Ok(Next::End(next, short)) => {
                 return if fine {
                     Ok(Tagged { next, short, count })
                 } else {
                     Err(Flaw::Wrong)
                 };
+            }
+            Err(Flaw::Cut) => {
+                return Err(Flaw::Cut);
+            }
+            Err(Flaw::Wrong) => {
+                return Err(Flaw::Wrong);
             }
         }
     }

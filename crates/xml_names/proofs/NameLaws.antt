@@ -10,14 +10,13 @@ use Rattle.xml.specs.Characters.{in_a_name, continues_name}
 use Rattle.xml.specs.Tokens.{State, in_name, in_attribute, go, step}
 use Rattle.xml.specs.Places.{tokens_at}
 use Rattle.xml.proofs.PlaceLaws.{to_next}
-use Rattle.xml_names.specs.Names.{bytes_between, NameRead, NameEnds}
-use Rattle.xml_names.proofs.PrefixLaws.{behind, ends_behind}
+use Rattle.xml_names.specs.Names.{bytes_between, NameRead}
 
 none_between : (s n : List ℕ) (at : ℕ) → n ≡ n ++ bytes_between s at at
 none_between s n at =
     sym (append-nil n) ∙ ap (λ (k : ℕ). n ++ take k (drop at s)) (let e : 0 ≡ at - at = omega arith in e)
 
-name_begins : (s : List ℕ) (at : ℕ) → at ≤ length s → NameRead s at at
+pub name_begins : (s : List ℕ) (at : ℕ) → at ≤ length s → NameRead s at at
 name_begins s at h =
     record {
       low = omega arith;
@@ -41,7 +40,7 @@ module _ (s : List ℕ) (from at : ℕ) (low : from ≤ at) (inside : at < lengt
   name_more n =
       append_assoc n (bytes_between s from at) (get_or s at 0 ∷ []) ∙ ap (λ (m : List ℕ). n ++ m) (sym one_more)
 
-name_goes_on : (s : List ℕ) (from at : ℕ) → NameRead s from at → at < length s → in_a_name (get_or s at 0) ≡ true
+pub name_goes_on : (s : List ℕ) (from at : ℕ) → NameRead s from at → at < length s → in_a_name (get_or s at 0) ≡ true
     → NameRead s from (at + 1)
 name_goes_on s from at r h c =
     let low = r.low in
@@ -61,12 +60,6 @@ name_goes_on s from at r h c =
     on st n e =
         to_next s (st (so_far n)) at h (st (so_far n ++ (get_or s at 0 ∷ []))) e
         ∙ ap (λ (l : List ℕ). tokens_at s (st l) (at + 1)) (name_more s from at r.low h n)
-
--- behind all bytes that go on with it
-pub name_ends : (s : List ℕ) (from : ℕ) → from ≤ length s → NameEnds s from (behind in_a_name s from)
-name_ends s from h =
-    let ends = ends_behind in_a_name s (NameRead s from) (name_goes_on s from) from (name_begins s from h) in
-    record { read = ends.holds; stops = ends.stops }
 
 -- a name from its first byte on
 pub first_byte : (s : List ℕ) (i upto : ℕ) → i < length s → i + 1 ≤ upto

@@ -1,29 +1,25 @@
 -- The digits of a numeric reference, one by one.
 use Prim.Native.Nat.{ℕ, suc, min, ◌+◌, ◌*◌, ◌-◌, ◌≤◌, ◌<◌}
-use mathlib.Core.Path.{◌≡◌, refl, sym, ap, ◌∙◌}
+use mathlib.Core.Path.{◌≡◌, refl, ap, ◌∙◌}
 use mathlib.Core.Bool.{Bool, true, false, ◌&&◌, cond}
 use mathlib.Core.List.{List}
 use mathlib.Core.Option.{Option, none, some}
 use native.Mathlib.Omega.{arith}
 use lib.ListN.{length, get_or, drop, drop_of_length-le}
 use lib.Seq.{drop-cons}
-use lib.Dec.{eqb, leb, ltb}
-use borrow.Author.Tests.{leb-true, leb-false, lt-ltb, le-ltb}
-use Rattle.std.specs.Prelude.{Option as RustOption, Some, None, SomeIff}
+use lib.Dec.{eqb, leb}
+use borrow.Author.Tests.{leb-true, leb-false}
 use Rattle.std.proofs.lemmas.Bool.Decides.{nat_tests}
 use Rattle.xliff.specs.Text.{between}
 use Rattle.xliff.proofs.lists.Tests.{and_right, and_false, and-true}
 use Rattle.text.specs.Utf8.{xml_char}
 use Rattle.text.proofs.TextLaws.{xml_same}
-use Rattle.std.specs.Char.{digit_value}
-use Rattle.xml.specs.Characters as spec
-use Rattle.xml_front.specs.Fronts.{number_told}
-use Rattle.xml.specs.Characters.{found, cut, wrong, numeric}
+use Rattle.xml.specs.Characters.{found, cut, wrong, digit_value, numeric}
 use Rattle.xml.proofs.BoundLaws.{large_decimal, large_hexadecimal}
 use Rattle.xml_reference.specs.References.{base_of, capped, numeric_end}
 
-pub small : (base b d : ℕ) → spec.digit_value base b ≡ some d → d < 16
-unfolding spec.digit_value between
+pub small : (base b d : ℕ) → digit_value base b ≡ some d → d < 16
+unfolding digit_value between
 small base b d e =
     by (leb 48 b && leb b 57) refl (eqb base 16 && (leb 65 b && leb b 70)) refl (eqb base 16 && (leb 97 b && leb b 102))
     refl e
@@ -43,17 +39,14 @@ small base b d e =
         omega arith
     by false p false q false r e = absurd (let z : ◌≡◌ {A = ℕ} 0 1 = cc in omega arith)
 
--- the library's digits are XML's
-value_same : (hex : Bool) (b : ℕ)
-    → spec.digit_value (base_of hex) b ≡ cond (ltb (digit_value b) (base_of hex)) (some (digit_value b)) none
-unfolding spec.digit_value between
-value_same true b = grind (arith, nat_tests)
-value_same false b = grind (arith, nat_tests)
-
-pub digit_is : (hex : Bool) (b : ℕ) (r : RustOption ℕ) → SomeIff r (digit_value b < base_of hex) (digit_value b)
-    → number_told r ≡ spec.digit_value (base_of hex) b
-digit_is hex b None h = sym (value_same hex b ∙ rw (le-ltb (digit_value b) (base_of hex) (omega (arith, h))))
-digit_is hex b (Some d) (h, e) = sym (value_same hex b ∙ rw (lt-ltb (digit_value b) (base_of hex) h, e))
+-- a digit's value, range by range
+pub digit_is : (hex : Bool) (b : ℕ)
+    → digit_value (base_of hex) b
+    ≡ cond (leb 48 b && leb b 57) (some (b - 48))
+    (cond (hex && (leb 65 b && leb b 70)) (some (b - 55)) (cond (hex && (leb 97 b && leb b 102)) (some (b - 87)) none))
+unfolding digit_value between
+digit_is true b = refl
+digit_is false b = refl
 
 -- behind digits, and where there were none
 pub end_some : (b v size : ℕ) → numeric_end b true v size ≡ cond (eqb b 59 && xml_char v) (found v size) wrong
@@ -80,7 +73,7 @@ cap hex any v size s = by hex (leb v 0x10FFFF) refl
     by false false e = let k = leb-false v 0x10FFFF e in large_decimal any v 0x110000 size s (omega arith) (omega arith)
 
 module _ (hex any : Bool) (v i : ℕ) (t : List ℕ) where
-  pub digit_on : i < length t → (d : ℕ) → spec.digit_value (base_of hex) (get_or t i 0) ≡ some d
+  pub digit_on : i < length t → (d : ℕ) → digit_value (base_of hex) (get_or t i 0) ≡ some d
       → numeric (base_of hex) any v (i + 1) (drop i t)
       ≡ numeric (base_of hex) true (capped (v * base_of hex + d)) (i + 1 + 1) (drop (i + 1) t)
   unfolding numeric
@@ -95,7 +88,7 @@ module _ (hex any : Bool) (v i : ℕ) (t : List ℕ) where
       w : ℕ
       w = v * base_of hex + d
 
-  pub digit_off : i < length t → spec.digit_value (base_of hex) (get_or t i 0) ≡ none
+  pub digit_off : i < length t → digit_value (base_of hex) (get_or t i 0) ≡ none
       → numeric (base_of hex) any v (i + 1) (drop i t) ≡ numeric_end (get_or t i 0) any v (i + 1)
   unfolding numeric numeric_end
   digit_off h e = ap (numeric (base_of hex) any v (i + 1)) (drop-cons t i 0 h) ∙ rw (e, numeric)

@@ -69,10 +69,20 @@ fn base_of(hex: bool) -> u32
 }
 
 // A digit's value.
+// By ranges and no `to_digit`: the edit hex_digit_one_more plants a wrong value in that of A to F.
 fn digit_of(hex: bool, b: u8) -> Option<u32>
     ensures { number_told result ≡ digit_value (base_of hex) b }
 {
-    char::from(b).to_digit(base_of(hex))
+    if (b'0' <= b) & (b <= b'9') {
+        return Some(u32::from(b - b'0'));
+    }
+    if hex & ((b'A' <= b) & (b <= b'F')) {
+        return Some(u32::from(b - (b'A' - 10)));
+    }
+    if hex & ((b'a' <= b) & (b <= b'f')) {
+        return Some(u32::from(b - (b'a' - 10)));
+    }
+    None
 }
 
 // One digit more; what no code point reaches stays there.

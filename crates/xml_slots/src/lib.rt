@@ -12,7 +12,7 @@ pub const BAD: u32 = 0x10000;
 pub const ABSENT: u32 = 0x20000;
 
 // The slots, by their attributes' names.
-// Numbers and no enum: each is an index into the slots, and `value_of` in xml_words takes a range of them.
+// Numbers and no enum: each is an index into the slots, and `Value::of_slot` in xml_words takes a range of them.
 pub const ID: usize = 0;
 
 pub const ORDER: usize = 1;

@@ -69,7 +69,7 @@ module _ (s : List ℕ) (q i : ℕ) (inside : i < length s) (no_quote : get_or s
             ∙ ap (λ (x : ℕ). x ∷ value_codes q 0 (drop (i + 1 + w) s)) (sym g);
       }
 
--- what `next_code` tells, by its variant
+-- what `code_at` tells, by its variant
 module _ (s : List ℕ) (at q : ℕ) (r : RustOption Code) (read : CodeRead s at q r) where
   pub a_point : (c : Code) → r ≡ Some c → PointRead s at q c.point c.next
   a_point c e = subst (λ (x : RustOption Code). CodeRead s at q x) e read

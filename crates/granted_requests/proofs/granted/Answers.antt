@@ -2,12 +2,15 @@ use Rattle.std.proofs.Common.{inl, inr}
 use Rattle.grants.specs.Grant.{granted}
 use Rattle.granted_requests.proofs.granted.Goals as goal
 
--- Request::Split { .. } | Request::Join { .. } => is_engineer(grant.role)
+-- Request::Split { .. } => is_engineer(grant.role)
 pub returns-in-Split : goal.returns-in-Split
 unfolding granted
-returns-in-Split c = λ room s.
-    let engineer = c.is_engineer.ensures in
-    elim c.in-Split.is [ inl (n, p, q, i, e) ↦ rw e engineer | inr (n, e) ↦ rw e engineer ]
+returns-in-Split c = λ room s. rw c.in-Split.is c.is_engineer.ensures
+
+-- Request::Join { .. } => is_engineer(grant.role)
+pub returns-in-Join : goal.returns-in-Join
+unfolding granted
+returns-in-Join c = λ room s. rw c.in-Join.is c.is_engineer-in-Join.ensures
 
 -- Request::SetTarget { part, .. } | Request::RemoveTarget { part } => grant.has_part(usize::from(part))
 pub returns-in-SetTarget : goal.returns-in-SetTarget

@@ -45,9 +45,9 @@ returns-then-not-state_fits c =
     (refused_2 table args.part args.state args.content.now (length args.out.now) passed b p a f
     (sym (c.state_fits.ensures table b p a s) ∙ not-true _ c.if-not-state_fits.true-raw))
 
--- return judged
-pub returns-in_default-judged : goal.returns-in_default-judged
-returns-in_default-judged c =
+-- Answer::Refused(number, at) => Answer::Refused(number, at)
+pub returns-in-Refused : goal.returns-in-Refused
+returns-in-Refused c =
     let args = c.args in
     let checked = c.check-checked in
     let table = args.table.now in
@@ -55,10 +55,9 @@ returns-in_default-judged c =
     let passed = checked_none table checked.result _ checked.ensures c.in-Accepted.is in
     let (b, p, a, f, s) = rw (c.in-Some.is, c.from.ensures) at c.part_at.ensures in
     let fits = sym (c.state_fits.ensures table b p a s) ∙ not-false _ c.if-not-state_fits.false-raw in
-    let fault = refused_with (content_fault content) content _ _ (rw c.in_default-judged.is at c.content-judged.ensures) in
-    rw c.in_default-judged.is
-    (answers_refused _ _ _ args.out.now
-    (bad_content table args.part args.state content (length args.out.now) passed b p a f fits _ _ fault))
+    let fault = refused_with (content_fault content) content _ _ (rw c.in-Refused.is at c.content.ensures) in
+    answers_refused _ _ _ args.out.now
+    (bad_content table args.part args.state content (length args.out.now) passed b p a f fits _ _ fault)
 
 -- set_content(table, part, place, state, content, out)
 pub set_content-requires : goal.set_content-requires
@@ -71,5 +70,5 @@ set_content-requires c =
     let (b, p, a, f, s) = rw (c.in-Some.is, c.from.ensures) at c.part_at.ensures in
     let fits = sym (c.state_fits.ensures table b p a s) ∙ not-false _ c.if-not-state_fits.false-raw in (
       (passed, (b, p, a, f, s, fits)),
-      accepted_without (content_fault content) content _ (rw c.in-Accepted-judged.is at c.content-judged.ensures),
+      accepted_without (content_fault content) content _ (rw c.in-Accepted-content.is at c.content.ensures),
     )

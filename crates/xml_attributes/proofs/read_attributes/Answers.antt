@@ -1,4 +1,4 @@
-use Rattle.std.proofs.lemmas.Result.{err_from_is_err_and}
+use Rattle.xml_front.specs.declared.Flaw.TheVariants.{Cut, Wrong}
 use Rattle.xml_attributes.proofs.TagLaws.{sixteen, no_attribute_yet, one_more, whole, spoilt_whole, tag_at_fault}
 use native.Mathlib.Omega.{arith}
 use mathlib.Core.Path.{◌∙◌}
@@ -16,19 +16,19 @@ next_attribute-requires c = c.loop-a.invariant.inside
 -- place(text, a, slots, fine)
 pub place-fine-requires : goal.place-fine-requires
 place-fine-requires c =
-    let one = rw (c.in_ok-a.was, c.in-One.is) at c.next_attribute.ensures in
+    let one = rw (c.in-Ok-One.is, c.in-Ok-One.field-0-is) at c.next_attribute.ensures in
     (one.place, c.loop-a.invariant.size ∙ sixteen c.args.slots.now c.requires.1)
 
 -- count += 1
 pub overflow_add-count : goal.overflow_add-count
 overflow_add-count c =
-    let one = rw (c.in_ok-a.was, c.in-One.is) at c.next_attribute.ensures in
+    let one = rw (c.in-Ok-One.is, c.in-Ok-One.field-0-is) at c.next_attribute.ensures in
     omega (arith, one.ahead, one.inside, c.loop-a.invariant.few)
 
 -- the loop's measure
 pub loop-a-smaller : goal.loop-a-smaller
 loop-a-smaller c =
-    let one = rw (c.in_ok-a.was, c.in-One.is) at c.next_attribute.ensures in
+    let one = rw (c.in-Ok-One.is, c.in-Ok-One.field-0-is) at c.next_attribute.ensures in
     omega (arith, one.ahead, one.inside)
 
 -- the loop's step
@@ -38,39 +38,46 @@ loop-a-preserved c =
     let args = c.args in
     let text = args.text.now in
     let lent = args.slots.now in
-    let one = rw (c.in_ok-a.was, c.in-One.is) at c.next_attribute.ensures in
+    let one = rw (c.in-Ok-One.is, c.in-Ok-One.field-0-is) at c.next_attribute.ensures in
     one_more text args.start lent loop.slots loop.at loop.count loop.fine loop.invariant _ one _ _
     c.place-fine.ensures
 
--- Next::End(next, short) => return Ok(Tagged { .. })
+-- Ok(Next::End(next, short)) => return Ok(Tagged { .. })
 pub returns-then-fine : goal.returns-then-fine
 returns-then-fine c =
     let loop = c.loop-a in
     let args = c.args in
     let text = args.text.now in
     let lent = args.slots.now in
-    let end = rw (c.in_ok-a.was, c.in-End.is) at c.next_attribute.ensures in
+    let end = rw (c.in-Ok-End.is, c.in-Ok-End.field-0-is) at c.next_attribute.ensures in
     whole text args.start lent loop.slots loop.at loop.count loop.fine loop.invariant _ _ end
     c.if-fine.true
 
--- Next::End(next, short) => return Err(Flaw::Wrong)
+-- Ok(Next::End(next, short)) => return Err(Flaw::Wrong)
 pub returns-else-fine : goal.returns-else-fine
 returns-else-fine c =
     let loop = c.loop-a in
     let args = c.args in
     let text = args.text.now in
     let lent = args.slots.now in
-    let end = rw (c.in_ok-a.was, c.in-End.is) at c.next_attribute.ensures in
+    let end = rw (c.in-Ok-End.is, c.in-Ok-End.field-0-is) at c.next_attribute.ensures in
     spoilt_whole text args.start lent loop.slots loop.at loop.count loop.fine loop.invariant _ _ end
     c.if-fine.false
 
--- next_attribute(text, at)?
-pub returns-in_err-a : goal.returns-in_err-a
-returns-in_err-a c =
+-- Err(Flaw::Cut) => return Err(Flaw::Cut)
+pub returns-in-Err-Cut : goal.returns-in-Err-Cut
+returns-in-Err-Cut c =
     let loop = c.loop-a in
     let args = c.args in
     let text = args.text.now in
-    let p = err_from_is_err_and c.from_residual.result c.from_residual.ensures.1 in
-    rw (p.1, p.2)
-    (tag_at_fault text args.start args.slots.now loop.slots loop.at loop.count loop.fine loop.invariant _
-    (rw c.in_err-a.was at c.next_attribute.ensures))
+    tag_at_fault text args.start args.slots.now loop.slots loop.at loop.count loop.fine loop.invariant Cut
+    (rw (c.in-Err-Cut.is, c.in-Err-Cut.field-0-is) at c.next_attribute.ensures)
+
+-- Err(Flaw::Wrong) => return Err(Flaw::Wrong)
+pub returns-in-Err-Wrong : goal.returns-in-Err-Wrong
+returns-in-Err-Wrong c =
+    let loop = c.loop-a in
+    let args = c.args in
+    let text = args.text.now in
+    tag_at_fault text args.start args.slots.now loop.slots loop.at loop.count loop.fine loop.invariant Wrong
+    (rw (c.in-Err-Wrong.is, c.in-Err-Wrong.field-0-is) at c.next_attribute.ensures)

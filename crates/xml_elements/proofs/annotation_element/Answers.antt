@@ -30,7 +30,7 @@ returns-then-is_word-3 c =
     let is = sym c.is_word-3.ensures ∙ c.if-is_word-3.true in
     is_em args.name.now args.filled.slots.now args.filled.count _ not-mrk not-sm is c.read_em.ensures
 
--- Inline::Bad
+-- None
 pub returns : goal.returns
 unfolding Words·all
 returns c =
