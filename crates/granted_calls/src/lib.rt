@@ -45,6 +45,7 @@ pub fn granted_call(
     let Some(r) = requests::request_of(request) else {
         return Answer::Refused(2, 0);
     };
+    // What is right first: the must-fail edit bytes_behind_let_through turns this test.
     if r.size() == request.len() {
         return call_read(Grant { role, positions }, table, r, request, out);
     }

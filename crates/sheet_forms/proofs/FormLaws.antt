@@ -1,5 +1,5 @@
 -- Laws of shown forms, of cells, and of blanks around bytes.
-use Prim.Native.Nat.{ℕ, zero, suc, ◌+◌, ◌-◌, ◌*◌, ◌/◌, ◌%◌, ◌<◌, ◌≤◌}
+use Prim.Native.Nat.{ℕ, ◌+◌, ◌-◌, ◌*◌, ◌/◌, ◌%◌, ◌<◌, ◌≤◌}
 use native.Mathlib.Omega.{arith}
 use native.Mathlib.Numerals.{add-one}
 use mathlib.Core.Path.{◌≡◌, refl, sym, ap, ap₂, ◌∙◌}
@@ -9,7 +9,7 @@ use lib.ListN.{length, take, get_or, set, replicate}
 use lib.Seq.{take-suc, take-suc-set, take_all}
 use lib.Dec.{eqb}
 use borrow.Author.Tests.{eq-eqb, ne_eqb, eqb-false}
-use Rattle.std.proofs.lemmas.List.{nil_from_length, replicate-append-replicate}
+use Rattle.std.proofs.lemmas.List.{nil_from_length, replicate-append-replicate, take-replicate}
 use Rattle.xliff.specs.Bytes.{among}
 use Rattle.xliff.specs.Item.{Fields, Half, start, end, Form, isolated, pair}
 use Rattle.xliff.specs.Desk.{decimal, blank}
@@ -60,7 +60,8 @@ pub piece_more : (done piece rest : List ℕ) {ahead text : List ℕ} → ahead 
     → (done ++ piece) ++ rest ≡ text
 piece_more done piece rest e f = append_assoc done piece rest ∙ ap (λ (l : List ℕ). done ++ l) (sym e) ∙ f
 
-pub pieces_whole : (done rest : List ℕ) {text : List ℕ} → length rest ≡ 0 → done ++ rest ≡ text → map cell done ≡ map cell text
+pub pieces_whole : (done rest : List ℕ) {text : List ℕ} → length rest ≡ 0 → done ++ rest ≡ text
+    → map cell done ≡ map cell text
 pieces_whole done rest e f =
     ap (map cell) (sym (append-nil done) ∙ ap (λ (l : List ℕ). done ++ l) (sym (nil_from_length rest e)) ∙ f)
 
@@ -70,15 +71,10 @@ column_more i =
     replicate-append-replicate (i * 33) 33 blank
     ∙ ap (λ (m : ℕ). replicate m blank) (let z : i * 33 + 33 ≡ (i + 1) * 33 = omega arith in z)
 
-take_blanks : (n m : ℕ) → n ≤ m → take n (replicate m blank) ≡ replicate n blank
-take_blanks zero m h = refl
-take_blanks (suc n) zero h = absurd (let z : ⊥ = omega arith in z)
-take_blanks (suc n) (suc m) h = ap {B = List ℕ} (λ l. blank ∷ l) (take_blanks n m (omega arith))
-
 pub whole_blanks : (n i : ℕ) → n / 33 ≤ i → i ≤ n / 33
     → replicate (i * 33) blank ++ take (n % 33) (replicate 33 blank) ≡ replicate n blank
 whole_blanks n i h k =
-    ap (λ (l : List ℕ). replicate (i * 33) blank ++ l) (take_blanks (n % 33) 33 (omega arith))
+    ap (λ (l : List ℕ). replicate (i * 33) blank ++ l) (take-replicate (n % 33) 33 blank (omega arith))
     ∙ replicate-append-replicate (i * 33) (n % 33) blank
     ∙ ap (λ (m : ℕ). replicate m blank) (let z : i * 33 + n % 33 ≡ n = omega arith in z)
 

@@ -36,6 +36,7 @@ call_read-requires c =
       read_size c.args.request.now read.result _ c.in-Some.is read.ensures.1,
     )
 
+-- return call_read(Grant { role, positions }, table, r, request, out), for a request that stands alone
 pub returns-then-size-request : goal.returns-then-size-request
 returns-then-size-request c =
     let args = c.args in
