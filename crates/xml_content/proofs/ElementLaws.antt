@@ -18,7 +18,7 @@ use Rattle.xml_piece.specs.Pieces.{rest_at}
 use Rattle.xml_passages.specs.Passages.{Passage, Blames}
 use Rattle.xml_passages.proofs.PassageLaws.{no_passage, passage_as, blames_as, too_deep, nested_blames, nested_passage, other_end_blames}
 use Rattle.xml_records.specs.Collecting.{Collects}
-use Rattle.xml_records.proofs.CollectLaws.{collects_both}
+use Rattle.xml_records.proofs.CollectLaws.{collects_both_in_loan}
 use Rattle.xml_element.specs.declared.StartTag.{StartTag}
 use Rattle.xml_element.specs.declared.EndTag.{EndTag}
 use Rattle.xml_element.specs.declared.NestedTag.{NestedTag}
@@ -74,7 +74,7 @@ module _ (text : List ℕ) (tag : StartTag) (depth : ℕ) (opened : NestedTag) (
               (subst (λ (s : Bool). Passage (depth - 1) (after_tag text s place name ats opened.next) [] ends) (sym short)
               (unfold short_form in no_passage (depth - 1) ends))
               (equal_refl name));
-          collects = collects_both put_first put_last;
+          collects = collects_both_in_loan put_first put_last;
         }
 
     module _ (long : opened.short ≡ false) where
@@ -111,7 +111,7 @@ module _ (text : List ℕ) (tag : StartTag) (depth : ℕ) (opened : NestedTag) (
               passage = passage_as depth (start_tokens text tag) opens (rest_at text end.next) _ r.same
                   (nested_passage depth place name ats behind (item opened.start) (item opened.end) r.is deep k.records
                   end.place end_name (rest_at text end.next) within same);
-              collects = collects_both (collects_both put_first k.collects) put_last;
+              collects = collects_both_in_loan (collects_both_in_loan put_first k.collects) put_last;
             }
 
         pub other_end : equal end_name name ≡ false → Blames depth (start_tokens text tag) end.place

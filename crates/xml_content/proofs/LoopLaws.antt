@@ -15,7 +15,7 @@ use Rattle.xml_piece.specs.Pieces.{rest_at, Ahead}
 use Rattle.xml_passages.specs.Passages.{Passage, Blames}
 use Rattle.xml_passages.proofs.PassageLaws.{no_passage, passage_then, passage_as, passage_blames, blames_as}
 use Rattle.xml_records.specs.Collecting.{Collects}
-use Rattle.xml_records.proofs.CollectLaws.{collects_none, collects_both}
+use Rattle.xml_records.proofs.CollectLaws.{collects_none, collects_both_in_loan}
 use Rattle.xml_element.specs.declared.EndTag.{EndTag}
 use Rattle.xml_element.specs.declared.NestedTag.{NestedTag}
 use Rattle.xml_element.specs.declared.Blamed.{Blamed}
@@ -57,7 +57,7 @@ module _ (text : List ℕ) (start depth : ℕ) (builder₀ : TableBuilder) (at :
         low = omega (arith, s.low, goes.ahead);
         high = goes.inside;
         passage = passage_then depth (rest_at text start) (rest_at text at) (rest_at text next) s.records rs s.passage p;
-        collects = collects_both s.collects k;
+        collects = collects_both_in_loan s.collects k;
       }
 
   pub piece_on : (next : ℕ) (builder' : TableBuilder) → PieceOn text at builder next builder'

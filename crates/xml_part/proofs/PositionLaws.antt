@@ -14,7 +14,7 @@ use Rattle.table_builder.specs.declared.TableBuilder.{TableBuilder}
 use Rattle.table_builder.specs.Building.{RecordPut}
 use Rattle.table_builder.proofs.RecordLaws.{held_small, record_beyond}
 use Rattle.xml_records.specs.Collecting.{Collects}
-use Rattle.xml_records.proofs.CollectLaws.{gathered_all, whole_target, collects_record}
+use Rattle.xml_records.proofs.CollectLaws.{gathered_all, whole_target, collects_record_in_loan}
 use Rattle.xml_part.specs.Parts.{CollectingAt}
 
 -- records put together have the heads of parts that they had
@@ -69,5 +69,5 @@ put_beyond builder bytes part over done run r held b h = record_beyond held r ov
 
 pub beyond_collects : {builder : TableBuilder} (q : ℕ) → builder.over ≡ true → Collects (target_head q ∷ []) builder builder
 beyond_collects {builder} q over =
-    collects_record (put_beyond builder (record_bytes (target_head q)) (is_part (target_head q)) over) refl
+    collects_record_in_loan (put_beyond builder (record_bytes (target_head q)) (is_part (target_head q)) over) refl
     (whole_target q) refl refl

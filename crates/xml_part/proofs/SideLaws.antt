@@ -30,7 +30,7 @@ use Rattle.xml_piece.specs.Pieces.{rest_at, Ahead}
 use Rattle.xml_passages.specs.Passages.{Passage, Blames, Leads}
 use Rattle.xml_passages.proofs.OuterLaws.{source_side, target_side, source_opens, no_source, target_opens, no_target, bad_target, side_closed, side_bad}
 use Rattle.xml_records.specs.Collecting.{Collects}
-use Rattle.xml_records.proofs.CollectLaws.{collects_none, collects_both}
+use Rattle.xml_records.proofs.CollectLaws.{collects_none, collects_both_in_loan}
 use Rattle.xml_element.specs.declared.Blamed.{Blamed}
 use Rattle.xml_element.specs.declared.StartTag.{StartTag}
 use Rattle.xml_element.specs.declared.EndTag.{EndTag}
@@ -121,7 +121,7 @@ module _ (text : List ℕ) (upto next : ℕ) (d : Due) (a b : List Token) (side 
       leads =
           opens ∙ ap (behind rs) k.passage
           ∙ behind_append rs k.records (elements (outside side.behind) (rest_at text further));
-      collects = collects_both put k.collects;
+      collects = collects_both_in_loan put k.collects;
     },
   )
   side_steps builder₂ (Err p) e = opens ∙ ap (behind rs) e ∙ (unfold behind in refl)

@@ -15,7 +15,7 @@ use Rattle.xml_piece.specs.Pieces.{rest_at, Ahead}
 use Rattle.xml_passages.specs.Passages.{Alike, OuterBlames, Leads}
 use Rattle.xml_passages.proofs.OuterLaws.{leads_then, leads_bad, finish_before, cut_before, closed_bad}
 use Rattle.xml_records.specs.Collecting.{Collects}
-use Rattle.xml_records.proofs.CollectLaws.{collects_none, collects_both}
+use Rattle.xml_records.proofs.CollectLaws.{collects_none, collects_both_in_loan}
 use Rattle.xml_element.specs.declared.Blamed.{Blamed}
 use Rattle.xml_element.specs.declared.StartTag.{StartTag}
 use Rattle.xml_element.specs.declared.EndTag.{EndTag}
@@ -90,7 +90,7 @@ module _ (text : List ℕ) (from next heads : ℕ) (d d' : Due) (a : List Token)
       records = p.records ++ p₂.records;
       heads_are = omega (arith, heads_append p.records p₂.records, p.heads_are, p₂.heads_are);
       leads = leads_then d d' d'' a (rest_at text next) (rest_at text next₂) p.records p₂.records p.leads p₂.leads;
-      collects = collects_both p.collects p₂.collects;
+      collects = collects_both_in_loan p.collects p₂.collects;
     },
   )
   steps_then more d'' b₂ (Err q) e = leads_bad d d' a (rest_at text next) p.records q.place p.leads e

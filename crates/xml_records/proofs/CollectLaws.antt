@@ -12,7 +12,7 @@ use Rattle.table.specs.declared.Item.{Item}
 use Rattle.table.specs.declared.Item.TheVariants.{Character, Standalone, Isolated, Pair, AnnotationStart, AnnotationEnd}
 use Rattle.table_builder.specs.declared.TableBuilder.{TableBuilder}
 use Rattle.table_builder.specs.Building.{run_records, with_run, SameLoan, Holds, RecordPut, CodePointPut}
-use Rattle.xml_records.specs.Collecting.{Gathered, Collected, Collects}
+use Rattle.xml_records.specs.Collecting.{Gathered, Collected, Appends, Collects}
 
 -- a code point in front of these records is a text of its own
 abbrev Apart : List Record → Type 0
@@ -114,12 +114,11 @@ collected_none h = record { done = []; run = []; holds = h; gathered = gathered_
 
 -- one record more in it: a code point of text, any other
 module _ {builder builder' : TableBuilder} where
-  pub collects_code_point : {c : ℕ} → CodePointPut builder c builder' → SameLoan builder builder'
-      → Collects (text_run (c ∷ []) ∷ []) builder builder'
+  pub collects_code_point : {c : ℕ} → CodePointPut builder c builder'
+      → Appends (text_run (c ∷ []) ∷ []) builder builder'
   unfolding CodePointPut
-  collects_code_point {c} p same =
+  collects_code_point {c} p =
       record {
-        same = same;
         on = λ read k.
             record {
               done = k.done;
@@ -129,13 +128,11 @@ module _ {builder builder' : TableBuilder} where
             };
       }
 
-  pub collects_record : {bytes : List ℕ} {part : Bool} {r : Record} → RecordPut builder bytes part builder'
-      → SameLoan builder builder' → Whole r
-      → record_bytes r ≡ bytes → is_part r ≡ part → Collects (r ∷ []) builder builder'
+  pub collects_record : {bytes : List ℕ} {part : Bool} {r : Record} → RecordPut builder bytes part builder' → Whole r
+      → record_bytes r ≡ bytes → is_part r ≡ part → Appends (r ∷ []) builder builder'
   unfolding RecordPut
-  collects_record {r = r} p same w b h =
+  collects_record {r = r} p w b h =
       record {
-        same = same;
         on = λ read k.
             record {
               done = with_run k.done k.run ++ (r ∷ []);
@@ -145,6 +142,16 @@ module _ {builder builder' : TableBuilder} where
             };
       }
 
+  -- and in the same lent array
+  pub collects_code_point_in_loan : {c : ℕ} → CodePointPut builder c builder' → SameLoan builder builder'
+      → Collects (text_run (c ∷ []) ∷ []) builder builder'
+  collects_code_point_in_loan p same = record { same = same; on = (collects_code_point p).on }
+
+  pub collects_record_in_loan : {bytes : List ℕ} {part : Bool} {r : Record} → RecordPut builder bytes part builder'
+      → SameLoan builder builder' → Whole r
+      → record_bytes r ≡ bytes → is_part r ≡ part → Collects (r ∷ []) builder builder'
+  collects_record_in_loan p same w b h = record { same = same; on = (collects_record p w b h).on }
+
 -- no record, and some behind some
 pub collects_none : {builder : TableBuilder} → Collects [] builder builder
 collects_none {builder} =
@@ -153,10 +160,15 @@ collects_none {builder} =
       on = λ read k. subst (Collected builder) (sym (append-nil read)) k;
     }
 
-pub collects_both : {builder builder₁ builder₂ : TableBuilder} {rs qs : List Record} → Collects rs builder builder₁
-    → Collects qs builder₁ builder₂ → Collects (rs ++ qs) builder builder₂
+pub collects_both : {builder builder₁ builder₂ : TableBuilder} {rs qs : List Record} → Appends rs builder builder₁
+    → Appends qs builder₁ builder₂ → Appends (rs ++ qs) builder builder₂
 collects_both {builder₂ = builder₂} {rs = rs} {qs = qs} h k =
+    record { on = λ read g. subst (Collected builder₂) (append_assoc read rs qs) (k.on (read ++ rs) (h.on read g)) }
+
+pub collects_both_in_loan : {builder builder₁ builder₂ : TableBuilder} {rs qs : List Record}
+    → Collects rs builder builder₁ → Collects qs builder₁ builder₂ → Collects (rs ++ qs) builder builder₂
+collects_both_in_loan h k =
     record {
       same = k.same ∙ h.same;
-      on = λ read g. subst (Collected builder₂) (append_assoc read rs qs) (k.on (read ++ rs) (h.on read g));
+      on = (collects_both (record { on = h.on }) (record { on = k.on })).on;
     }

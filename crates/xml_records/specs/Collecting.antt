@@ -16,6 +16,10 @@ pub record Collected (builder : TableBuilder) (read : List Record) : Type 0 wher
   pub holds : Holds builder done run
   pub gathered : Gathered read done run
 
+-- records are read and put behind those before, whatever array is lent
+pub record Appends (more : List Record) (builder builder' : TableBuilder) : Type 0 where
+  pub on : (read : List Record) → Collected builder read → Collected builder' (read ++ more)
+
 -- records are read and put behind those before, in the same lent array
 pub record Collects (more : List Record) (builder builder' : TableBuilder) : Type 0 where
   pub same : SameLoan builder builder'

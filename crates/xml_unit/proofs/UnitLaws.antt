@@ -27,7 +27,7 @@ use Rattle.xml_piece.specs.Pieces.{rest_at, Ahead}
 use Rattle.xml_passages.specs.Passages.{Alike, OuterBlames, Leads}
 use Rattle.xml_passages.proofs.OuterLaws.{leads_then, leads_bad, closed_bad, unit_opens, no_unit, bad_unit, unit_closes, text_over}
 use Rattle.xml_records.specs.Collecting.{Collects}
-use Rattle.xml_records.proofs.CollectLaws.{collects_none, collects_both, collected_none}
+use Rattle.xml_records.proofs.CollectLaws.{collects_none, collects_both_in_loan, collected_none}
 use Rattle.xml_element.specs.declared.Blamed.{Blamed}
 use Rattle.xml_element.specs.declared.StartTag.{StartTag}
 use Rattle.xml_element.specs.declared.EndTag.{EndTag}
@@ -43,7 +43,11 @@ module _ (d d' : Due) (a b : List Token) (rs : List Record) {b₀ b₁ : TableBu
   pub finishes_then : (b₂ : TableBuilder) (m : Result (Unit {0}) Blamed) → Finishes d' b b₁ b₂ m → Finishes d a b₀ b₂ m
   unfolding Leads behind
   finishes_then b₂ (Ok done) f =
-      record { records = rs ++ f.records; are = l ∙ ap (behind rs) f.are; collects = collects_both put f.collects }
+      record {
+        records = rs ++ f.records;
+        are = l ∙ ap (behind rs) f.are;
+        collects = collects_both_in_loan put f.collects;
+      }
   finishes_then b₂ (Err p) e = leads_bad d d' a b rs p.place l e
 
 pub finishes_alike : (d : Due) (a b : List Token) (b₀ b₁ : TableBuilder) → Alike a b → (m : Result (Unit {0}) Blamed)
@@ -132,7 +136,7 @@ module _ (text : List ℕ) (start : ℕ) (builder₀ : TableBuilder) (at : ℕ) 
           leads =
               leads_then (part_due 0) (part_due count) (part_due (suc count)) (rest_at text start) (rest_at text at)
               (rest_at text next) p.records q.records p.leads q.leads;
-          collects = collects_both p.collects q.collects;
+          collects = collects_both_in_loan p.collects q.collects;
         };
       }
 
@@ -207,7 +211,7 @@ module _ (text : List ℕ) (tag : StartTag) (slots : List ℕ) (t : Tagged)
           (leads_as unit_due (part_due 0) (start_tokens text tag) (opens true) ends first (tag_is true is)
           (unit_opens tag.place name ats ends (record { can_resegment = letter }) same is_opened))
           (unit_closes 0 name tag.place (rest_at text t.next) same))
-          (collects_both put close) b₂ m (behind_finishes text t.next b₂ m k)
+          (collects_both_in_loan put close) b₂ m (behind_finishes text t.next b₂ m k)
 
       pub long_unit : (b₂ : TableBuilder) (m : Result (Unit {0}) Blamed) → t.short ≡ false
           → Finishes (part_due 0) (rest_at text t.next) b₁ b₂ m → Finishes unit_due (start_tokens text tag) b₀ b₂ m

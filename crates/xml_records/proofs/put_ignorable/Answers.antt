@@ -5,7 +5,7 @@ use Rattle.xliff.specs.Parse.{is_part}
 use Rattle.writer.specs.Pieces.{number_bytes}
 use Rattle.item_records.proofs.PieceRuns.{none_yet, behind, written}
 use Rattle.xml_records.proofs.ArrayLaws.{array_is}
-use Rattle.xml_records.proofs.CollectLaws.{whole_head, collects_record}
+use Rattle.xml_records.proofs.CollectLaws.{whole_head, collects_record_in_loan}
 use native.Mathlib.Omega.{arith}
 use mathlib.Core.Path.{refl}
 use mathlib.Core.List.{[], ◌∷◌}
@@ -20,5 +20,5 @@ returns c =
     let bytes = record_bytes (part_head (ignorable id)) in
     let mark = behind (none_yet (replicate 4 0)) (73 ∷ 71 ∷ []) c.put_mark-id_at.ensures in
     let wrote = written (behind mark (number_bytes id) c.put_number.ensures) bytes refl in
-    collects_record c.put_record.ensures.put c.put_record.ensures.same (whole_head (ignorable id))
+    collects_record_in_loan c.put_record.ensures.put c.put_record.ensures.same (whole_head (ignorable id))
     (array_is bytes (replicate 4 0) wrote (omega arith)) refl

@@ -3,7 +3,7 @@ use Rattle.xliff.specs.Parse.{is_part}
 use Rattle.table.specs.Meaning.{item}
 use Rattle.item_records.proofs.ItemSizes.{item_long}
 use Rattle.xml_records.proofs.ArrayLaws.{front_is}
-use Rattle.xml_records.proofs.CollectLaws.{whole_item, collects_record}
+use Rattle.xml_records.proofs.CollectLaws.{whole_item, collects_record_in_loan}
 use native.Mathlib.Omega.{arith}
 use mathlib.Core.Path.{refl, sym}
 use lib.ListN.{replicate}
@@ -28,4 +28,4 @@ unfolding is_part
 returns c =
     let x = c.args.x in
     let wrote = front_is (record_bytes (inline (item x))) (replicate 12 0) c.put_item-wide.ensures in
-    collects_record c.put_record.ensures.put c.put_record.ensures.same (whole_item x) wrote refl
+    collects_record_in_loan c.put_record.ensures.put c.put_record.ensures.same (whole_item x) wrote refl

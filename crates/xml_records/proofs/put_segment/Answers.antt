@@ -4,7 +4,7 @@ use Rattle.xliff.specs.Parse.{is_part}
 use Rattle.table.specs.Meaning.{segment_meaning}
 use Rattle.heads.proofs.HeadLaws.{segment_long}
 use Rattle.xml_records.proofs.ArrayLaws.{array_is}
-use Rattle.xml_records.proofs.CollectLaws.{whole_head, collects_record}
+use Rattle.xml_records.proofs.CollectLaws.{whole_head, collects_record_in_loan}
 use native.Mathlib.Omega.{arith}
 use mathlib.Core.Path.{refl}
 use lib.ListN.{replicate}
@@ -22,4 +22,4 @@ returns c =
     let bytes = head_bytes (segment f) in
     let head = c.put_segment.ensures in
     let wrote = array_is bytes (replicate 6 0) head (omega (arith, segment_long f)) in
-    collects_record c.put_record.ensures.put c.put_record.ensures.same (whole_head (segment f)) wrote refl
+    collects_record_in_loan c.put_record.ensures.put c.put_record.ensures.same (whole_head (segment f)) wrote refl
