@@ -165,6 +165,7 @@ pub collects_both : {builder builder₁ builder₂ : TableBuilder} {rs qs : List
 collects_both {builder₂ = builder₂} {rs = rs} {qs = qs} h k =
     record { on = λ read g. subst (Collected builder₂) (append_assoc read rs qs) (k.on (read ++ rs) (h.on read g)) }
 
+-- and in the same lent array
 pub collects_both_in_loan : {builder builder₁ builder₂ : TableBuilder} {rs qs : List Record}
     → Collects rs builder builder₁ → Collects qs builder₁ builder₂ → Collects (rs ++ qs) builder builder₂
 collects_both_in_loan h k =
